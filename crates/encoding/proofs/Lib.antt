@@ -1,0 +1,8 @@
+-- Laws that belong to no one function. What follows from a parser that came to its end, and the promise at each return of `decode`.
+pub mod Ended
+pub mod Stored
+pub mod Promise
+-- Theorems about the definitions: one decoding only, what a decoded table means, and 01's starred descriptions.
+pub mod Only
+pub mod Listing
+pub mod Starred

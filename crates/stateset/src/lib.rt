@@ -1,0 +1,29 @@
+// Sets of states, a bit for each: state q is in the set where bit q, counted from the least significant, is 1.
+ghost use mathlib.Core.Path.{_≡_};
+ghost use mathlib.Core.Logic.{_⊎_};
+ghost use Prim.Native.Nat.{_<_};
+ghost use Rattle.stateset.specs.Set.{In, Is, Decided};
+
+// The set of all 64 states.
+pub const ALL: u64 = 0xffff_ffff_ffff_ffff;
+
+// Whether a state is in the set.
+pub fn member(set: u64, state: usize) -> bool
+    ensures { λ r. ⌜ Decided r (In state set) ⌝ }
+{
+    if 63 < state {
+        return false;
+    }
+    if set >> state & 1 == 1 {
+        return true;
+    }
+    false
+}
+
+// The set with one state more. (For the crates above, which hold the state's bound; no entry.)
+pub fn with(set: u64, state: usize) -> u64
+    requires { ⌜ state < 64 ⌝ }
+    ensures { λ r. ⌜ Is r (λ q. In q set ⊎ (q ≡ state)) ⌝ }
+{
+    set | 1 << state
+}

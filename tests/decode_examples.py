@@ -1,51 +1,12 @@
-"""Computes the stored output of crates/decode_examples from 01's "Description bytes" and refusal table alone.
+"""Computes the stored output of crates/decode_examples, by the decoder that is written from 01's "Description bytes" alone.
 
     python3 tests/decode_examples.py > crates/decode_examples/stdout
 """
 
-TRUNCATED, RESERVED, STATE, EVENT, TRAILING, MALFORMED = 1, 2, 3, 4, 5, 9
+from examples import P_ENCODING as P, Q_ENCODING as Q
+from logs import Refused, decoded
 
-P = bytes.fromhex("0C 44 00 0A 46 00 02 00 20 82 20 02 08 61 84 30")
-Q = bytes.fromhex("08 22 00 04 48 01 04 10 04")
-
-
-class Refused(Exception):
-    """Carries the number of a refusal."""
-
-
-def description(data):
-    """Initial state, K, secret set, observable set and transitions; fields in layout order, each with its own check after it."""
-    bits = "".join(format(byte, "08b") for byte in data)
-    at = 0
-
-    def field(width):
-        nonlocal at
-        if len(bits) < at + width:
-            raise Refused(TRUNCATED)
-        at += width
-        return int(bits[at - width : at], 2)
-
-    def demand(condition, number):
-        if not condition:
-            raise Refused(number)
-
-    top_state, top_event, k, initial = field(6), field(5), field(4), field(6)
-    demand(initial <= top_state, STATE)
-    count = field(10)
-    demand(field(1) == 0, RESERVED)
-    secret = sum(field(1) << state for state in range(top_state + 1))
-    observable = sum(field(1) << event for event in range(top_event + 1))
-    transitions = []
-    for _ in range(count):
-        source = field(6)
-        demand(source <= top_state, STATE)
-        event = field(5)
-        demand(event <= top_event, EVENT)
-        target = field(6)
-        demand(target <= top_state, STATE)
-        transitions.append((source, event, target))
-    demand(len(bits) - at < 8 and "1" not in bits[at:], TRAILING)
-    return (initial, k, secret, observable), transitions
+MALFORMED = 9
 
 
 def decode(data, table):
@@ -53,13 +14,15 @@ def decode(data, table):
     try:
         if len(table) != 2048:
             raise Refused(MALFORMED)
-        header, transitions = description(data)
+        automaton = decoded(data)
     except Refused as refusal:
         return f"refused {refusal.args[0]}"
     table[:] = [0] * 2048
-    for source, event, target in transitions:
+    for source, event, target in automaton.transitions:
         table[64 * event + source] |= 1 << target
-    return " ".join(map(str, header))
+    secret = sum(1 << state for state in automaton.secret)
+    observable = sum(1 << event for event in automaton.observable)
+    return f"{automaton.initial} {automaton.k} {secret} {observable}"
 
 
 def show(data, table):

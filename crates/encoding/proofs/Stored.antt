@@ -68,7 +68,7 @@ mark-bit t m x l a b = go (ℕ-discrete (wordOf m) (wordOf x))
     go (no n) = rw (other-word m x n, getD-set-other t (wordOf x) (wordOf m) (bitOr (getD t (wordOf x) 0) (2 ^ x .to)) 0 n) (omega arith)
 
 -- every transition of a list starts at a state below 64
-abbrev Small : List Transition → Type 0
+abbrev pub Small : List Transition → Type 0
 Small [] = Unit {0}
 Small (x ∷ xs) = (x .from < 64) × Small xs
 
@@ -131,9 +131,12 @@ zeros word = go (decLt word 2048)
     go (yes l) = getD-replicate {A = ℕ} 2048 word 0 0 l
     go (no l) = List·getD-eq-default (replicate {A = ℕ} 2048 0) 0 {n = word} (rw length-replicate (omega arith))
 
--- THE TABLE LAW, of the transitions that the second pass reads
-pub holds : (bs : List ℕ) (at n : ℕ) → at + n * 17 ≤ length (bitsOf bs) → Holds (transitionsAt (bitsOf bs) at n) (tableOf (transitionsAt (bitsOf bs) at n))
+-- THE TABLE LAW, of any transitions that start at states below 64
+pub holds-all : (ts : List Transition) → Small ts → Holds ts (tableOf ts)
 unfolding tableOf
-holds bs at n h =
-    let ts = transitionsAt (bitsOf bs) at n in
-    record { size = fold-length ts (replicate 2048 0) ∙ length-replicate {A = ℕ} 2048 0; bits = λ t f e. table-bit ts t f e (transitions-small bs at n h); others = λ word o. fold-other ts (replicate 2048 0) word o ∙ zeros word }
+holds-all ts small =
+    record { size = fold-length ts (replicate 2048 0) ∙ length-replicate {A = ℕ} 2048 0; bits = λ t f e. table-bit ts t f e small; others = λ word o. fold-other ts (replicate 2048 0) word o ∙ zeros word }
+
+-- and so of those that the second pass reads
+pub holds : (bs : List ℕ) (at n : ℕ) → at + n * 17 ≤ length (bitsOf bs) → Holds (transitionsAt (bitsOf bs) at n) (tableOf (transitionsAt (bitsOf bs) at n))
+holds bs at n h = holds-all (transitionsAt (bitsOf bs) at n) (transitions-small bs at n h)

@@ -1,0 +1,8 @@
+-- Laws that belong to no one function.
+pub mod Exactness
+pub mod Growing
+pub mod Passing
+pub mod LookBack
+pub mod Judging
+pub mod Storing
+pub mod SecondPoint

@@ -1,0 +1,188 @@
+-- `verifier::weak_verdict` meets its contract. The outer invariant is `SoFar`, for each trace that is remembered. Assumes nothing.
+use mathlib.Core.Path.{_≡_, sym, _∙_}
+use mathlib.Core.List.{List}
+use mathlib.Core.Logic.{⊎-elim}
+use Prim.Native.Nat.{ℕ, _-_, _/_, _^_, _≤_, _<_}
+use native.Mathlib.Omega.{arith}
+use borrow.Author.Needs.{needs}
+use lib.Bits.{bitAnd, and-le-l}
+use lib.Count.{trailingZeros}
+use lib.ListN.{length, take}
+use Rattle.stateset.specs.Set.{In, Is, everything}
+use Rattle.stateset.proofs.Bits.{Taken, taken, in-test, bit-lt}
+use Rattle.automaton.specs.Run.{automatonOf}
+use Rattle.automaton.specs.Notion.{ClearAt}
+use Rattle.automaton.specs.Reaching.{Arrives}
+use Rattle.verifier.specs.declared.Notion.the-variants.{Weak}
+use Rattle.verifier.specs.Inner.{Remembers}
+use Rattle.verifier.proofs.Passing.{Passed, pass-start, pass-turn, pass-end}
+use Rattle.verifier.proofs.LookBack.{SoFar, back-start, back-turn, back-none, back-leak, weak-sure, weak-clear}
+use Rattle.verifier.proofs.weak_verdict.Statement.{statement}
+use Rattle.verifier.proofs.weak_verdict.Tie as tie
+
+abbrev Inv-states : tie.InvT-states
+Inv-states table header silent back secret last events entries then l at estimate possible todo₀ todo = Passed possible secret todo
+
+abbrev μ-states : tie.MeasureT-states
+μ-states table header silent back secret last events entries then l at estimate possible todo₀ todo = todo
+
+abbrev Inv-steps : tie.InvT-steps
+Inv-steps table header silent back secret last events entries then₀ l₀ then l = (l ≤ last) × (last ≤ 15)
+    × ((trace : List ℕ) → Remembers (automatonOf table header) trace last events entries → SoFar Weak (automatonOf table header) secret everything trace l then)
+
+abbrev μ-steps : tie.MeasureT-steps
+μ-steps table header silent back secret last events entries then₀ l₀ then l = last - l
+
+abbrev begin : tie.After-unobservable-reach Inv-states μ-states Inv-steps μ-steps → tie.Start Inv-states μ-states Inv-steps μ-steps
+begin u = u .before .before .before .before .before
+
+abbrev Trace : tie.After-unobservable-reach Inv-states μ-states Inv-steps μ-steps → List ℕ → Type 0
+Trace u trace =
+    Remembers (automatonOf (begin u .args .table .now) (begin u .args .header)) trace (begin u .args .last) (begin u .args .estimator .events) (begin u .args .estimator .entries)
+
+-- the states in which runs can be l steps back
+estimated : (u : tie.After-unobservable-reach Inv-states μ-states Inv-steps μ-steps) (trace : List ℕ) → Trace u trace
+    → Is (u .unobservable-reach .result) (Arrives (automatonOf (begin u .args .table .now) (begin u .args .header)) (take (length trace - u .before .steps .l) trace))
+estimated u trace m =
+    u .unobservable-reach .ensures _ _ (begin u .pre .0 .sound .start) (begin u .pre .1) (m .entries-are (u .before .steps .l) (u .before .steps .inv .0))
+
+-- a digit that is not 0
+one : (q w : ℕ) → (bitAnd (w / 2 ^ q) 1 ≡ 0 → ⊥) → In q w
+one q w n =
+    let m : bitAnd (w / 2 ^ q) 1 ≡ 0 → ⊥ = n in
+    omega (arith, in-test q w, bit-lt q w)
+
+-- the state that a turn of the inner loop visits
+pick : (c : tie.In-states Inv-states μ-states Inv-steps μ-steps)
+    → Taken (c .before .states .todo) (trailingZeros 64 (c .before .states .todo)) (bitAnd (c .before .states .todo) (c .before .states .todo - 1))
+pick c = taken (c .before .states .todo) (omega arith) (c .before .states .inv .small)
+
+-- the state at which the inner loop was left excuses the system
+clear : (c : tie.Else2 Inv-states μ-states Inv-steps μ-steps) (trace : List ℕ) → Trace (c .before .before .before) trace
+    → ClearAt (automatonOf (begin (c .before .before .before) .args .table .now) (begin (c .before .before .before) .args .header)) (begin (c .before .before .before) .args .secret) trace
+    (length trace - c .before .before .before .before .steps .l)
+clear c trace m =
+    let u = c .before .before .before in
+    let a = begin u in
+    let s = u .before .steps in
+    let w = c .before .before .states .todo in
+    let x = s .inv .2 trace m in
+    ⊎-elim
+    (λ w. absurd (omega arith))
+    (λ v.
+    let t = taken w (omega arith) (c .before .before .states .inv .small) in
+    weak-clear _ _ trace (s .l) _ _ (a .pre .0 .sound .start) (estimated u trace m) (x .follows) (trailingZeros 64 w) (c .before .before .states .inv .kept (trailingZeros 64 w) (t .inside))
+    (λ i. omega (arith, in-test (trailingZeros 64 w) (a .args .secret), v .1 .taken)))
+    (c .before .states-test .came)
+
+steps-holds : tie.Need-steps-holds Inv-states μ-states Inv-steps μ-steps
+steps-holds c =
+    let a = c .before .before .before in
+    (omega arith, omega (arith, a .pre .2, a .pre .0 .limits .few, a .pre .0 .sound .back), λ trace m. back-start Weak _ _ _ trace)
+
+cast-at : tie.Need-cast-at Inv-states μ-states Inv-steps μ-steps
+cast-at c = search needs
+
+mul-unobservable-reach : tie.Need-mul-unobservable-reach Inv-states μ-states Inv-steps μ-steps
+mul-unobservable-reach c = omega arith
+
+array-read-unobservable-reach :
+    tie.Need-array-read-unobservable-reach Inv-states μ-states Inv-steps μ-steps
+array-read-unobservable-reach c = omega arith
+
+unobservable-reach-requires :
+    tie.Need-unobservable-reach-requires Inv-states μ-states Inv-steps μ-steps
+unobservable-reach-requires c κs = search needs
+
+states-holds : tie.Need-states-holds Inv-states μ-states Inv-steps μ-steps
+states-holds c = pass-start _ _ (omega (arith, and-le-l (c .unobservable-reach .result) (c .before .steps .then)))
+
+cast-if1 : tie.Need-cast-if1 Inv-states μ-states Inv-steps μ-steps
+cast-if1 c = omega (arith, pick c .small)
+
+shr-if1 : tie.Need-shr-if1 Inv-states μ-states Inv-steps μ-steps
+shr-if1 c = omega (arith, pick c .small)
+
+sub-todo : tie.Need-sub-todo Inv-states μ-states Inv-steps μ-steps
+sub-todo c = omega arith
+
+states-less : tie.Need-states-less Inv-states μ-states Inv-steps μ-steps
+states-less c = pick (c .before) .less
+
+states-again : tie.Need-states-again Inv-states μ-states Inv-steps μ-steps
+states-again c =
+    let q = trailingZeros 64 (c .before .before .states .todo) in
+    pass-turn _ _ _ q _ (pick (c .before)) (one q (begin (c .before .before .before) .args .secret) (c .if1 .left)) (c .before .before .states .inv)
+
+returns : tie.Need-returns Inv-states μ-states Inv-steps μ-steps
+returns c =
+    let u = c .before .before .before in
+    let a = begin u in
+    let s = u .before .steps in
+    record {
+      bounded = s .inv .0;
+      exact = λ trace m.
+          let x = s .inv .2 trace m in
+          back-leak Weak _ _ _ trace _ _ _ (s .inv .0) (m .reached) x
+          (weak-sure _ _ trace (s .l) _ _ (a .pre .0 .sound .start) (estimated u trace m) (x .follows) (λ q h i. pass-end _ _ _ (c .if2 .taken) (c .before .before .states .inv) q i));
+    }
+
+returns-2 : tie.Need-returns-2 Inv-states μ-states Inv-steps μ-steps
+returns-2 c =
+    let s = c .before .before .before .before .before .steps in
+    record {
+      bounded = tt;
+      exact = λ trace m. back-none Weak _ _ _ trace _ _ _ (c .if3 .taken) (s .inv .2 trace m) (clear (c .before) trace m);
+    }
+
+array-read-backward-reach :
+    tie.Need-array-read-backward-reach Inv-states μ-states Inv-steps μ-steps
+array-read-backward-reach c = omega arith
+
+backward-reach-requires : tie.Need-backward-reach-requires Inv-states μ-states Inv-steps μ-steps
+backward-reach-requires c κs =
+    let a = begin (c .before .before .before .before) in
+    (a .pre .0 .sound .words, omega (arith, a .pre .0 .limits .small (c .before .before .before .before .before .steps .l) (omega (arith, a .pre .2))))
+
+add-l : tie.Need-add-l Inv-states μ-states Inv-steps μ-steps
+add-l c = omega arith
+
+steps-less : tie.Need-steps-less Inv-states μ-states Inv-steps μ-steps
+steps-less c = omega arith
+
+steps-again : tie.Need-steps-again Inv-states μ-states Inv-steps μ-steps
+steps-again c =
+    let a = begin (c .before .before .before .before .before) in
+    let s = c .before .before .before .before .before .before .steps in (
+      omega arith,
+      s .inv .1,
+      λ trace m. back-turn Weak _ _ _ trace _ _ _ _ _ _ m (omega arith) (s .inv .2 trace m) (clear (c .before .before) trace m)
+          (λ o F. c .backward-reach .ensures _ o (a .pre .0 .back-are) F),
+    )
+
+pub weak-verdict-spec : {M : Type 1} → statement M
+weak-verdict-spec =
+    tie.close
+    (tie.spec
+    Inv-states
+    μ-states
+    Inv-steps
+    μ-steps
+    steps-holds
+    cast-at
+    mul-unobservable-reach
+    array-read-unobservable-reach
+    unobservable-reach-requires
+    states-holds
+    cast-if1
+    shr-if1
+    sub-todo
+    states-less
+    states-again
+    returns
+    returns-2
+    array-read-backward-reach
+    backward-reach-requires
+    add-l
+    steps-less
+    steps-again)

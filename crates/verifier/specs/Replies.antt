@@ -1,0 +1,50 @@
+-- What a fresh estimator and an offered event give, in the order of 01's refusal table.
+use mathlib.Core.List.{List, [], _∷_, _++_}
+use Prim.Native.Nat.{ℕ, _≤_}
+use Rattle.automaton.specs.Run.{automatonOf, Possible, Impossible, Observable, Sound}
+use Rattle.automaton.specs.Refusals.{numberOf}
+use Rattle.automaton.specs.declared.Header.{Header}
+use Rattle.verifier.specs.Verdicts.{Steps, none, leak, stepsOf, Tells}
+use Rattle.verifier.specs.Estimators.{Limits, Grown}
+use Rattle.verifier.specs.declared.Notion.the-variants.{Weak, Strong}
+use Rattle.verifier.specs.declared.Estimator.{Estimator}
+use Rattle.verifier.specs.declared.Answer.{Answer}
+use Rattle.verifier.specs.declared.Answer.the-variants as answer
+
+-- what an answer says: the number of a refusal, or the steps of the two verdicts
+pub data Said : Type 0 where
+  refused : ℕ → Said
+  verdicts : (weak strong : Steps) → Said
+
+abbrev pub said : Answer → Said
+said (answer.Refused r) = refused (numberOf r)
+said (answer.Accepted v) = verdicts (stepsOf (v .weak)) (stepsOf (v .strong))
+
+-- steps from 0 to K, or none
+abbrev pub Bounded : ℕ → Steps → Type 0
+Bounded K none = Unit {0}
+Bounded K (leak l) = l ≤ K
+
+-- the verdicts after a trace, and the estimator that has grown by it. Some run is compatible with the trace: else a leak would say nothing
+pub record Exact (t : List ℕ) (h : Header) (trace : List ℕ) (v w : Steps) (s : Estimator) : Type 0 where
+  pub possible : Possible (automatonOf t h) trace
+  pub weak : Tells Weak (automatonOf t h) (h .secret) (h .k) trace v
+  pub strong : Tells Strong (automatonOf t h) (h .secret) (h .k) trace w
+  pub grown : Grown (automatonOf t h) (h .k) trace s
+
+-- a fresh estimator. A refused one is outside its limits on every automaton
+pub data Opening (t : List ℕ) (h : Header) : Said → Estimator → Type 0 where
+  malformed : {s : Estimator} → (Sound t h → ⊥) → ((K : ℕ) → K ≤ 15 → Limits K s → ⊥) → Opening t h (refused 9) s
+  opened : {weak strong : Steps} {s : Estimator} → Sound t h → Limits (h .k) s → Exact t h [] weak strong s → Opening t h (verdicts weak strong) s
+
+-- an event offered to an estimator: the answer, and the estimator after it. Of one that is Grown by no trace only the limits are said
+pub data Accepting (t : List ℕ) (h : Header) (self : Estimator) (event : ℕ) : Said → Estimator → Type 0 where
+  malformed : (Sound t h × Limits (h .k) self → ⊥) → Accepting t h self event (refused 9) self
+  not-observable : Sound t h → Limits (h .k) self → (Observable h event → ⊥) → Accepting t h self event (refused 6) self
+  incompatible : Sound t h → Limits (h .k) self → Observable h event
+      → ((trace : List ℕ) → Grown (automatonOf t h) (h .k) trace self → Impossible (automatonOf t h) (trace ++ event ∷ []))
+      → Accepting t h self event (refused 7) self
+  accepted : {weak strong : Steps} {s : Estimator} → Sound t h → Limits (h .k) self → Observable h event
+      → Limits (h .k) s → Bounded (h .k) weak → Bounded (h .k) strong
+      → ((trace : List ℕ) → Grown (automatonOf t h) (h .k) trace self → Exact t h (trace ++ event ∷ []) weak strong s)
+      → Accepting t h self event (verdicts weak strong) s

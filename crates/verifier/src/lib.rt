@@ -1,0 +1,342 @@
+use automaton::Header;
+use automaton::Refusal;
+ghost use mathlib.Core.Path.{_≡_};
+ghost use mathlib.Core.List.{List, [], _∷_, _++_};
+ghost use Prim.Native.Nat.{ℕ, _+_, _≤_, _<_, min};
+ghost use lib.ListN.{length, getD};
+ghost use Rattle.stateset.specs.Set.{Is, Decided};
+ghost use Rattle.automaton.specs.Run.{Automaton, automatonOf, Possible, Sound, Observable};
+ghost use Rattle.automaton.specs.Reaching.{By, Enters};
+ghost use Rattle.automaton.specs.Relation.{Rows};
+ghost use Rattle.verifier.specs.declared.Notion.the-variants as notion;
+ghost use Rattle.verifier.specs.Estimators.{Limits, Grown};
+ghost use Rattle.verifier.specs.Replies.{said, Opening, Accepting};
+ghost use Rattle.verifier.specs.Inner.{Pushed, Next, Prepared, Found, Judged};
+
+// The paper's "none", or "leak" with its steps.
+pub enum Verdict {
+    NoLeak,
+    Leak(u8),
+}
+
+pub enum Notion {
+    Weak,
+    Strong,
+}
+
+pub struct Verdicts {
+    pub weak: Verdict,
+    pub strong: Verdict,
+}
+
+pub enum Answer {
+    Refused(Refusal),
+    Accepted(Verdicts),
+}
+
+// The last events, the newest first, and for each step back the states right after the last event that is left (01: watch).
+pub struct Estimator {
+    pub count: u8,
+    pub events: [u8; 15],
+    pub entries: [u64; 16],
+}
+
+pub struct Reply {
+    pub estimator: Estimator,
+    pub answer: Answer,
+}
+
+// The states right after one more event, if a run is left.
+pub enum NextEstimate {
+    States(u64),
+    Empty,
+}
+
+// Whether the first `count` events are at most 31.
+fn in_range(events: [u8; 15], count: u8) -> bool
+    requires { ⌜ count ≤ 15 ⌝ }
+    ensures { λ r. ⌜ Decided r ((l : ℕ) → l < count → getD events l 0 ≤ 31) ⌝ }
+{
+    let mut l: u8 = 0;
+    while l < count {
+        let e = events[l as usize];
+        if 31 < e {
+            return false;
+        }
+        l += 1;
+    }
+    true
+}
+
+// The first `n` of the new event and the old ones.
+fn push_event(events: [u8; 15], n: u8, event: u8) -> [u8; 15]
+    requires { ⌜ n ≤ 15 ⌝ }
+    ensures { λ r. ⌜ Pushed event events n 15 r ⌝ }
+{
+    let mut r = [0u8; 15];
+    let mut next = event;
+    let mut l: u8 = 0;
+    while l < n {
+        let at = l as usize;
+        r[at] = next;
+        next = events[at];
+        l += 1;
+    }
+    r
+}
+
+// The first `n` of the new entry set and the old ones.
+fn push_entry(entries: [u64; 16], n: u8, entry: u64) -> [u64; 16]
+    requires { ⌜ n ≤ 16 ⌝ }
+    ensures { λ r. ⌜ Pushed entry entries n 16 r ⌝ }
+{
+    let mut r = [0u64; 16];
+    let mut next = entry;
+    let mut l: u8 = 0;
+    while l < n {
+        let at = l as usize;
+        r[at] = next;
+        next = entries[at];
+        l += 1;
+    }
+    r
+}
+
+// One event more to remember, and at most K.
+fn count_after(count: u8, k: u8) -> u8
+    requires { ⌜ (count ≤ k) × (k ≤ 15) ⌝ }
+    ensures { λ r. ⌜ r ≡ min k (count + 1) ⌝ }
+{
+    if count < k {
+        return count + 1;
+    }
+    k
+}
+
+// The states right after one more event, from those right after the event before it.
+fn next_estimate(
+    table: &[u64],
+    header: Header,
+    silent: &[u64; 64],
+    entry: u64,
+    event: u8,
+) -> NextEstimate
+    requires { ⌜ Sound (now table) header × Observable header event × Rows (now silent) (By (automatonOf (now table) header) []) ⌝ }
+    ensures { λ r. ⌜ Next (automatonOf (now (table .entry)) header) entry event r ⌝ }
+{
+    let estimate = automaton::unobservable_reach(silent, entry);
+    let states = automaton::observable_reach(table, header, event, estimate);
+    if states == 0 {
+        return NextEstimate::Empty;
+    }
+    NextEstimate::States(states)
+}
+
+// The least step back at which every possible state is secret. (01: "every moment of count n − l is in a secret state". The possible states l steps
+// back: those in which runs can be there and from which the last l events can follow.)
+fn weak_verdict(
+    estimator: Estimator,
+    table: &[u64],
+    header: Header,
+    silent: &[u64; 64],
+    back: &[u64; 64],
+    secret: u64,
+    last: u8,
+) -> Verdict
+    requires { ⌜ Prepared (now table) header estimator (now back) × Rows (now silent) (By (automatonOf (now table) header) []) × (last ≤ estimator .count) ⌝ }
+    ensures { λ r. ⌜ Found notion.Weak (automatonOf (now (table .entry)) header) secret last estimator r ⌝ }
+{
+    let events = estimator.events;
+    let entries = estimator.entries;
+    let mut then = stateset::ALL;
+    let mut l: u8 = 0;
+    'steps: loop {
+        let at = l as usize;
+        let estimate = automaton::unobservable_reach(silent, entries[at]);
+        let possible = estimate & then;
+        let mut todo = possible;
+        'states: while todo != 0 {
+            let q = u64::trailing_zeros(todo);
+            if secret >> q & 1 == 0 {
+                break 'states;
+            }
+            todo &= todo - 1;
+        }
+        if todo == 0 {
+            return Verdict::Leak(l);
+        }
+        if l == last {
+            return Verdict::NoLeak;
+        }
+        then = automaton::backward_reach(table, header, back, stateset::ALL, events[at], then);
+        l += 1;
+    }
+}
+
+// The least step back from which no run avoids the secret. (01: "every fitting run has a moment of count at least n − l in a secret state".)
+fn strong_verdict(
+    estimator: Estimator,
+    table: &[u64],
+    header: Header,
+    back: &[u64; 64],
+    secret: u64,
+    last: u8,
+) -> Verdict
+    requires { ⌜ Prepared (now table) header estimator (now back) × (last ≤ estimator .count) ⌝ }
+    ensures { λ r. ⌜ Found notion.Strong (automatonOf (now (table .entry)) header) secret last estimator r ⌝ }
+{
+    let events = estimator.events;
+    let entries = estimator.entries;
+    let mut then = !secret;
+    let mut l: u8 = 0;
+    'steps: loop {
+        let at = l as usize;
+        if entries[at] & then == 0 {
+            return Verdict::Leak(l);
+        }
+        if l == last {
+            return Verdict::NoLeak;
+        }
+        then = automaton::backward_reach(table, header, back, !secret, events[at], then);
+        l += 1;
+    }
+}
+
+fn judge(
+    estimator: Estimator,
+    table: &[u64],
+    header: Header,
+    silent: &[u64; 64],
+    back: &[u64; 64],
+) -> Verdicts
+    requires { ⌜ Prepared (now table) header estimator (now back) × Rows (now silent) (By (automatonOf (now table) header) []) ⌝ }
+    ensures { λ r. ⌜ Judged (now (table .entry)) header estimator r ⌝ }
+{
+    let secret = header.secret;
+    let last = estimator.count;
+    let weak = weak_verdict(estimator, table, header, silent, back, secret, last);
+    let strong = strong_verdict(estimator, table, header, back, secret, last);
+    Verdicts {
+        weak: weak,
+        strong: strong,
+    }
+}
+
+impl Estimator {
+    // With no event: the initial state alone.
+    fn initial(state: u8) -> Estimator
+        requires { ⌜ state ≤ 63 ⌝ }
+        ensures { λ r. ⌜ ((p : Automaton) (K : ℕ) → p .initial ≡ state → Grown p K [] r) ⌝ }
+    {
+        let mut entries = [0u64; 16];
+        entries[0] = stateset::with(0, state as usize);
+        Estimator {
+            count: 0,
+            events: [0u8; 15],
+            entries: entries,
+        }
+    }
+
+    // None: outside its limits on every automaton.
+    fn none() -> Estimator
+        ensures { λ r. ⌜ ((K : ℕ) → K ≤ 15 → Limits K r → ⊥) ⌝ }
+    {
+        Estimator {
+            count: 255,
+            events: [0u8; 15],
+            entries: [0u64; 16],
+        }
+    }
+
+    // The table and the header are an automaton, and the estimator is within its limits.
+    pub fn sound(self, table: &[u64], header: Header) -> bool
+        ensures { λ r. ⌜ Decided r (Sound (now (table .entry)) header × Limits (header .k) self) ⌝ }
+    {
+        if !automaton::sound(table, header) {
+            return false;
+        }
+        let events = self.events;
+        let count = self.count;
+        if header.k < count {
+            return false;
+        }
+        in_range(events, count)
+    }
+
+    // With one event more, and the states right after it.
+    fn push(self, k: u8, event: u8, entry: u64) -> Estimator
+        requires { ⌜ (k ≤ 15) × (event ≤ 31) × Limits k self ⌝ }
+        ensures { λ r. ⌜ Limits k r × ((p : Automaton) (trace : List ℕ) → Grown p k trace self → Is entry (Enters p (trace ++ event ∷ []))
+            → Possible p (trace ++ event ∷ []) → Grown p k (trace ++ event ∷ []) r) ⌝ }
+    {
+        let count = count_after(self.count, k);
+        let old_events = self.events;
+        let old_entries = self.entries;
+        let events = push_event(old_events, count, event);
+        let entries = push_entry(old_entries, count + 1, entry);
+        Estimator {
+            count: count,
+            events: events,
+            entries: entries,
+        }
+    }
+
+    // A fresh estimator, with the verdicts of the empty trace.
+    pub fn fresh(table: &[u64], header: Header) -> Reply
+        ensures { λ r. ⌜ Opening (now (table .entry)) header (said (r .answer)) (r .estimator) ⌝ }
+    {
+        if !automaton::sound(table, header) {
+            let estimator = Estimator::none();
+            return Reply {
+                estimator: estimator,
+                answer: Answer::Refused(Refusal::Malformed),
+            };
+        }
+        let estimator = Estimator::initial(header.initial);
+        let silent = automaton::silent_rows(table, header);
+        let back = automaton::silent_back(table, header, &silent);
+        let verdicts = judge(estimator, table, header, &silent, &back);
+        Reply {
+            estimator: estimator,
+            answer: Answer::Accepted(verdicts),
+        }
+    }
+
+    // Accepts one event, or hands back the estimator as it was. (01: "An event on which no run is left is turned back, and the watch stays.")
+    pub fn accept(self, table: &[u64], header: Header, event: u8) -> Reply
+        ensures { λ r. ⌜ Accepting (now (table .entry)) header self event (said (r .answer)) (r .estimator) ⌝ }
+    {
+        if !self.sound(table, header) {
+            return Reply {
+                estimator: self,
+                answer: Answer::Refused(Refusal::Malformed),
+            };
+        }
+        if !automaton::observable(header, event) {
+            return Reply {
+                estimator: self,
+                answer: Answer::Refused(Refusal::NotObservable),
+            };
+        }
+        let silent = automaton::silent_rows(table, header);
+        let NextEstimate::States(entry) = next_estimate(
+            table,
+            header,
+            &silent,
+            self.entries[0],
+            event,
+        ) else {
+            return Reply {
+                estimator: self,
+                answer: Answer::Refused(Refusal::Incompatible),
+            };
+        };
+        let estimator = self.push(header.k, event, entry);
+        let back = automaton::silent_back(table, header, &silent);
+        let verdicts = judge(estimator, table, header, &silent, &back);
+        Reply {
+            estimator: estimator,
+            answer: Answer::Accepted(verdicts),
+        }
+    }
+}

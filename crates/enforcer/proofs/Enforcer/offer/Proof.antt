@@ -1,0 +1,105 @@
+use mathlib.Core.Path.{_≡_, subst, ap, _∙_}
+use Prim.Native.Nat.{ℕ}
+use denote.Ref.{now}
+use Rattle.automaton.specs.Run.{Sound}
+use Rattle.verifier.specs.declared.Answer.{Answer}
+use Rattle.verifier.specs.declared.Verdict.{Verdict}
+use Rattle.verifier.specs.Verdicts.{stepsOf}
+use Rattle.verifier.specs.Replies as verifier
+use Rattle.verifier.specs.Replies.{Accepting}
+use Rattle.enforcer.specs.Enforcers.{Limits}
+use Rattle.enforcer.specs.Inner.{waitOf, chosen, Took}
+use borrow.Author.Tests.{not-true, not-false}
+use Rattle.stateset.proofs.Decides.{holds, fails}
+use Rattle.enforcer.specs.Offerings.{Offering, output-too-small}
+use Rattle.automaton.specs.Refusals.{numberOf}
+use Rattle.enforcer.proofs.Outcomes.{refused-outcome, taken-outcome}
+use borrow.Author.Needs.{needs}
+use Rattle.enforcer.proofs.Enforcer.offer.Statement.{statement}
+use Rattle.enforcer.proofs.Enforcer.offer.Tie as tie
+
+-- past the first test the plan and the Enforcer are sound
+ok : (x : tie.Else1) → Sound (now (x .before .before .before .before .args .table)) (x .before .before .before .before .args .header)
+    × Limits (x .before .before .before .before .args .header .k) (x .before .before .before .before .args .self)
+ok x = holds (x .before .sound .result) (not-false _ (x .if1 .left)) (x .before .sound .ensures)
+
+sound-requires : tie.Need-sound-requires
+sound-requires c κs = search needs
+
+returns : tie.Need-returns
+returns c = Offering.malformed (fails (c .before .sound .result) (not-true _ (c .if1 .taken)) (c .before .sound .ensures))
+
+returns-2 : tie.Need-returns-2
+returns-2 c =
+    let ok = holds (c .before .before .sound .result) (not-false _ (c .before .if1 .left)) (c .before .before .sound .ensures) in
+    output-too-small (ok .0) (ok .1) (c .if2 .taken)
+
+accept-requires : tie.Need-accept-requires
+accept-requires c κs = search needs
+
+enum-known-answer : tie.Need-enum-known-answer
+enum-known-answer c = search needs
+
+enum-known-answer-2 : tie.Need-enum-known-answer-2
+enum-known-answer-2 c = search needs
+
+choose-requires : tie.Need-choose-requires
+choose-requires c κs = search needs
+
+wait-requires : tie.Need-wait-requires
+wait-requires c κs = ok (c .before .before .before .before .before .before .before .before) .0 .back
+
+take-in-requires : tie.Need-take-in-requires
+take-in-requires c κs =
+    let e2 = c .before .before .before .before .before .before .before .before .before in
+    let good = ok (e2 .before) in
+    (good .0 .back, good .1 .few, e2 .if2 .left)
+
+returns-3 : tie.Need-returns-3
+returns-3 c =
+    let e2 = c .before .before .before .before .before in
+    let good = ok (e2 .before) in
+    let a = e2 .before .before .before .before .before .args in
+    let called = c .before .before .before .accept in
+    refused-outcome (now (a .table)) (a .header) (a .self) (a .byte) (now (a .output)) (numberOf (c .before .answer .given .0 .0)) (called .result .estimator)
+    (good .0) (good .1) (e2 .if2 .left)
+    (subst (λ (x : Answer). Accepting (now (a .table)) (a .header) (a .self .estimator) (a .byte) (verifier.said x) (called .result .estimator)) (c .before .answer .given .1) (called .ensures))
+
+same-length : tie.Need-same-length
+same-length c = search needs
+
+returns-4 : tie.Need-returns-4
+returns-4 c =
+    let after-wait = c .before .before .before .before in
+    let after-choose = after-wait .before in
+    let after-answer = after-choose .before .before .before in
+    let after-accept = after-answer .before .before in
+    let e2 = after-accept .before .before in
+    let good = ok (e2 .before) in
+    let a = e2 .before .before .before .before .before .args in
+    let called = after-accept .accept in
+    let taken = c .before .before .take-in in
+    let v = after-answer .answer2 .given .0 .0 in
+    let w : after-wait .wait .result ≡ waitOf (a .header .k) (stepsOf (chosen (a .self .notion) v)) =
+    after-wait .wait .ensures ∙ ap (λ (u : Verdict). waitOf (a .header .k) (stepsOf u)) (after-choose .choose .ensures) in
+    taken-outcome (now (a .table)) (a .header) (a .self) (a .byte) (now (a .output)) v (called .result .estimator) (taken .result .answer) (taken .result .enforcer) (taken .last .1 .1 .1 .1 .1 .0)
+    (good .0) (good .1) (e2 .if2 .left)
+    (subst (λ (x : Answer). Accepting (now (a .table)) (a .header) (a .self .estimator) (a .byte) (verifier.said x) (called .result .estimator)) (after-answer .answer2 .given .1) (called .ensures))
+    (subst (λ (n : ℕ). Took (a .header .k) (a .self) (called .result .estimator) n (a .byte) (now (a .output)) (taken .result .answer) (taken .result .enforcer) (taken .last .1 .1 .1 .1 .1 .0)) w (taken .ensures))
+
+pub offer-spec : {M : Type 1} → statement M
+offer-spec =
+    tie.close
+    (tie.spec
+    sound-requires
+    returns
+    returns-2
+    accept-requires
+    enum-known-answer
+    enum-known-answer-2
+    choose-requires
+    wait-requires
+    take-in-requires
+    returns-3
+    same-length
+    returns-4)

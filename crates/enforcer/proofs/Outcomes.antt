@@ -1,0 +1,56 @@
+-- An offer's outcome, from what the verifier said and what was taken in. Assumes nothing.
+use mathlib.Core.List.{List, [], _∷_, _++_}
+use Prim.Native.Nat.{ℕ, _+_, _≤_}
+use native.Mathlib.Omega.{arith}
+use lib.ListN.{length}
+use Rattle.automaton.specs.Run.{automatonOf, Sound}
+use Rattle.automaton.specs.declared.Header.{Header}
+use Rattle.verifier.specs.declared.Notion.{Notion}
+use Rattle.verifier.specs.declared.Notion.the-variants.{Weak, Strong}
+use Rattle.verifier.specs.declared.Verdicts.{Verdicts}
+use Rattle.verifier.specs.declared.Estimator.{Estimator}
+use Rattle.verifier.specs.Verdicts.{stepsOf, Tells}
+use Rattle.verifier.specs.Replies as verifier
+use Rattle.verifier.specs.Replies.{Accepting}
+use Rattle.enforcer.specs.Enforcers.{Limits, Grown}
+use Rattle.enforcer.specs.Offerings.{refused, said, Offering, Exact, not-observable, incompatible, accepted}
+use Rattle.enforcer.specs.Inner.{waitOf, chosen, Took}
+use Rattle.enforcer.specs.declared.Enforcer.{Enforcer}
+use Rattle.enforcer.specs.declared.OfferAnswer.{OfferAnswer}
+use Rattle.enforcer.specs.declared.OfferAnswer.the-variants as offer
+use Rattle.enforcer.proofs.TakingIn.{grown-next}
+
+pub refused-outcome : (t : List ℕ) (h : Header) (self : Enforcer) (byte : ℕ) (output : List ℕ) (n : ℕ) (s : Estimator)
+    → Sound t h → Limits (h .k) self → 17 ≤ length output → Accepting t h (self .estimator) byte (verifier.refused n) s → Offering t h self byte output (refused n) self output
+refused-outcome t h self byte output n s so li wide (Accepting.malformed bad) = absurd (bad (so, li .estimator))
+refused-outcome t h self byte output n s so li wide (Accepting.not-observable so′ li′ never) = not-observable so li wide never
+refused-outcome t h self byte output n s so li wide (Accepting.incompatible so′ li′ ob none) =
+    incompatible so li wide ob (λ notion trace g. none trace (g .estimator))
+
+-- the verdict by the notion
+pub chosen-tells : (notion : Notion) (t : List ℕ) (h : Header) (trace : List ℕ) (v : Verdicts) (s : Estimator) → verifier.Exact t h trace (stepsOf (v .weak)) (stepsOf (v .strong)) s
+    → Tells notion (automatonOf t h) (h .secret) (h .k) trace (stepsOf (chosen notion v))
+chosen-tells Weak t h trace v s x = x .weak
+chosen-tells Strong t h trace v s x = x .strong
+
+pub taken-outcome : (t : List ℕ) (h : Header) (self : Enforcer) (byte : ℕ) (output : List ℕ) (v : Verdicts) (s : Estimator) (r : OfferAnswer) (after : Enforcer) (left : List ℕ)
+    → Sound t h → Limits (h .k) self → 17 ≤ length output → Accepting t h (self .estimator) byte (verifier.verdicts (stepsOf (v .weak)) (stepsOf (v .strong))) s
+    → Took (h .k) self s (waitOf (h .k) (stepsOf (chosen (self .notion) v))) byte output r after left → Offering t h self byte output (said r) after left
+taken-outcome t h self byte output v s (offer.Refused r) after left so li wide acc took = absurd took
+taken-outcome t h self byte output v s (offer.Released f) after left so li wide (Accepting.accepted so′ li′ ob ls bw bs exact) took =
+    let enough = took .moved .ready .enough in
+    let bal = took .moved .balance in
+    let limits : Limits (h .k) after = record {
+      estimator = rw (took .estimator-is) ls;
+      few = omega arith;
+      small = took .small (omega (arith, ob .event-small)) (li .small);
+    } in
+    accepted so li wide ob limits (took .moved .balance) (took .front) (took .moved .rest)
+    (λ notion trace g.
+    let x = exact trace (g .estimator) in
+    let tells : Tells notion (automatonOf t h) (h .secret) (h .k) (trace ++ byte ∷ []) (stepsOf (chosen (self .notion) v)) =
+    rw (g .under) (chosen-tells notion t h (trace ++ byte ∷ []) v s x) in
+    record {
+      possible = x .possible;
+      grown = grown-next notion (automatonOf t h) (h .secret) (h .k) trace self s (stepsOf (chosen (self .notion) v)) byte output f after left g tells took (x .possible) (x .grown) limits;
+    })

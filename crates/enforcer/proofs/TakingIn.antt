@@ -1,0 +1,143 @@
+-- What one more event makes of an enforcer. Assumes nothing.
+use mathlib.Core.Path.{_≡_, refl, ap, sym, _∙_, subst}
+use mathlib.Core.List.{List, [], _∷_, _++_}
+use mathlib.Core.Logic.{_⊎_, inl, inr}
+use Prim.Native.Nat.{ℕ, zero, _+_, _≤_, _<_, _-_}
+use native.Mathlib.Omega.{arith}
+use native.Mathlib.Decide.{decLt, decLe}
+use lib.ListN.{length, getD, take, drop, length-append, length-drop, List·getD-append}
+use lib.Seq.{length-take-le, take-append-le, take-take, take-all, ext-getD, getD-take, getD-drop, getD-at}
+use mathlib.Core.Bool.{Bool}
+use Rattle.stateset.specs.Set.{Decided}
+use Rattle.stateset.proofs.Decides.{decided-as}
+use Rattle.automaton.specs.Run.{Automaton, Possible, Sound}
+use Rattle.automaton.specs.declared.Header.{Header}
+use Rattle.verifier.specs.declared.Notion.{Notion}
+use Rattle.verifier.specs.declared.Estimator.{Estimator}
+use Rattle.verifier.specs.Verdicts.{Steps, Tells}
+use Rattle.verifier.specs.Estimators as estimators
+use Rattle.enforcer.specs.SafePrefix.{Safe}
+use Rattle.enforcer.specs.Enforcers.{Limits, pendingOf, Padded, Grown}
+use Rattle.enforcer.specs.Inner.{waitOf, Ready, TookIn}
+use Rattle.enforcer.specs.declared.Enforcer.{Enforcer}
+use Rattle.enforcer.proofs.SafeLaws.{safe-laws, safe-wait, wait-safe}
+use Rattle.enforcer.proofs.Queueing.{queue-next}
+
+-- the pending events and one more are the front of the array that they were joined in
+joined-list : (pending events : List ℕ) (count byte : ℕ) → count ≤ length pending → count < length events
+    → ((i : ℕ) → i < count → getD events i 0 ≡ getD pending i 0) → getD events count 0 ≡ byte
+    → take count pending ++ byte ∷ [] ≡ take (count + 1) events
+joined-list pending events count byte room wide same last =
+    let a : length (take count pending) ≡ count = length-take-le count pending room in
+    let b : length (take (count + 1) events) ≡ count + 1 = length-take-le (count + 1) events (omega arith) in
+    let d : length (take count pending ++ byte ∷ []) ≡ count + 1 = length-append (take count pending) (byte ∷ []) ∙ omega arith in
+    ext-getD 0 (take count pending ++ byte ∷ []) (take (count + 1) events) (omega arith)
+    (λ i h. elim (decLt i count) [
+      | yes less ↦ List·getD-append (take count pending) (byte ∷ []) 0 i (omega arith) ∙ getD-take count pending i 0 less ∙ sym (same i less)
+          ∙ sym (getD-take (count + 1) events i 0 (omega arith))
+      | no more ↦
+          let e : i ≡ count = omega arith in
+          getD-at (take count pending) byte [] 0 i (omega arith) ∙ sym last ∙ ap (λ (k : ℕ). getD events k 0) (sym e) ∙ sym (getD-take (count + 1) events i 0 (omega arith))
+    ])
+
+-- what is copied down from an array is what follows its first f
+rest-list : (events after : List ℕ) (f n : ℕ) → f ≤ n → n ≤ length events → n - f ≤ length after
+    → ((i : ℕ) → i < n - f → getD after i 0 ≡ getD events (f + i) 0) → take (n - f) after ≡ drop f (take n events)
+rest-list events after f n le wide room same =
+    let a : length (take (n - f) after) ≡ n - f = length-take-le (n - f) after room in
+    let b : length (drop f (take n events)) ≡ n - f = length-drop f (take n events) ∙ ap (λ (k : ℕ). k - f) (length-take-le n events wide) in
+    ext-getD 0 (take (n - f) after) (drop f (take n events)) (omega arith)
+    (λ i h. getD-take (n - f) after i 0 (omega arith) ∙ same i (omega arith) ∙ sym (getD-drop f (take n events) i 0 ∙ getD-take n events (f + i) 0 (omega arith)))
+
+pub took-in : (K : ℕ) (self : Enforcer) (estimator : Estimator) (w byte : ℕ) (output : List ℕ) (f : ℕ) (events soon pending waits left : List ℕ)
+    → length (self .pending) ≡ 16 → length events ≡ 17 → Padded 16 (self .count + 1 - f) pending → Padded 16 (self .count + 1 - f) waits → K ≤ 15 → self .count ≤ K + 1
+    → ((i : ℕ) → i < self .count → getD events i 0 ≡ getD (self .pending) i 0) → getD events (self .count) 0 ≡ byte
+    → ((i : ℕ) → i < self .count → getD soon i 0 ≡ getD (self .waits) i 0 - 1) → getD soon (self .count) 0 ≡ w
+    → Ready K (self .count) soon f
+    → left ≡ take f events ++ drop f output
+    → ((i : ℕ) → i < self .count + 1 - f → getD pending i 0 ≡ getD events (f + i) 0)
+    → ((i : ℕ) → i < self .count + 1 - f → getD waits i 0 ≡ getD soon (f + i) 0)
+    → TookIn K self estimator w byte output f (record { estimator = estimator; notion = self .notion; count = self .count + 1 - f; pending = pending; waits = waits }) left
+took-in K self estimator w byte output f events soon pending waits left l16 l17 padded padded′ k15 few same last older newer ready poured down later =
+    let e : pendingOf self ++ byte ∷ [] ≡ take (self .count + 1) events = joined-list (self .pending) events (self .count) byte (omega arith) (omega arith) same last in
+    let some = ready .some in
+    let h16 = padded .size-is in
+    record {
+      estimator-is = refl;
+      notion-is = refl;
+      pending-padded = padded;
+      waits-padded = padded′;
+      front = poured ∙ ap (λ (l : List ℕ). l ++ drop f output) (sym (ap (take f) e ∙ take-take f (self .count + 1) events some));
+      small = λ event old i h.
+          let d = down i h in
+          elim (decLt (f + i) (self .count)) [
+            | yes less ↦ omega (arith, same (f + i) less, old (f + i) less)
+            | no more ↦
+                let e : f + i ≡ self .count = omega arith in
+                omega (arith, ap (λ (k : ℕ). getD events k 0) e, last)
+          ];
+      moved = record {
+        balance = omega arith;
+        rest = rest-list events pending f (self .count + 1) some (omega arith) (omega arith) down ∙ ap (drop f) (sym e);
+        soon = soon;
+        soon-old = older;
+        soon-new = newer;
+        later = later;
+        ready = ready;
+      };
+    }
+
+module _ (notion : Notion) (p : Automaton) (secret K : ℕ) (acc : List ℕ) (self : Enforcer) (estimator : Estimator) (v : Steps) (byte : ℕ) (output : List ℕ) (f : ℕ) (after : Enforcer) (left : List ℕ)
+    (g : Grown notion p secret K acc self) (tells : Tells notion p secret K (acc ++ byte ∷ []) v)
+    (took : TookIn K self estimator (waitOf K v) byte output f after left) where
+  len : length (acc ++ byte ∷ []) ≡ length acc + 1
+  len = length-append acc (byte ∷ [])
+
+  told-next : (k : ℕ) → k ≤ length (acc ++ byte ∷ []) → (u : Steps) × Tells notion p secret K (take k (acc ++ byte ∷ [])) u
+  told-next k h = go (decLe k (length acc))
+    where
+      go : Dec (k ≤ length acc) → (u : Steps) × Tells notion p secret K (take k (acc ++ byte ∷ [])) u
+      go (yes d) =
+          let x = g .told k d in
+          (x .0, subst (λ (l : List ℕ). Tells notion p secret K l (x .0)) (sym (take-append-le k acc (byte ∷ []) d)) (x .1))
+      go (no d) = (v, subst (λ (l : List ℕ). Tells notion p secret K l v) (sym (take-all k (acc ++ byte ∷ []) (omega (arith, len)))) tells)
+
+  pub grown-next : Possible p (acc ++ byte ∷ []) → estimators.Grown p K (acc ++ byte ∷ []) estimator → Limits K after → Grown notion p secret K (acc ++ byte ∷ []) after
+  grown-next seen ge la =
+      record {
+        limits = la;
+        possible = seen;
+        pending-padded = took .pending-padded;
+        waits-padded = took .waits-padded;
+        estimator = rw (took .estimator-is) ge;
+        under = took .notion-is ∙ g .under;
+        told = λ k h. told-next k h;
+        queue = queue-next K (Safe notion p secret K) (safe-laws notion p secret K) acc (self .count) (self .pending) (self .waits) (waitOf K v) byte f
+            (after .count) (after .pending) (after .waits) (g .queue)
+            (λ m.
+            let l = len in (
+              λ safe. omega (arith, wait-safe notion p secret K (acc ++ byte ∷ []) v tells (length acc + 1 + m) (omega arith) safe),
+              λ low. safe-wait notion p secret K (acc ++ byte ∷ []) v tells (length acc + 1 + m) (omega arith) (omega arith),
+            ))
+            (took .moved);
+      }
+
+-- an enforcer that is full releases its first event
+pub ready-one : (K count : ℕ) (soon : List ℕ) → K < count → count ≤ K + 1 → (getD soon 0 0 ≡ 0 → ⊥) → Ready K count soon 1
+ready-one K count soon full few waits = record {
+  some = omega arith;
+  enough = omega arith;
+  over = λ c i h. absurd (never c);
+  next = λ c more zero. never c;
+}
+  where
+    never : (count ≤ K) ⊎ (getD soon 0 0 ≡ 0) → ⊥
+    never (inl low) = omega arith
+    never (inr z) = waits z
+
+-- once the other limits hold, the pending events decide
+pub pending-decide : (t : List ℕ) (h : Header) (s : Enforcer) (b : Bool) → Sound t h → estimators.Limits (h .k) (s .estimator) → s .count ≤ h .k + 1
+    → Decided b ((i : ℕ) → i < s .count → getD (s .pending) i 0 ≤ 31) → Decided b (Sound t h × Limits (h .k) s)
+pending-decide t h s b sound li few d =
+    decided-as {A = (i : ℕ) → i < s .count → getD (s .pending) i 0 ≤ 31} {B = Sound t h × Limits (h .k) s} b
+    (λ all. (sound, record { estimator = li; few = few; small = all })) (λ both. both .1 .small) d

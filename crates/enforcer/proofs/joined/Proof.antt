@@ -1,0 +1,55 @@
+use mathlib.Core.Path.{_≡_, refl}
+use Prim.Native.Nat.{ℕ, _≤_, _<_, _-_}
+use native.Mathlib.Omega.{arith}
+use borrow.Author.Needs.{needs}
+use lib.ListN.{length, getD}
+use lib.Seq.{getD-set-same}
+use Rattle.enforcer.proofs.Arrays.{filled-more, filled-kept}
+use Rattle.enforcer.proofs.joined.Statement.{statement}
+use Rattle.enforcer.proofs.joined.Tie as tie
+
+abbrev Inv-loop : tie.InvT-loop
+Inv-loop count byte pending r₀ n i₀ r i = (i ≤ n) × (n ≡ count) × (length r ≡ 17) × ((k : ℕ) → k < i → getD r k 0 ≡ getD pending k 0)
+
+abbrev μ-loop : tie.MeasureT-loop
+μ-loop count byte pending r₀ n i₀ r i = n - i
+
+loop-holds : tie.Need-loop-holds Inv-loop μ-loop
+loop-holds c = (omega arith, refl, refl, λ k h. absurd (omega arith))
+
+array-read-r : tie.Need-array-read-r Inv-loop μ-loop
+array-read-r c = search needs
+
+array-write-r : tie.Need-array-write-r Inv-loop μ-loop
+array-write-r c = search needs
+
+add-i : tie.Need-add-i Inv-loop μ-loop
+add-i c = search needs
+
+loop-less : tie.Need-loop-less Inv-loop μ-loop
+loop-less c = search needs
+
+loop-again : tie.Need-loop-again Inv-loop μ-loop
+loop-again c =
+    let l = c .before .loop in (
+      omega arith,
+      search needs,
+      search needs,
+      filled-more (λ k. getD (c .before .before .args .t1) k 0) (l .r) (l .i) _ (search needs) refl (l .inv .3),
+    )
+
+array-write-r-2 : tie.Need-array-write-r-2 Inv-loop μ-loop
+array-write-r-2 c = search needs
+
+returns : tie.Need-returns Inv-loop μ-loop
+returns c =
+    let l = c .before .loop in
+    let a = c .before .before .args in (
+      search needs,
+      filled-kept (λ k. getD (a .t1) k 0) (l .r) (a .count) _ (λ k h. l .inv .3 k (omega arith)),
+      getD-set-same (l .r) (a .count) _ 0 (search needs),
+    )
+
+pub joined-spec : {M : Type 1} → statement M
+joined-spec =
+    tie.close (tie.spec Inv-loop μ-loop loop-holds array-read-r array-write-r add-i loop-less loop-again array-write-r-2 returns)

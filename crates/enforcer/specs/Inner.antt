@@ -1,0 +1,58 @@
+-- What the functions inside the crate promise one another.
+use mathlib.Core.Path.{_≡_}
+use mathlib.Core.List.{List, [], _∷_, _++_}
+use mathlib.Core.Logic.{_⊎_}
+use Prim.Native.Nat.{ℕ, _+_, _-_, _≤_, _<_}
+use lib.ListN.{getD, take, drop}
+use Rattle.verifier.specs.declared.Notion.{Notion}
+use Rattle.verifier.specs.declared.Notion.the-variants.{Weak, Strong}
+use Rattle.verifier.specs.declared.Verdict.{Verdict}
+use Rattle.verifier.specs.declared.Verdicts.{Verdicts}
+use Rattle.verifier.specs.declared.Estimator.{Estimator}
+use Rattle.verifier.specs.Verdicts.{Steps, none, leak}
+use Rattle.enforcer.specs.Enforcers.{pendingOf, Padded}
+use Rattle.enforcer.specs.declared.Enforcer.{Enforcer}
+use Rattle.enforcer.specs.declared.OfferAnswer.{OfferAnswer}
+use Rattle.enforcer.specs.declared.OfferAnswer.the-variants.{Refused, Released}
+
+-- how many further events make a trace with this verdict safe
+abbrev pub waitOf : ℕ → Steps → ℕ
+waitOf K none = 0
+waitOf K (leak l) = K + 1 - l
+
+-- the verdict by the notion
+abbrev pub chosen : Notion → Verdicts → Verdict
+chosen Weak v = v .weak
+chosen Strong v = v .strong
+
+-- how many of the events go, by the waits that are left. (An enforcer that is full, and whose first event still waits, did not grow from a fresh one)
+pub record Ready (K count : ℕ) (soon : List ℕ) (f : ℕ) : Type 0 where
+  pub some : f ≤ count + 1
+  pub enough : count + 1 ≤ f + (K + 1)
+  pub over : (count ≤ K) ⊎ (getD soon 0 0 ≡ 0) → (i : ℕ) → i < f → getD soon i 0 ≡ 0
+  pub next : (count ≤ K) ⊎ (getD soon 0 0 ≡ 0) → f < count + 1 → getD soon f 0 ≡ 0 → ⊥
+
+-- a queue after one more event with the wait w, of which the first f events go
+pub record Moved (K count : ℕ) (pending waits : List ℕ) (w byte f count′ : ℕ) (pending′ waits′ : List ℕ) : Type 0 where
+  pub balance : f + count′ ≡ count + 1
+  pub rest : take count′ pending′ ≡ drop f (take count pending ++ byte ∷ [])
+  -- the waits, each one less, and the new one
+  pub soon : List ℕ
+  pub soon-old : (i : ℕ) → i < count → getD soon i 0 ≡ getD waits i 0 - 1
+  pub soon-new : getD soon count 0 ≡ w
+  pub later : (i : ℕ) → i < count′ → getD waits′ i 0 ≡ getD soon (f + i) 0
+  pub ready : Ready K count soon f
+
+-- the enforcer after it
+pub record TookIn (K : ℕ) (self : Enforcer) (estimator : Estimator) (w byte : ℕ) (output : List ℕ) (f : ℕ) (after : Enforcer) (left : List ℕ) : Type 0 where
+  pub estimator-is : after .estimator ≡ estimator
+  pub notion-is : after .notion ≡ self .notion
+  pub moved : Moved K (self .count) (self .pending) (self .waits) w byte f (after .count) (after .pending) (after .waits)
+  pub front : left ≡ take f (pendingOf self ++ byte ∷ []) ++ drop f output
+  pub pending-padded : Padded 16 (after .count) (after .pending)
+  pub waits-padded : Padded 16 (after .count) (after .waits)
+  pub small : byte ≤ 31 → ((i : ℕ) → i < self .count → getD (self .pending) i 0 ≤ 31) → (i : ℕ) → i < after .count → getD (after .pending) i 0 ≤ 31
+
+abbrev pub Took : (K : ℕ) (self : Enforcer) (estimator : Estimator) (w byte : ℕ) (output : List ℕ) → OfferAnswer → Enforcer → List ℕ → Type 0
+Took K self estimator w byte output (Refused r) after left = ⊥
+Took K self estimator w byte output (Released f) after left = TookIn K self estimator w byte output f after left

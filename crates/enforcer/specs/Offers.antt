@@ -1,0 +1,101 @@
+-- The mission's third point: an enforcer that a start has handed back and a list of offers, refused ones among them.
+use mathlib.Core.Path.{_≡_}
+use mathlib.Core.List.{List, [], _∷_, _++_}
+use Prim.Native.Nat.{ℕ, suc, _+_, _≤_, _<_}
+use lib.ListN.{length, take}
+use Rattle.automaton.specs.Run.{automatonOf, Possible, Impossible, Observable}
+use Rattle.automaton.specs.declared.Header.{Header}
+use Rattle.verifier.specs.declared.Notion.{Notion}
+use Rattle.published.specs.Source.{SafeToOutput}
+use Rattle.enforcer.specs.SafePrefix.{Safe, Shown, Unsafe}
+use Rattle.enforcer.specs.Enforcers.{Grown}
+use Rattle.enforcer.specs.Offerings.{Said, refused, released, Offering}
+use Rattle.enforcer.specs.declared.Enforcer.{Enforcer}
+
+-- one offer of a list: the byte and the output that were passed, what was answered, and the output as the offer left it
+pub record Offer : Type 0 where
+  pub byte : ℕ
+  pub output : List ℕ
+  pub says : Said
+  pub left : List ℕ
+
+-- calls, one after another, each on the state that the one before it handed back
+pub data Chain {State : Type 0} (Step : State → Offer → State → Type 0) : State → List Offer → State → Type 0 where
+  done : {s : State} → Chain Step s [] s
+  next : {s m e : State} {o : Offer} {os : List Offer} → Step s o m → Chain Step m os e → Chain Step s (o ∷ os) e
+
+-- the offers to an enforcer, by the contract of `offer`
+abbrev pub Offered : List ℕ → Header → Enforcer → Offer → Enforcer → Type 0
+Offered t h s o m = Offering t h s (o .byte) (o .output) (o .says) m (o .left)
+
+abbrev pub Offers : List ℕ → Header → Enforcer → List Offer → Enforcer → Type 0
+Offers t h s os e = Chain (Offered t h) s os e
+
+abbrev pub takenBy : Said → ℕ → List ℕ
+takenBy (refused n) b = []
+takenBy (released f) b = b ∷ []
+
+-- the bytes whose offers were not refused
+abbrev pub acceptedOf : List Offer → List ℕ
+acceptedOf [] = []
+acceptedOf (o ∷ os) = takenBy (o .says) (o .byte) ++ acceptedOf os
+
+abbrev pub countBy : Said → ℕ
+countBy (refused n) = 0
+countBy (released f) = f
+
+-- the sum of the released counts
+abbrev pub releasedCount : List Offer → ℕ
+releasedCount [] = 0
+releasedCount (o ∷ os) = countBy (o .says) + releasedCount os
+
+-- the events released: the front of each accepting offer's output, joined
+abbrev pub releasedOf : List Offer → List ℕ
+releasedOf [] = []
+releasedOf (o ∷ os) = take (countBy (o .says)) (o .left) ++ releasedOf os
+
+-- the refusal table turns a byte back, with this number, after these accepted events
+pub data TurnedBack (t : List ℕ) (h : Header) (trace : List ℕ) (byte : ℕ) (output : List ℕ) : ℕ → Type 0 where
+  output-too-small : length output < 17 → TurnedBack t h trace byte output 10
+  not-observable : 17 ≤ length output → (Observable h byte → ⊥) → TurnedBack t h trace byte output 6
+  incompatible : 17 ≤ length output → Observable h byte → Impossible (automatonOf t h) (trace ++ byte ∷ []) → TurnedBack t h trace byte output 7
+
+-- it does not
+pub record LetThrough (t : List ℕ) (h : Header) (trace : List ℕ) (byte : ℕ) (output : List ℕ) : Type 0 where
+  pub room : 17 ≤ length output
+  pub observable : Observable h byte
+  pub possible : Possible (automatonOf t h) (trace ++ byte ∷ [])
+
+abbrev pub ByTable : List ℕ → Header → List ℕ → Offer → Said → Type 0
+ByTable t h trace o (refused n) = TurnedBack t h trace (o .byte) (o .output) n
+ByTable t h trace o (released f) = LetThrough t h trace (o .byte) (o .output)
+
+-- each offer of the list, judged with the bytes accepted before it
+pub data Each (Judged : List ℕ → Offer → Type 0) : List ℕ → List Offer → Type 0 where
+  end : {trace : List ℕ} → Each Judged trace []
+  more : {trace : List ℕ} {o : Offer} {os : List Offer} → Judged trace o → Each Judged (trace ++ takenBy (o .says) (o .byte)) os → Each Judged trace (o ∷ os)
+
+-- the mission's third point, after the offers
+pub record Promise (notion : Notion) (t : List ℕ) (h : Header) (os : List Offer) (e : Enforcer) : Type 0 where
+  -- the accepted events are exactly the offered bytes that the refusal table does not turn back; the others got the number that the table gives
+  pub accepted : Each (λ trace o. ByTable t h trace o (o .says)) [] os
+  -- the events released so far are a prefix of the accepted ones, in their order
+  pub prefix : releasedOf os ≡ take (releasedCount os) (acceptedOf os)
+  -- nobody who reads only the released events can be sure of a secret state at most K accepted events back: in 01's words, and by shown runs
+  pub safe : Safe notion (automatonOf t h) (h .secret) (h .k) (releasedOf os) (length (acceptedOf os))
+  pub shown : Shown notion (automatonOf t h) (h .secret) (h .k) (releasedOf os) (length (acceptedOf os))
+  -- every longer prefix would have made somebody sure: it is not safe in 01's words, and somebody is sure
+  pub longest : (r : ℕ) → releasedCount os < r → r ≤ length (acceptedOf os)
+      → Safe notion (automatonOf t h) (h .secret) (h .k) (take r (acceptedOf os)) (length (acceptedOf os)) → ⊥
+  pub unsafe : (r : ℕ) → releasedCount os < r → r ≤ length (acceptedOf os)
+      → Unsafe notion (automatonOf t h) (h .secret) (h .k) (take r (acceptedOf os)) (length (acceptedOf os))
+  -- the same by source 000's Definition 12: the released events are safe to output, and no longer prefix is
+  pub published : SafeToOutput notion (automatonOf t h) (h .secret) (h .k) (acceptedOf os) (releasedOf os)
+  pub published-longest : (r : ℕ) → releasedCount os < r → r ≤ length (acceptedOf os)
+      → SafeToOutput notion (automatonOf t h) (h .secret) (h .k) (acceptedOf os) (take r (acceptedOf os)) → ⊥
+  -- each accepted event is released by the time K + 1 more are accepted
+  pub in-time : (i : ℕ) → suc i + (h .k + 1) ≤ length (acceptedOf os) → i < releasedCount os
+  -- accepted = released + pending
+  pub balance : length (acceptedOf os) ≡ releasedCount os + e .count
+  -- and the enforcer is the one of the accepted events
+  pub grown : Grown notion (automatonOf t h) (h .secret) (h .k) (acceptedOf os) e

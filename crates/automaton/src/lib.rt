@@ -56,6 +56,24 @@ pub fn observable(header: Header, byte: u8) -> bool
     stateset::member(header.observable as u64, byte as usize)
 }
 
+// Whether the first `count` bytes are numbers of events, at most 31. (Bytes that the slice does not have count as 0.)
+pub fn in_range(bytes: &[u8], count: u8) -> bool
+    ensures { λ r. ⌜ Decided r ((i : ℕ) → i < count → getD (now (bytes .entry)) i 0 ≤ 31) ⌝ }
+{
+    let n = count as usize;
+    let mut i: usize = 0;
+    while i < n {
+        if bytes.len() <= i {
+            return true;
+        }
+        if 31 < bytes[i] {
+            return false;
+        }
+        i += 1;
+    }
+    true
+}
+
 // Whether the table and the header are an automaton.
 pub fn sound(table: &[u64], header: Header) -> bool
     ensures { λ r. ⌜ Decided r (Sound (now (table .entry)) header) ⌝ }

@@ -46,22 +46,6 @@ pub struct Given {
     pub answer: OfferAnswer,
 }
 
-// Whether the first `count` events are at most 31.
-fn in_range(pending: [u8; 16], count: u8) -> bool
-    requires { ⌜ count ≤ 16 ⌝ }
-    ensures { λ r. ⌜ Decided r ((i : ℕ) → i < count → getD pending i 0 ≤ 31) ⌝ }
-{
-    let mut i: u8 = 0;
-    while i < count {
-        let e = pending[i as usize];
-        if 31 < e {
-            return false;
-        }
-        i += 1;
-    }
-    true
-}
-
 // The verdict by the notion.
 fn choose(notion: Notion, verdicts: Verdicts) -> Verdict
     ensures { λ r. ⌜ r ≡ chosen notion verdicts ⌝ }
@@ -243,7 +227,7 @@ impl Enforcer {
         if k + 1 < count {
             return false;
         }
-        in_range(pending, count)
+        automaton::in_range(&pending, count)
     }
 
     // The event that was accepted is put behind the pending ones, and what is safe is released.

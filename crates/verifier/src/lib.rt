@@ -52,22 +52,6 @@ pub enum NextEstimate {
     Empty,
 }
 
-// Whether the first `count` events are at most 31.
-fn in_range(events: [u8; 15], count: u8) -> bool
-    requires { ⌜ count ≤ 15 ⌝ }
-    ensures { λ r. ⌜ Decided r ((l : ℕ) → l < count → getD events l 0 ≤ 31) ⌝ }
-{
-    let mut l: u8 = 0;
-    while l < count {
-        let e = events[l as usize];
-        if 31 < e {
-            return false;
-        }
-        l += 1;
-    }
-    true
-}
-
 // The first `n` of the new event and the old ones.
 fn push_event(events: [u8; 15], n: u8, event: u8) -> [u8; 15]
     requires { ⌜ n ≤ 15 ⌝ }
@@ -260,7 +244,7 @@ impl Estimator {
         if header.k < count {
             return false;
         }
-        in_range(events, count)
+        automaton::in_range(&events, count)
     }
 
     // With one event more, and the states right after it.

@@ -1,3 +1,4 @@
+-- `enforcer::Enforcer::sound` meets its contract: each test decides one of the limits.
 use denote.Ref.{now}
 use native.Mathlib.Omega.{arith}
 use borrow.Author.Tests.{not-true, not-false}
@@ -26,14 +27,17 @@ add-if2 c = omega (arith, ok c .0 .back)
 returns-2 : tie.Need-returns-2
 returns-2 c = λ both. omega (arith, both .1 .few, c .if2 .taken)
 
+slice-aggregate-in-range : tie.Need-slice-aggregate-in-range
+slice-aggregate-in-range c = search needs
+
 in-range-requires : tie.Need-in-range-requires
-in-range-requires c κs = omega (arith, ok (c .before) .0 .back, c .if2 .left)
+in-range-requires c κs = search needs
 
 returns-3 : tie.Need-returns-3
 returns-3 c =
-    let o = ok (c .before .before) in
-    let a = c .before .before .before .before .before .before .before .args in
-    pending-decide (now (a .table)) (a .header) (a .self) (c .in-range .result) (o .0) (o .1) (omega (arith, c .before .if2 .left)) (c .in-range .ensures)
+    let o = ok (c .before .before .before) in
+    let a = c .before .before .before .before .before .before .before .before .args in
+    pending-decide (now (a .table)) (a .header) (a .self) (c .in-range .result) (o .0) (o .1) (omega (arith, c .before .before .if2 .left)) (c .in-range .ensures)
 
 pub sound-spec : {M : Type 1} → statement M
-sound-spec = tie.close (tie.spec sound-requires returns add-if2 returns-2 in-range-requires returns-3)
+sound-spec = tie.close (tie.spec sound-requires returns add-if2 returns-2 slice-aggregate-in-range in-range-requires returns-3)

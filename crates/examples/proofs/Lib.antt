@@ -1,0 +1,10 @@
+-- Every row of the table holds: EveryRow, every-row-holds.
+pub mod Booleans
+pub mod Checks
+pub mod Search
+pub mod Marks
+pub mod SearchLaws
+pub mod TableLaw
+pub mod NotionLaws
+pub mod NotionChecks
+pub mod EveryRow

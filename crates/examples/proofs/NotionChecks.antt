@@ -1,0 +1,98 @@
+-- Checks of verdicts and safe prefixes, each for every table that holds the listed transitions. Assumes nothing.
+use mathlib.Core.Bool.{Bool, true, false}
+use mathlib.Core.List.{List, []}
+use mathlib.Core.Logic.{inl, inr, ⊎-elim}
+use Prim.Native.Nat.{ℕ, suc, _+_, _-_, _≤_}
+use native.Mathlib.Omega.{arith}
+use lib.Dec.{T}
+use lib.ListN.{length, take}
+use Rattle.automaton.specs.Run.{Automaton, automatonOf, shows, Possible, Impossible}
+use Rattle.automaton.specs.Notion.{SureAt, ClearFrom}
+use Rattle.automaton.specs.declared.Header.{Header}
+use Rattle.encoding.specs.Transitions.{Transition}
+use Rattle.verifier.specs.declared.Notion.{Notion}
+use Rattle.verifier.specs.declared.Notion.the-variants.{Weak, Strong}
+use Rattle.verifier.specs.Verdicts.{Steps, none, leak, Sure, Clear, Tells}
+use Rattle.enforcer.specs.SafePrefix.{Excused, Safe, Shown, Unsafe}
+use Rattle.enforcer.specs.Queues.{Longest}
+use Rattle.enforcer.proofs.SafeLaws.{shown-safe, unsafe-not-safe}
+use Rattle.examples.specs.Meaning.{TableOf}
+use Rattle.examples.proofs.Booleans.{every}
+use Rattle.examples.proofs.Checks.{Check, map, both, either, by, le?, where-le, all-below, some-below, Below}
+use Rattle.examples.proofs.Search as search
+use Rattle.examples.proofs.SearchLaws.{Flagged, Unflagged, none-sound, some-sound}
+use Rattle.examples.proofs.TableLaw.{inRange, listing}
+use Rattle.examples.proofs.NotionLaws as laws
+use Rattle.examples.proofs.NotionLaws.{nowhere, outAt, inFrom}
+
+-- a run that excuses the system from count n - K on
+pub excused : (p : Automaton) (secret K : ℕ) (first : List ℕ) (n : ℕ) → ClearFrom p secret first (n - K) → Excused p secret K first n
+excused p secret K first n c = record { run = c .run; compatible = c .compatible; outside = λ m near bad. c .outside m (omega arith) bad }
+
+-- for every table that holds the transitions. A check is computed from their list alone, so that one serves all tables
+abbrev pub For : List Transition → (List ℕ → Type 0) → Type 0
+For ts A = (x : TableOf ts) → A (x .table)
+
+module _ (ts : List Transition) (h : Header) (range : T (every inRange ts)) where
+  abbrev M : TableOf ts → Automaton
+  M x = automatonOf (x .table) h
+
+  -- what an event shows does not depend on the table
+  abbrev view : ℕ → List ℕ
+  view = shows (automatonOf [] h)
+
+  abbrev none? : (mark : ℕ → ℕ → Bool) (b : Bool) (trace : List ℕ) → Check (For ts (λ t. Unflagged (automatonOf t h) mark b trace))
+  none? mark b trace =
+      by (search.none view mark ts b (h .initial) trace) (λ ok x. none-sound ts (M x) (listing ts (x .table) (x .holds) range h) mark b trace ok)
+
+  abbrev some? : (mark : ℕ → ℕ → Bool) (b : Bool) (trace : List ℕ) → Check (For ts (λ t. Flagged (automatonOf t h) mark b trace))
+  some? mark b trace =
+      by (search.some view mark ts b (h .initial) trace) (λ ok x. some-sound ts (M x) (listing ts (x .table) (x .holds) range h) mark b trace ok)
+
+  abbrev pub possible? : (trace : List ℕ) → Check (For ts (λ t. Possible (automatonOf t h) trace))
+  possible? trace = map (λ r x. laws.possible (M x) trace (r x)) (some? nowhere false trace)
+
+  abbrev pub impossible? : (trace : List ℕ) → Check (For ts (λ t. Impossible (automatonOf t h) trace))
+  impossible? trace = map (λ r x. laws.impossible (M x) trace (r x)) (none? nowhere false trace)
+
+  module _ (secret : ℕ) where
+    abbrev sure? : (notion : Notion) (trace : List ℕ) (j : ℕ) → Check (For ts (λ t. Sure notion (automatonOf t h) secret trace j))
+    sure? Weak trace j = map (λ r x. laws.sure-at (M x) trace secret j (r x)) (none? (outAt secret j) true trace)
+    sure? Strong trace j = map (λ r x. laws.sure-from (M x) trace secret j (r x)) (none? (inFrom secret j) false trace)
+
+    abbrev clear? : (notion : Notion) (trace : List ℕ) (j : ℕ) → Check (For ts (λ t. Clear notion (automatonOf t h) secret trace j))
+    clear? Weak trace j = map (λ r x. laws.clear-at (M x) trace secret j (r x)) (some? (outAt secret j) true trace)
+    clear? Strong trace j = map (λ r x. laws.clear-from (M x) trace secret j (r x)) (some? (inFrom secret j) false trace)
+
+    module _ (K : ℕ) where
+      abbrev pub tells? : (notion : Notion) (trace : List ℕ) (v : Steps) → Check (For ts (λ t. Tells notion (automatonOf t h) secret K trace v))
+      tells? notion trace none =
+          map (λ f x l low short. f l (omega arith) short x) (all-below (λ l. where-le l (length trace) (clear? notion trace (length trace - l))) (suc K))
+      tells? notion trace (leak l) =
+          map (λ f x. record { within = f .0; reached = f .1 .0; sure = f .1 .1 .0 x; least = λ m less. f .1 .1 .1 m less x })
+          (both (le? l K) (both (le? l (length trace)) (both (sure? notion trace (length trace - l)) (all-below (λ m. clear? notion trace (length trace - m)) l))))
+
+      abbrev shown? : (notion : Notion) (first : List ℕ) (n : ℕ) → Check (For ts (λ t. Shown notion (automatonOf t h) secret K first n))
+      shown? Weak first n =
+          map (λ f x j low near. f j (omega arith) near x) (all-below (λ j. where-le n (j + K) (clear? Weak first j)) (suc (length first)))
+      shown? Strong first n =
+          map (λ f x. ⊎-elim (λ old. inl old) (λ c. inr (excused (M x) secret K first n (c x))) f)
+          (either (le? (suc (length first + K)) n) (clear? Strong first (n - K)))
+
+      pub unsafe-weak : (first : List ℕ) (n : ℕ) → Below (λ j. (n ≤ j + K) × For ts (λ t. SureAt (automatonOf t h) secret first j)) (suc (length first))
+          → For ts (λ t. Unsafe Weak (automatonOf t h) secret K first n)
+      unsafe-weak first n b x = let s = b .small in record { at = b .at; reached = omega arith; near = b .holds .0; sure = b .holds .1 x }
+
+      abbrev unsafe? : (notion : Notion) (first : List ℕ) (n : ℕ) → Check (For ts (λ t. Unsafe notion (automatonOf t h) secret K first n))
+      unsafe? Weak first n = map (unsafe-weak first n) (some-below (λ j. both (le? n (j + K)) (sure? Weak first j)) (suc (length first)))
+      unsafe? Strong first n = map (λ f x. record { near = f .0; sure = f .1 x }) (both (le? n (length first + K)) (sure? Strong first (n - K)))
+
+      abbrev pub longest? : (notion : Notion) (trace : List ℕ) (r : ℕ) → Check (For ts (λ t. Longest (Safe notion (automatonOf t h) secret K) trace r))
+      longest? notion trace r =
+          map (λ f x. record {
+            within = f .0;
+            safe = shown-safe notion (M x) secret K (take r trace) (length trace) (f .1 .0 x);
+            longest = λ s above short. unsafe-not-safe notion (M x) secret K (take s trace) (length trace) (f .1 .1 s (omega arith) above x);
+          })
+          (both (le? r (length trace)) (both (shown? notion (take r trace) (length trace))
+          (all-below (λ s. where-le (suc r) s (unsafe? notion (take s trace) (length trace))) (suc (length trace)))))

@@ -1,0 +1,3 @@
+-- What the theorem of `examples` says. A reviewer reads Meaning and StarredRows, in this order.
+pub mod Meaning
+pub mod StarredRows

@@ -1,0 +1,93 @@
+-- What a row of the table says: an automaton as 01 writes it, a question with its answer, and the statement over runs for which they stand.
+use mathlib.Core.Path.{_≡_}
+use mathlib.Core.List.{List, [], _∷_, _++_}
+use Prim.Native.Nat.{ℕ}
+use lib.ListN.{length, take}
+use Rattle.automaton.specs.Run.{automatonOf, Possible, Observable, Sound}
+use Rattle.automaton.specs.declared.Header.{Header}
+use Rattle.encoding.specs.Transitions.{Transition}
+use Rattle.encoding.specs.Table.{Holds}
+use Rattle.verifier.specs.declared.Notion.{Notion}
+use Rattle.verifier.specs.declared.Notion.the-variants.{Weak, Strong}
+use Rattle.verifier.specs.Verdicts.{Steps, none, leak, Tells}
+use Rattle.verifier.specs.Calls.{Call, AllAnswered}
+use Rattle.enforcer.specs.SafePrefix.{Safe}
+use Rattle.enforcer.specs.Queues.{Longest}
+use Rattle.enforcer.specs.Offerings.{Begun, started, not-started}
+
+-- an automaton: its transitions as they are listed, and its header
+pub record Example : Type 0 where
+  pub transitions : List Transition
+  pub header : Header
+
+pub data Question : Type 0 where
+  -- the verdicts of a trace
+  verdicts-of : (trace : List ℕ) (weak strong : Steps) → Question
+  -- the answers to bytes that are offered one after another, once the trace is accepted
+  answers-after : (trace : List ℕ) → List Call → Question
+  -- the answer to a start of the enforcer
+  start-of : Notion → Begun → Question
+  -- the events that an enforcer releases with each event of a trace
+  releases-of : Notion → (trace : List ℕ) → List (List ℕ) → Question
+
+-- the verdicts are those of the definition; some run is compatible with the trace, so that no leak is an empty statement
+pub record VerdictsAre (t : List ℕ) (h : Header) (trace : List ℕ) (v w : Steps) : Type 0 where
+  pub possible : Possible (automatonOf t h) trace
+  pub weak : Tells Weak (automatonOf t h) (h .secret) (h .k) trace v
+  pub strong : Tells Strong (automatonOf t h) (h .secret) (h .k) trace w
+
+-- each byte gets the answer that the verifier owes it after the bytes accepted before it; a refused byte is not one of these
+pub record AnswersAre (t : List ℕ) (h : Header) (trace : List ℕ) (calls : List Call) : Type 0 where
+  pub possible : Possible (automatonOf t h) trace
+  pub answered : AllAnswered t h trace calls
+
+-- a start is refused with 8 where the empty trace has leak 0, and gives an enforcer where it has none
+abbrev pub Opened : List ℕ → Header → Notion → Begun → Type 0
+Opened t h notion started = Tells notion (automatonOf t h) (h .secret) (h .k) [] none
+Opened t h notion (not-started n) = (n ≡ 8) × Tells notion (automatonOf t h) (h .secret) (h .k) [] (leak 0)
+
+pub record StartIs (t : List ℕ) (h : Header) (notion : Notion) (answer : Begun) : Type 0 where
+  pub possible : Possible (automatonOf t h) []
+  pub opened : Opened t h notion answer
+
+-- the events `out` are the longest safe prefix of the accepted trace
+pub record ReleasedIs (t : List ℕ) (h : Header) (notion : Notion) (trace out : List ℕ) : Type 0 where
+  pub possible : Possible (automatonOf t h) trace
+  pub prefix : out ≡ take (length out) trace
+  pub longest : Longest (Safe notion (automatonOf t h) (h .secret) (h .k)) trace (length out)
+
+-- after the accepted events, of which `out` are released, each event of the rest is accepted in turn and releases what stands at its place
+pub data EachReleases (t : List ℕ) (h : Header) (notion : Notion) : (accepted out rest : List ℕ) → List (List ℕ) → Type 0 where
+  end : {accepted out : List ℕ} → EachReleases t h notion accepted out [] []
+  more : {accepted out rest now : List ℕ} {e : ℕ} {later : List (List ℕ)} → Observable h e → ReleasedIs t h notion (accepted ++ e ∷ []) (out ++ now)
+      → EachReleases t h notion (accepted ++ e ∷ []) (out ++ now) rest later → EachReleases t h notion accepted out (e ∷ rest) (now ∷ later)
+
+-- and the enforcer does start
+pub record ReleasesAre (t : List ℕ) (h : Header) (notion : Notion) (trace : List ℕ) (events : List (List ℕ)) : Type 0 where
+  pub start : StartIs t h notion started
+  pub each : EachReleases t h notion [] [] trace events
+
+abbrev pub Says : List ℕ → Header → Question → Type 0
+Says t h (verdicts-of trace weak strong) = VerdictsAre t h trace weak strong
+Says t h (answers-after trace calls) = AnswersAre t h trace calls
+Says t h (start-of notion answer) = StartIs t h notion answer
+Says t h (releases-of notion trace events) = ReleasesAre t h notion trace events
+
+pub record Row : Type 0 where
+  pub example : Example
+  pub question : Question
+
+-- a table that holds the transitions, by the law that decoding keeps
+pub record TableOf (ts : List Transition) : Type 0 where
+  pub table : List ℕ
+  pub holds : Holds ts table
+
+-- there is such a table, and with every such table and the header, which are an automaton, the answer is right
+pub record RowHolds (r : Row) : Type 0 where
+  pub some : TableOf (r .example .transitions)
+  pub sound : (t : List ℕ) → Holds (r .example .transitions) t → Sound t (r .example .header)
+  pub says : (t : List ℕ) → Holds (r .example .transitions) t → Says t (r .example .header) (r .question)
+
+abbrev pub All : List Row → Type 0
+All [] = Unit {0}
+All (r ∷ rs) = RowHolds r × All rs

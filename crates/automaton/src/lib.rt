@@ -31,6 +31,7 @@ pub enum Refusal {
     EmptyLog,
 }
 
+// The number of a refusal in 01's table.
 pub fn number(refusal: Refusal) -> u8
     ensures { λ r. ⌜ r ≡ numberOf refusal ⌝ }
 {
@@ -56,7 +57,8 @@ pub fn observable(header: Header, byte: u8) -> bool
     stateset::member(header.observable as u64, byte as usize)
 }
 
-// Whether the first `count` bytes are numbers of events, at most 31. (Bytes that the slice does not have count as 0.)
+// Whether the first `count` bytes are numbers of events, at most 31. (A byte that the slice does not have counts as 0; the arrays of
+// estimators and enforcers are longer than a count within its limit.)
 pub fn in_range(bytes: &[u8], count: u8) -> bool
     ensures { λ r. ⌜ Decided r ((i : ℕ) → i < count → getD (now (bytes .entry)) i 0 ≤ 31) ⌝ }
 {
@@ -165,7 +167,7 @@ fn closure(rows: &[u64; 64], allowed: u64, from: u64) -> u64
     done
 }
 
-// Where unobservable events may lead from each state.
+// Where unobservable events may lead from each state. (Inner, as the functions below: for the crates above, which hold their conditions; no entries.)
 pub fn silent_rows(table: &[u64], header: Header) -> [u64; 64]
     requires { ⌜ length (now table) ≡ 2048 ⌝ }
     ensures { λ r. ⌜ Rows r (By (automatonOf (now (table .entry)) header) []) ⌝ }

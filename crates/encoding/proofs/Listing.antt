@@ -91,9 +91,9 @@ one-true true e = refl
 one-true false e = absurd (omega arith)
 
 -- of a table that holds some transitions: a transition of the automaton is one of them, where the table has a place for it
-pub held : (ts : List Transition) (table : List ℕ) → Holds ts table → (t : Transition) → Placed t
+pub listed-exactly : (ts : List Transition) (table : List ℕ) → Holds ts table → (t : Transition) → Placed t
     → run.Transition table (t .from) (t .event) (t .to) ↔ (listed t ts ≡ true)
-held ts table x t p = (
+listed-exactly ts table x t p = (
   (λ y. one-true (listed t ts) (sym (x .bits t (p .from) (p .event)) ∙ y .listed)),
   (λ y. record { from-small = p .from; event-small = p .event; to-small = p .to; listed = x .bits t (p .from) (p .event) ∙ rw y }),
 )
@@ -102,8 +102,8 @@ held ts table x t p = (
 pub transitions-are : (bs after : List ℕ) {d : Encoding} {n : ℕ} → encoding (bitsOf bs) 0 ≡ done d n → Holds (d .transitions) after → (t : Transition)
     → run.Transition after (t .from) (t .event) (t .to) ↔ (listed t (d .transitions) ≡ true)
 transitions-are bs after {d} e x t = (
-  (λ y. held (d .transitions) after x t (record { from = y .from-small; event = y .event-small; to = y .to-small }) .0 y),
-  (λ y. held (d .transitions) after x t (encoding-placed bs e t y) .1 y),
+  (λ y. listed-exactly (d .transitions) after x t (record { from = y .from-small; event = y .event-small; to = y .to-small }) .0 y),
+  (λ y. listed-exactly (d .transitions) after x t (encoding-placed bs e t y) .1 y),
 )
 
 -- what a refused call hands back is no automaton's header, on any table

@@ -12,7 +12,7 @@ ghost use Rattle.bitfields.specs.Bits.{bitsOf};
 ghost use Rattle.encoding.specs.Transitions.{transitionAt, transitionsAt};
 ghost use Rattle.encoding.specs.Encoding.{fixed, front, transition, transitions, ending, encoding};
 ghost use Rattle.encoding.specs.Table.{mark, tableOf};
-ghost use Rattle.encoding.specs.Answers.{fixedMeans, frontMeans, checkedMeans, encodingMeans, frontEnd, headerOf, FrontFits};
+ghost use Rattle.encoding.specs.Answers.{fixedMeans, frontMeans, checkedMeans, encodingMeans, frontEnd, headerOf, FrontSmall};
 ghost use Rattle.encoding.specs.Decoding.{Decoding, refusedBy, answerMeans};
 
 // The fields that each encoding starts with: 32 bits.
@@ -121,7 +121,7 @@ fn read_front(bytes: &[u8]) -> FrontAnswer
 
 // The position of the first transition.
 fn front_end(front: Front) -> usize
-    requires { ⌜ FrontFits front ⌝ }
+    requires { ⌜ FrontSmall front ⌝ }
     ensures { λ r. ⌜ r ≡ frontEnd front ⌝ }
 {
     let fixed = front.fixed;
@@ -249,7 +249,7 @@ fn fill(bytes: &[u8], at: usize, count: usize, table: &mut [u64])
 }
 
 fn header_of(front: Front) -> Header
-    requires { ⌜ FrontFits front ⌝ }
+    requires { ⌜ FrontSmall front ⌝ }
     ensures { λ r. ⌜ r ≡ headerOf front ⌝ }
 {
     let fixed = front.fixed;

@@ -38,14 +38,14 @@ pub taken-outcome : (t : List ℕ) (h : Header) (self : Enforcer) (byte : ℕ) (
     → Took (h .k) self s (waitOf (h .k) (stepsOf (chosen (self .notion) v))) byte output r after left → Offering t h self byte output (said r) after left
 taken-outcome t h self byte output v s (offer.Refused r) after left so li wide acc took = absurd took
 taken-outcome t h self byte output v s (offer.Released f) after left so li wide (Accepting.accepted so′ li′ ob ls bw bs exact) took =
-    let enough = took .moved .ready .enough in
-    let bal = took .moved .balance in
+    let enough = took .shifted .ready .enough in
+    let bal = took .shifted .balance in
     let limits : Limits (h .k) after = record {
       estimator = rw (took .estimator-is) ls;
       few = omega arith;
       small = took .small (omega (arith, ob .event-small)) (li .small);
     } in
-    accepted so li wide ob limits (took .moved .balance) (took .front) (took .moved .rest)
+    accepted so li wide ob limits (took .shifted .balance) (took .front) (took .shifted .rest)
     (λ notion trace g.
     let x = exact trace (g .estimator) in
     let tells : Tells notion (automatonOf t h) (h .secret) (h .k) (trace ++ byte ∷ []) (stepsOf (chosen (self .notion) v)) =

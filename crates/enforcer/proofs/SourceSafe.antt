@@ -16,11 +16,11 @@ use Rattle.published.proofs.SourceLaws.{leak-at-words, words-leak-at, no-leak-w
 use Rattle.enforcer.specs.SafePrefix.{Safe}
 use Rattle.enforcer.proofs.SafeLaws.{safe-wait, wait-safe}
 
-module _ (notion : Notion) (p : Automaton) (secret K : ℕ) (μ μ′ : List ℕ) (shorter : length μ′ ≤ length μ) (seen : Possible p μ′) where
+module _ (notion : Notion) (p : Automaton) (secret K : ℕ) (μ μ′ : List ℕ) (shorter : length μ′ ≤ length μ) (observed-trace : Possible p μ′) where
   output-safe : (v : Steps) → Tells notion p secret K μ′ v → SafeToOutput notion p secret K μ μ′ → Safe notion p secret K μ′ (length μ)
   output-safe none t s = safe-wait notion p secret K μ′ none t (length μ) shorter (omega arith)
   output-safe (leak l) t (inl out) =
-      absurd (no-leak-words p secret μ′ notion K (λ x. out (record { observed = seen; leaks = x })) l (record { within = t .within; reached = t .reached; sure = t .sure }))
+      absurd (no-leak-words p secret μ′ notion K (λ x. out (record { observed = observed-trace; leaks = x })) l (record { within = t .within; reached = t .reached; sure = t .sure }))
   output-safe (leak l) t (inr late) =
       let w = leak-at-words p secret μ′ notion K (late .k) (late .small) (late .leaks .leaks) in
       let q = late .late in
@@ -39,7 +39,7 @@ module _ (notion : Notion) (p : Automaton) (secret K : ℕ) (μ μ′ : List ℕ
   safe-output (leak l) t s =
       let w = wait-safe notion p secret K μ′ (leak l) t (length μ) shorter s in
       let b = t .within in
-      inr (record { k = l; small = t .within; leaks = record { observed = seen; leaks = words-leak-at p secret μ′ notion K l (in-words notion p secret K μ′ (leak l) t) }; late = omega arith })
+      inr (record { k = l; small = t .within; leaks = record { observed = observed-trace; leaks = words-leak-at p secret μ′ notion K l (in-words notion p secret K μ′ (leak l) t) }; late = omega arith })
 
   -- for every observed trace that has its verdict; the verifier gives each one
   pub safe-published : (v : Steps) → Tells notion p secret K μ′ v → Safe notion p secret K μ′ (length μ) ↔ SafeToOutput notion p secret K μ μ′
@@ -48,7 +48,7 @@ module _ (notion : Notion) (p : Automaton) (secret K : ℕ) (μ μ′ : List ℕ
 -- Definition 13, where the first r events are what was output, and the longest prefix that is safe to output
 pub enforced : (notion : Notion) (p : Automaton) (secret K : ℕ) (μ o : List ℕ) (r : ℕ) → r ≤ length μ → o ≡ take r μ → SafeToOutput notion p secret K μ o
     → ((s : ℕ) → r < s → s ≤ length μ → SafeToOutput notion p secret K μ (take s μ) → ⊥) → Enforced notion p secret K μ o
-enforced notion p secret K μ o r fits is safe longest =
+enforced notion p secret K μ o r within is safe longest =
     let most : (s : ℕ) → s ≤ length μ → SafeToOutput notion p secret K μ (take s μ) → s ≤ r = λ s h x. elim (decLe s r) [
       | yes d ↦ d
       | no d ↦ absurd (longest s (omega arith) h x)

@@ -16,7 +16,7 @@ use Rattle.verifier.specs.Estimators as estimators
 use Rattle.verifier.specs.Replies as verifier
 use Rattle.verifier.specs.Replies.{Opening}
 use Rattle.enforcer.specs.Enforcers.{Limits, Padded, Grown}
-use Rattle.enforcer.specs.Offerings.{not-started, started, Unusable, Starting}
+use Rattle.enforcer.specs.Offerings.{Said, refused, not-started, started, Unusable, Starting, Offering}
 use Rattle.enforcer.specs.Inner.{chosen}
 use Rattle.enforcer.specs.declared.Enforcer.{Enforcer}
 use Rattle.enforcer.specs.SafePrefix.{Safe}
@@ -43,9 +43,9 @@ start-open t h notion v e s l (Opening.opened so li x) is c =
 
 fresh-grown : (notion : Notion) (p : Automaton) (secret K : ℕ) (e : Estimator) (pending waits : List ℕ) → Padded 16 0 pending → Padded 16 0 waits → estimators.Limits K e → Possible p [] → estimators.Grown p K [] e → Tells notion p secret K [] none
     → Grown notion p secret K [] (record { estimator = e; notion = notion; count = 0; pending = pending; waits = waits })
-fresh-grown notion p secret K e pending waits padded padded′ li seen g tells =
+fresh-grown notion p secret K e pending waits padded padded′ li observed-trace g tells =
     record {
-      possible = seen;
+      possible = observed-trace;
       pending-padded = padded;
       waits-padded = padded′;
       limits = record { estimator = li; few = omega arith; small = λ i h. absurd (omega arith) };
@@ -62,3 +62,16 @@ start-ready t h notion v e pending waits padded padded′ (Opening.opened so li 
     let tells : Tells notion (automatonOf t h) (h .secret) (h .k) [] none =
     subst (λ (w : Verdict). Tells notion (automatonOf t h) (h .secret) (h .k) [] (stepsOf w)) is (chosen-tells notion t h [] v e x) in
     Starting.ready so tells (fresh-grown notion (automatonOf t h) (h .secret) (h .k) e pending waits padded padded′ li (x .possible) (x .grown) tells)
+
+outside : {t : List ℕ} {h : Header} {notion : Notion} {n : ℕ} {s : Enforcer} → Starting t h notion (not-started n) s → Unusable s
+outside (Starting.malformed bad u) = u
+outside (Starting.initial-leak so tells u) = u
+
+-- what a refused start hands back is no enforcer: every offer to it, with every table and header, gets 9
+pub refused-start : (t : List ℕ) (h : Header) (notion : Notion) (n : ℕ) (s : Enforcer) → Starting t h notion (not-started n) s
+    → (t′ : List ℕ) (h′ : Header) (byte : ℕ) (output : List ℕ) (r : Said) (m : Enforcer) (left : List ℕ) → Offering t′ h′ s byte output r m left → r ≡ refused 9
+refused-start t h notion n s x t′ h′ byte output r m left (Offering.malformed bad) = refl
+refused-start t h notion n s x t′ h′ byte output r m left (Offering.output-too-small so li few) = absurd (outside x (h′ .k) (so .back) li)
+refused-start t h notion n s x t′ h′ byte output r m left (Offering.not-observable so li wide never) = absurd (outside x (h′ .k) (so .back) li)
+refused-start t h notion n s x t′ h′ byte output r m left (Offering.incompatible so li wide ob never) = absurd (outside x (h′ .k) (so .back) li)
+refused-start t h notion n s x t′ h′ byte output r m left (Offering.accepted so li wide ob after bal front rest exact) = absurd (outside x (h′ .k) (so .back) li)

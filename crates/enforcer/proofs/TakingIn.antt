@@ -76,7 +76,7 @@ took-in K self estimator w byte output f events soon pending waits left l16 l17 
                 let e : f + i ≡ self .count = omega arith in
                 omega (arith, ap (λ (k : ℕ). getD events k 0) e, last)
           ];
-      moved = record {
+      shifted = record {
         balance = omega arith;
         rest = rest-list events pending f (self .count + 1) some (omega arith) (omega arith) down ∙ ap (drop f) (sym e);
         soon = soon;
@@ -103,10 +103,10 @@ module _ (notion : Notion) (p : Automaton) (secret K : ℕ) (acc : List ℕ) (se
       go (no d) = (v, subst (λ (l : List ℕ). Tells notion p secret K l v) (sym (take-all k (acc ++ byte ∷ []) (omega (arith, len)))) tells)
 
   pub grown-next : Possible p (acc ++ byte ∷ []) → estimators.Grown p K (acc ++ byte ∷ []) estimator → Limits K after → Grown notion p secret K (acc ++ byte ∷ []) after
-  grown-next seen ge la =
+  grown-next observed-trace ge la =
       record {
         limits = la;
-        possible = seen;
+        possible = observed-trace;
         pending-padded = took .pending-padded;
         waits-padded = took .waits-padded;
         estimator = rw (took .estimator-is) ge;
@@ -119,7 +119,7 @@ module _ (notion : Notion) (p : Automaton) (secret K : ℕ) (acc : List ℕ) (se
               λ safe. omega (arith, wait-safe notion p secret K (acc ++ byte ∷ []) v tells (length acc + 1 + m) (omega arith) safe),
               λ low. safe-wait notion p secret K (acc ++ byte ∷ []) v tells (length acc + 1 + m) (omega arith) (omega arith),
             ))
-            (took .moved);
+            (took .shifted);
       }
 
 -- an enforcer that is full releases its first event

@@ -60,28 +60,28 @@ module _ (notion : Notion) (t : List ℕ) (h : Header) (sound : Sound t h) where
       (λ trace s g. g .queue .few) (λ trace s g. g .queue .longest) s os e g f in
       let k = y .2 in
       let told = y .1 .told in
-      let seen = prefix-possible (automatonOf t h) (acceptedOf os) (y .1 .possible) in
+      let observed-trace = prefix-possible (automatonOf t h) (acceptedOf os) (y .1 .possible) in
       record {
         accepted = y .0;
         prefix = k .prefix;
         safe = rw (k .prefix) (k .safe);
         shown =
-            let x = told (releasedCount os) (k .fits) in
+            let x = told (releasedCount os) (k .within) in
             rw (k .prefix) (safe-shown notion (automatonOf t h) (h .secret) (h .k) (take (releasedCount os) (acceptedOf os)) (x .0) (x .1) (length (acceptedOf os))
-            (omega (arith, k .fits, length-take-le (releasedCount os) (acceptedOf os) (k .fits))) (k .safe));
+            (omega (arith, k .within, length-take-le (releasedCount os) (acceptedOf os) (k .within))) (k .safe));
         longest = k .longest;
         unsafe = λ r more within.
             let x = told r within in
             not-safe-unsafe notion (automatonOf t h) (h .secret) (h .k) (take r (acceptedOf os)) (x .0) (x .1) (length (acceptedOf os))
             (omega (arith, length-take-le r (acceptedOf os) within)) (k .longest r more within);
         published =
-            let x = told (releasedCount os) (k .fits) in
+            let x = told (releasedCount os) (k .within) in
             rw (k .prefix) (safe-published notion (automatonOf t h) (h .secret) (h .k) (acceptedOf os) (take (releasedCount os) (acceptedOf os))
-            (omega (arith, k .fits, length-take-le (releasedCount os) (acceptedOf os) (k .fits))) (seen (releasedCount os) (k .fits)) (x .0) (x .1) .0 (k .safe));
+            (omega (arith, k .within, length-take-le (releasedCount os) (acceptedOf os) (k .within))) (observed-trace (releasedCount os) (k .within)) (x .0) (x .1) .0 (k .safe));
         published-longest = λ r more within out.
             let x = told r within in
             k .longest r more within (safe-published notion (automatonOf t h) (h .secret) (h .k) (acceptedOf os) (take r (acceptedOf os))
-            (omega (arith, length-take-le r (acceptedOf os) within)) (seen r within) (x .0) (x .1) .1 out);
+            (omega (arith, length-take-le r (acceptedOf os) within)) (observed-trace r within) (x .0) (x .1) .1 out);
         in-time = k .in-time;
         balance = k .balance;
         grown = y .1;

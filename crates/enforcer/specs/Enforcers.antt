@@ -33,7 +33,7 @@ pub record Grown (notion : Notion) (p : Automaton) (secret K : ℕ) (trace : Lis
   pub possible : Possible p trace
   pub estimator : estimator.Grown p K trace (s .estimator)
   pub under : s .notion ≡ notion
-  -- each prefix has its verdict
+  -- each prefix has its verdict (no condition, since the verifier gives every possible trace one; here for the proofs to have it at hand)
   pub told : (r : ℕ) → r ≤ length trace → (v : Steps) × Tells notion p secret K (take r trace) v
   pub queue : Queue (Safe notion p secret K) trace (s .count) (s .pending) (s .waits)
   pub pending-padded : Padded 16 (s .count) (s .pending)

@@ -33,7 +33,7 @@ pub record Ready (K count : ℕ) (soon : List ℕ) (f : ℕ) : Type 0 where
   pub next : (count ≤ K) ⊎ (getD soon 0 0 ≡ 0) → f < count + 1 → getD soon f 0 ≡ 0 → ⊥
 
 -- a queue after one more event with the wait w, of which the first f events go
-pub record Moved (K count : ℕ) (pending waits : List ℕ) (w byte f count′ : ℕ) (pending′ waits′ : List ℕ) : Type 0 where
+pub record Shifted (K count : ℕ) (pending waits : List ℕ) (w byte f count′ : ℕ) (pending′ waits′ : List ℕ) : Type 0 where
   pub balance : f + count′ ≡ count + 1
   pub rest : take count′ pending′ ≡ drop f (take count pending ++ byte ∷ [])
   -- the waits, each one less, and the new one
@@ -47,7 +47,7 @@ pub record Moved (K count : ℕ) (pending waits : List ℕ) (w byte f count′ :
 pub record TookIn (K : ℕ) (self : Enforcer) (estimator : Estimator) (w byte : ℕ) (output : List ℕ) (f : ℕ) (after : Enforcer) (left : List ℕ) : Type 0 where
   pub estimator-is : after .estimator ≡ estimator
   pub notion-is : after .notion ≡ self .notion
-  pub moved : Moved K (self .count) (self .pending) (self .waits) w byte f (after .count) (after .pending) (after .waits)
+  pub shifted : Shifted K (self .count) (self .pending) (self .waits) w byte f (after .count) (after .pending) (after .waits)
   pub front : left ≡ take f (pendingOf self ++ byte ∷ []) ++ drop f output
   pub pending-padded : Padded 16 (after .count) (after .pending)
   pub waits-padded : Padded 16 (after .count) (after .waits)

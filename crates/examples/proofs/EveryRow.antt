@@ -8,6 +8,9 @@ use lib.ListN.{length, take}
 use Rattle.stateset.specs.Set.{bit}
 use Rattle.automaton.specs.Run.{automatonOf, Observable}
 use Rattle.automaton.specs.declared.Header.{Header}
+use Rattle.bitfields.specs.Bits.{bitsOf, byteBits, numberAt, numberFrom, setOf}
+use Rattle.bitfields.specs.Parser.{field, flags}
+use Rattle.encoding.specs.Encoding.{encoding, fixed, front, transition, transitions, ending}
 use Rattle.encoding.specs.Transitions.{Transition}
 use Rattle.verifier.specs.declared.Notion.{Notion}
 use Rattle.verifier.specs.declared.Notion.the-variants.{Weak, Strong}
@@ -16,11 +19,12 @@ use Rattle.verifier.specs.Replies.{Said, refused, verdicts}
 use Rattle.verifier.specs.Calls.{Call, takenBy, Right, Answered, AllAnswered}
 use Rattle.verifier.proofs.Exactness.{exactly}
 use Rattle.enforcer.specs.Offerings.{Begun, started, not-started}
-use Rattle.examples.specs.Meaning.{Question, verdicts-of, answers-after, start-of, releases-of, VerdictsAre, Opened, StartIs, ReleasedIs, EachReleases, Says, Row, RowHolds, All}
+use Rattle.examples.specs.Meaning.{Question, verdicts-of, answers-after, start-of, releases-of, VerdictsAre, Opened, StartIs, ReleasedIs, EachReleases, Says, Example, Row, about, description, AboutHolds, RowHolds, All}
 use Rattle.examples.specs.StarredRows.{rows, EveryRowHolds}
 use Rattle.examples.proofs.Booleans.{and-both, eq-eqb, every, sameList, same-list}
 use Rattle.examples.proofs.Checks.{Check, done, failed, checked, map, then, both, either, by, le?, eq?}
 use Rattle.examples.proofs.TableLaw.{inRange, some-table, sound}
+use Rattle.examples.proofs.Descriptions.{description?}
 use Rattle.examples.proofs.NotionChecks.{For, possible?, impossible?, tells?, longest?}
 
 abbrev observable? : (h : Header) (byte : ℕ) → Check (Observable h byte)
@@ -94,17 +98,21 @@ module _ (ts : List Transition) (h : Header) (range : T (every inRange ts)) wher
   says? (releases-of notion trace events) =
       map (λ f x. record { start = f .0 x; each = f .1 x }) (both (start? notion started) (each-releases? notion trace events [] []))
 
-abbrev row? : (r : Row) → Check (RowHolds r)
-row? r =
-    let ts : List Transition = r .example .transitions in
-    let h : Header = r .example .header in
+abbrev about? : (e : Example) (q : Question) → Check (AboutHolds e q)
+about? e q =
+    let ts : List Transition = e .transitions in
+    let h : Header = e .header in
     then (by (every inRange ts) (λ range. range)) (λ range.
     map (λ f. record {
       some = some-table ts range;
       sound = λ t law. sound ts t law h (f .0) (f .1 .0);
       says = λ t law. f .1 .1 (record { table = t; holds = law });
     })
-    (both (le? (h .k) 15) (both (le? (h .initial) 63) (says? ts h range (r .question)))))
+    (both (le? (h .k) 15) (both (le? (h .initial) 63) (says? ts h range q))))
+
+abbrev row? : (r : Row) → Check (RowHolds r)
+row? (about e q) = about? e q
+row? (description bytes contents) = description? bytes contents
 
 abbrev all? : (rs : List Row) → Check (All rs)
 all? [] = done tt
@@ -112,5 +120,5 @@ all? (r ∷ rs) = both (row? r) (all? rs)
 
 -- THE THEOREM: every check passes
 pub every-row-holds : EveryRowHolds
-unfolding bit
+unfolding bit encoding fixed front transition transitions ending field flags bitsOf byteBits numberAt numberFrom setOf
 every-row-holds = checked (all? rows) tt

@@ -7,4 +7,5 @@ pub mod SearchLaws
 pub mod TableLaw
 pub mod NotionLaws
 pub mod NotionChecks
+pub mod Descriptions
 pub mod EveryRow

@@ -121,7 +121,7 @@ module _ (ts : List Transition) (p : Automaton) (d : Listing p ts) (mark : ℕ �
   none-sound trace t run ok fl =
       let S : List Node = first W mark ts (p .initial) in
       never run 0 trace S (p .initial) false (and-right (any (isNode (p .initial) false) S) (Ahead 0 trace S) t)
-      (and-left (any (isNode (p .initial) false) S) (Ahead 0 trace S) t) (ok .moves) (ok .shown-is) fl
+      (and-left (any (isNode (p .initial) false) S) (Ahead 0 trace S) t) (ok .takes) (ok .shown-is) fl
 
   trace-shown : (run : List Step) → traceOf W mark run ≡ shown p run
   trace-shown [] = refl
@@ -143,7 +143,7 @@ module _ (ts : List Transition) (p : Automaton) (d : Listing p ts) (mark : ℕ �
       record {
         run = run;
         compatible = record {
-          moves = takes run (p .initial) (and-left steps (trace-is && flag-is) t);
+          takes = takes run (p .initial) (and-left steps (trace-is && flag-is) t);
           shown-is = sym (trace-shown run) ∙ same-list (traceOf W mark run) trace (and-left trace-is flag-is rest);
         };
         flagged = same-eq (flag p mark run) b (and-right trace-is flag-is rest);

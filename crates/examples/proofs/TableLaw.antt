@@ -9,7 +9,7 @@ use Rattle.automaton.specs.declared.Header.{Header}
 use Rattle.encoding.specs.Transitions.{Transition, sameTransition, listed}
 use Rattle.encoding.specs.Table.{Holds, tableOf}
 use Rattle.encoding.proofs.Stored.{Small, holds-all}
-use Rattle.encoding.proofs.Listing.{Placed, held}
+use Rattle.encoding.proofs.Listing.{Placed, listed-exactly}
 use Rattle.examples.specs.Meaning.{TableOf}
 use Rattle.examples.proofs.Booleans.{every, and-left, and-right, is-true, from-true, meet}
 use Rattle.examples.proofs.SearchLaws.{triple, Listing, listed-any, transition-is}
@@ -46,11 +46,11 @@ module _ (ts : List Transition) (table : List ℕ) (law : Holds ts table) where
         let x = X .item in
         let same = transition-is q e r x (X .second) in
         let in-x = placed x (X .first) in
-        held ts table law (triple q e r)
+        listed-exactly ts table law (triple q e r)
         (record {
           from = subst (λ (n : ℕ). n < 64) (sym (same .0)) (in-x .from);
           event = subst (λ (n : ℕ). n < 32) (sym (same .1)) (in-x .event);
           to = subst (λ (n : ℕ). n < 64) (sym (same .2)) (in-x .to);
         }) .1 (is-true t);
-    named = λ q e r t. from-true (held ts table law (triple q e r) (record { from = t .from-small; event = t .event-small; to = t .to-small }) .0 t);
+    named = λ q e r t. from-true (listed-exactly ts table law (triple q e r) (record { from = t .from-small; event = t .event-small; to = t .to-small }) .0 t);
   }

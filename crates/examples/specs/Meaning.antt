@@ -7,6 +7,10 @@ use Rattle.automaton.specs.Run.{automatonOf, Possible, Observable, Sound}
 use Rattle.automaton.specs.declared.Header.{Header}
 use Rattle.encoding.specs.Transitions.{Transition}
 use Rattle.encoding.specs.Table.{Holds}
+use Rattle.encoding.specs.Encoding.{Encoding, encoding}
+use Rattle.encoding.specs.Answers.{headerOf}
+use Rattle.bitfields.specs.Bits.{bitsOf}
+use Rattle.bitfields.specs.Parser.{Parsed, done, refused}
 use Rattle.verifier.specs.declared.Notion.{Notion}
 use Rattle.verifier.specs.declared.Notion.the-variants.{Weak, Strong}
 use Rattle.verifier.specs.Verdicts.{Steps, none, leak, Tells}
@@ -73,9 +77,19 @@ Says t h (answers-after trace calls) = AnswersAre t h trace calls
 Says t h (start-of notion answer) = StartIs t h notion answer
 Says t h (releases-of notion trace events) = ReleasesAre t h notion trace events
 
-pub record Row : Type 0 where
-  pub example : Example
-  pub question : Question
+-- what a description says: an automaton, or the number of a refusal
+pub data Contents : Type 0 where
+  automaton : Example → Contents
+  refusal : ℕ → Contents
+
+abbrev pub contentsOf : Parsed Encoding → Contents
+contentsOf (done e next) = automaton (record { transitions = e .transitions; header = headerOf (e .front) })
+contentsOf (refused n) = refusal n
+
+-- a row is about an automaton, or about the bytes of a description
+pub data Row : Type 0 where
+  about : Example → Question → Row
+  description : (bytes : List ℕ) → Contents → Row
 
 -- a table that holds the transitions, by the law that decoding keeps
 pub record TableOf (ts : List Transition) : Type 0 where
@@ -83,10 +97,15 @@ pub record TableOf (ts : List Transition) : Type 0 where
   pub holds : Holds ts table
 
 -- there is such a table, and with every such table and the header, which are an automaton, the answer is right
-pub record RowHolds (r : Row) : Type 0 where
-  pub some : TableOf (r .example .transitions)
-  pub sound : (t : List ℕ) → Holds (r .example .transitions) t → Sound t (r .example .header)
-  pub says : (t : List ℕ) → Holds (r .example .transitions) t → Says t (r .example .header) (r .question)
+pub record AboutHolds (e : Example) (q : Question) : Type 0 where
+  pub some : TableOf (e .transitions)
+  pub sound : (t : List ℕ) → Holds (e .transitions) t → Sound t (e .header)
+  pub says : (t : List ℕ) → Holds (e .transitions) t → Says t (e .header) q
+
+-- and the layout reads from the bytes of a description what the row says
+abbrev pub RowHolds : Row → Type 0
+RowHolds (about e q) = AboutHolds e q
+RowHolds (description bytes contents) = contentsOf (encoding (bitsOf bytes) 0) ≡ contents
 
 abbrev pub All : List Row → Type 0
 All [] = Unit {0}

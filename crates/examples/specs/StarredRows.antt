@@ -1,5 +1,6 @@
--- The starred examples of 01's section "Feeds to try" as one table. (The encodings of Q are read in `encoding`.)
-use mathlib.Core.List.{List, [], _∷_}
+-- The starred examples of 01's section "Feeds to try" as one table.
+use mathlib.Core.List.{List, [], _∷_, _++_}
+use lib.ListN.{take}
 use Prim.Native.Nat.{ℕ, _+_, _^_}
 use Rattle.encoding.specs.Transitions.{Transition}
 use Rattle.verifier.specs.declared.Notion.the-variants.{Weak, Strong}
@@ -7,7 +8,7 @@ use Rattle.verifier.specs.Verdicts.{none, leak}
 use Rattle.verifier.specs.Replies.{Said, refused, verdicts}
 use Rattle.verifier.specs.Calls.{Call}
 use Rattle.enforcer.specs.Offerings.{started, not-started}
-use Rattle.examples.specs.Meaning.{Example, Question, verdicts-of, answers-after, start-of, releases-of, Row, All}
+use Rattle.examples.specs.Meaning.{Example, Question, verdicts-of, answers-after, start-of, releases-of, Contents, automaton, refusal, Row, about, description, All}
 
 abbrev pub transition : (from event to : ℕ) → Transition
 transition from event to = record { from = from; event = event; to = to }
@@ -44,35 +45,46 @@ U = record {
   header = record { initial = 0; k = 0; secret = 2 ^ 1; observable = 2 ^ 1 };
 }
 
-abbrev pub row : Example → Question → Row
-row example question = record { example = example; question = question }
-
 abbrev pub call : ℕ → Said → Call
 call byte says = record { byte = byte; says = says }
 
--- K 0 and U are shown under both notions
+-- Q's description up to its last byte, and P's
+abbrev pub q-bytes : ℕ → ℕ → List ℕ
+q-bytes fourth last = 0x08 ∷ 0x22 ∷ 0x00 ∷ fourth ∷ 0x48 ∷ 0x01 ∷ 0x04 ∷ 0x10 ∷ last ∷ []
+
+abbrev pub p-bytes : List ℕ
+p-bytes = 0x0C ∷ 0x44 ∷ 0x00 ∷ 0x0A ∷ 0x46 ∷ 0x00 ∷ 0x02 ∷ 0x00 ∷ 0x20 ∷ 0x82 ∷ 0x20 ∷ 0x02 ∷ 0x08 ∷ 0x61 ∷ 0x84 ∷ 0x30 ∷ []
+
+-- K 0 and U are shown under both notions, and P's description too
 abbrev pub rows : List Row
 rows =
-    row (P 2) (verdicts-of [] none none)
-    ∷ row (P 2) (verdicts-of (1 ∷ []) none none)
-    ∷ row (P 2) (verdicts-of (1 ∷ 2 ∷ []) (leak 1) (leak 1))
-    ∷ row (P 2) (verdicts-of (1 ∷ 2 ∷ 1 ∷ []) (leak 2) (leak 2))
-    ∷ row (P 2) (verdicts-of (1 ∷ 2 ∷ 1 ∷ 1 ∷ []) none none)
+    about (P 2) (verdicts-of [] none none)
+    ∷ about (P 2) (verdicts-of (1 ∷ []) none none)
+    ∷ about (P 2) (verdicts-of (1 ∷ 2 ∷ []) (leak 1) (leak 1))
+    ∷ about (P 2) (verdicts-of (1 ∷ 2 ∷ 1 ∷ []) (leak 2) (leak 2))
+    ∷ about (P 2) (verdicts-of (1 ∷ 2 ∷ 1 ∷ 1 ∷ []) none none)
     -- refused with 7, then as after 1 2 1
-    ∷ row (P 2) (answers-after (1 ∷ 2 ∷ []) (call 2 (refused 7) ∷ call 1 (verdicts (leak 2) (leak 2)) ∷ []))
-    ∷ row (P 2) (answers-after (1 ∷ 2 ∷ []) (call 0 (refused 6) ∷ call 200 (refused 6) ∷ []))
-    ∷ row (P 1) (releases-of Weak (1 ∷ 2 ∷ 1 ∷ 1 ∷ []) ((1 ∷ []) ∷ [] ∷ (2 ∷ 1 ∷ []) ∷ (1 ∷ []) ∷ []))
-    ∷ row (P 0) (releases-of Weak (1 ∷ 2 ∷ 1 ∷ 1 ∷ []) ((1 ∷ []) ∷ (2 ∷ []) ∷ (1 ∷ []) ∷ (1 ∷ []) ∷ []))
-    ∷ row (P 0) (releases-of Strong (1 ∷ 2 ∷ 1 ∷ 1 ∷ []) ((1 ∷ []) ∷ (2 ∷ []) ∷ (1 ∷ []) ∷ (1 ∷ []) ∷ []))
-    ∷ row Q (verdicts-of (1 ∷ []) none (leak 0))
-    ∷ row T (verdicts-of [] none (leak 0))
-    ∷ row T (start-of Weak started)
-    ∷ row T (start-of Strong (not-started 8))
-    ∷ row One (verdicts-of [] (leak 0) (leak 0))
-    ∷ row One (start-of Weak (not-started 8))
-    ∷ row One (start-of Strong (not-started 8))
-    ∷ row U (releases-of Weak (1 ∷ 1 ∷ []) ([] ∷ (1 ∷ 1 ∷ []) ∷ []))
-    ∷ row U (releases-of Strong (1 ∷ 1 ∷ []) ([] ∷ (1 ∷ 1 ∷ []) ∷ []))
+    ∷ about (P 2) (answers-after (1 ∷ 2 ∷ []) (call 2 (refused 7) ∷ call 1 (verdicts (leak 2) (leak 2)) ∷ []))
+    ∷ about (P 2) (answers-after (1 ∷ 2 ∷ []) (call 0 (refused 6) ∷ call 200 (refused 6) ∷ []))
+    ∷ about (P 1) (releases-of Weak (1 ∷ 2 ∷ 1 ∷ 1 ∷ []) ((1 ∷ []) ∷ [] ∷ (2 ∷ 1 ∷ []) ∷ (1 ∷ []) ∷ []))
+    ∷ about (P 0) (releases-of Weak (1 ∷ 2 ∷ 1 ∷ 1 ∷ []) ((1 ∷ []) ∷ (2 ∷ []) ∷ (1 ∷ []) ∷ (1 ∷ []) ∷ []))
+    ∷ about (P 0) (releases-of Strong (1 ∷ 2 ∷ 1 ∷ 1 ∷ []) ((1 ∷ []) ∷ (2 ∷ []) ∷ (1 ∷ []) ∷ (1 ∷ []) ∷ []))
+    ∷ about Q (verdicts-of (1 ∷ []) none (leak 0))
+    ∷ description (q-bytes 0x04 0x04) (automaton Q)
+    -- without its last byte; last byte 05; one more 00; fourth byte 05
+    ∷ description (take 8 (q-bytes 0x04 0x04)) (refusal 1)
+    ∷ description (q-bytes 0x04 0x05) (refusal 5)
+    ∷ description (q-bytes 0x04 0x04 ++ 0x00 ∷ []) (refusal 5)
+    ∷ description (q-bytes 0x05 0x04) (refusal 2)
+    ∷ about T (verdicts-of [] none (leak 0))
+    ∷ about T (start-of Weak started)
+    ∷ about T (start-of Strong (not-started 8))
+    ∷ about One (verdicts-of [] (leak 0) (leak 0))
+    ∷ about One (start-of Weak (not-started 8))
+    ∷ about One (start-of Strong (not-started 8))
+    ∷ about U (releases-of Weak (1 ∷ 1 ∷ []) ([] ∷ (1 ∷ 1 ∷ []) ∷ []))
+    ∷ about U (releases-of Strong (1 ∷ 1 ∷ []) ([] ∷ (1 ∷ 1 ∷ []) ∷ []))
+    ∷ description p-bytes (automaton (P 2))
     ∷ []
 
 -- the statement; the proof is every-row-holds of proofs/EveryRow

@@ -1,5 +1,5 @@
 -- The mission's second point, from what each call promises. Assumes nothing.
-use mathlib.Core.Path.{refl}
+use mathlib.Core.Path.{_≡_, refl}
 use mathlib.Core.List.{List, [], _++_, append-assoc, append-nil}
 use mathlib.Core.Logic.{inl, inr}
 use Prim.Native.Nat.{ℕ}
@@ -52,3 +52,11 @@ pub second-point : (t : List ℕ) (h : Header) (v w : Steps) (s : Estimator) (cs
 second-point t h v w s cs e (opened sound li x) f =
     let y = follow t h sound [] s cs e (x .grown) f in
     record { opening = right t h [] v w s x; answered = y .answered; grown = y .grown }
+
+-- what a refused start hands back is no estimator: every byte offered to it, with every table and header, gets 9
+pub refused-fresh : (t : List ℕ) (h : Header) (n : ℕ) (s : Estimator) → Opening t h (refused n) s
+    → (t′ : List ℕ) (h′ : Header) (byte : ℕ) (r : Said) (m : Estimator) → Accepting t′ h′ s byte r m → r ≡ refused 9
+refused-fresh t h n s x t′ h′ byte r m (Accepting.malformed bad) = refl
+refused-fresh t h n s (Opening.malformed bad out) t′ h′ byte r m (not-observable so li never) = absurd (out (h′ .k) (so .back) li)
+refused-fresh t h n s (Opening.malformed bad out) t′ h′ byte r m (incompatible so li ob none) = absurd (out (h′ .k) (so .back) li)
+refused-fresh t h n s (Opening.malformed bad out) t′ h′ byte r m (accepted so li ob after b c exact) = absurd (out (h′ .k) (so .back) li)

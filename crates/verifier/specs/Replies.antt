@@ -1,4 +1,4 @@
--- What a fresh estimator and an offered event give, in the order of 01's refusal table.
+-- What a fresh estimator and an offered event give, in the order that 01 gives below its refusal table.
 use mathlib.Core.List.{List, [], _∷_, _++_}
 use Prim.Native.Nat.{ℕ, _≤_}
 use Rattle.automaton.specs.Run.{automatonOf, Possible, Impossible, Observable, Sound}

@@ -13,7 +13,7 @@ ghost use Rattle.verifier.specs.Estimators.{Limits, Grown};
 ghost use Rattle.verifier.specs.Replies.{said, Opening, Accepting};
 ghost use Rattle.verifier.specs.Inner.{Pushed, Next, Prepared, Found, Judged};
 
-// The paper's "none", or "leak" with its steps.
+// 01's "none", or "leak" with its steps.
 pub enum Verdict {
     NoLeak,
     Leak(u8),

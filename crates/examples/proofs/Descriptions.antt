@@ -1,0 +1,71 @@
+-- A check that a description says what a row says: the layout is computed, and compared field by field. Assumes nothing.
+use mathlib.Core.Path.{_≡_, refl, ap, ap₂}
+use mathlib.Core.Bool.{Bool, true, false, _&&_}
+use mathlib.Core.List.{List, [], _∷_}
+use Prim.Native.Nat.{ℕ}
+use lib.Dec.{T, eqb, eqb→eq}
+use Rattle.automaton.specs.declared.Header.{Header}
+use Rattle.bitfields.specs.Bits.{bitsOf}
+use Rattle.encoding.specs.Transitions.{Transition, sameTransition}
+use Rattle.encoding.specs.Encoding.{encoding}
+use Rattle.examples.specs.Meaning.{Example, Contents, automaton, refusal, contentsOf}
+use Rattle.examples.proofs.Booleans.{and-left, and-right}
+use Rattle.examples.proofs.Checks.{Check, by}
+use Rattle.examples.proofs.SearchLaws.{triple, transition-is}
+
+abbrev sameHeader : Header → Header → Bool
+sameHeader a b = eqb (a .initial) (b .initial) && (eqb (a .k) (b .k) && (eqb (a .secret) (b .secret) && eqb (a .observable) (b .observable)))
+
+same-header : (a b : Header) → T (sameHeader a b) → a ≡ b
+same-header a b t =
+    let initial = eqb (a .initial) (b .initial) in
+    let k = eqb (a .k) (b .k) in
+    let secret = eqb (a .secret) (b .secret) in
+    let observable = eqb (a .observable) (b .observable) in
+    let after-initial = and-right initial (k && (secret && observable)) t in
+    let after-k = and-right k (secret && observable) after-initial in
+    let i-is : a .initial ≡ b .initial = eqb→eq (a .initial) (b .initial) (and-left initial (k && (secret && observable)) t) in
+    let k-is : a .k ≡ b .k = eqb→eq (a .k) (b .k) (and-left k (secret && observable) after-initial) in
+    let s-is : a .secret ≡ b .secret = eqb→eq (a .secret) (b .secret) (and-left secret observable after-k) in
+    let o-is : a .observable ≡ b .observable = eqb→eq (a .observable) (b .observable) (and-right secret observable after-k) in
+    λ i. record { initial = i-is i; k = k-is i; secret = s-is i; observable = o-is i }
+
+abbrev sameTransitions : List Transition → List Transition → Bool
+sameTransitions [] [] = true
+sameTransitions [] (y ∷ ys) = false
+sameTransitions (x ∷ xs) [] = false
+sameTransitions (x ∷ xs) (y ∷ ys) = sameTransition x y && sameTransitions xs ys
+
+same-transition : (x y : Transition) → T (sameTransition x y) → x ≡ y
+same-transition x y t =
+    let e = transition-is (x .from) (x .event) (x .to) y t in
+    let same : triple (x .from) (x .event) (x .to) ≡ triple (y .from) (y .event) (y .to) = cc in
+    same
+
+same-transitions : (xs ys : List Transition) → T (sameTransitions xs ys) → xs ≡ ys
+same-transitions [] [] t = refl
+same-transitions [] (y ∷ ys) t = absurd t
+same-transitions (x ∷ xs) [] t = absurd t
+same-transitions (x ∷ xs) (y ∷ ys) t =
+    ap₂ (λ (a : Transition) (rest : List Transition). a ∷ rest) (same-transition x y (and-left (sameTransition x y) (sameTransitions xs ys) t))
+    (same-transitions xs ys (and-right (sameTransition x y) (sameTransitions xs ys) t))
+
+abbrev sameContents : Contents → Contents → Bool
+sameContents (automaton a) (automaton b) = sameTransitions (a .transitions) (b .transitions) && sameHeader (a .header) (b .header)
+sameContents (automaton a) (refusal n) = false
+sameContents (refusal n) (automaton b) = false
+sameContents (refusal n) (refusal m) = eqb n m
+
+pub same-contents : (a b : Contents) → T (sameContents a b) → a ≡ b
+same-contents (automaton a) (automaton b) t =
+    let ts = sameTransitions (a .transitions) (b .transitions) in
+    let h = sameHeader (a .header) (b .header) in
+    let transitions : a .transitions ≡ b .transitions = same-transitions (a .transitions) (b .transitions) (and-left ts h t) in
+    let header : a .header ≡ b .header = same-header (a .header) (b .header) (and-right ts h t) in
+    λ i. automaton (record { transitions = transitions i; header = header i })
+same-contents (automaton a) (refusal n) t = absurd t
+same-contents (refusal n) (automaton b) t = absurd t
+same-contents (refusal n) (refusal m) t = ap refusal (eqb→eq n m t)
+
+abbrev pub description? : (bytes : List ℕ) (contents : Contents) → Check (contentsOf (encoding (bitsOf bytes) 0) ≡ contents)
+description? bytes contents = by (sameContents (contentsOf (encoding (bitsOf bytes) 0)) contents) (same-contents (contentsOf (encoding (bitsOf bytes) 0)) contents)

@@ -1,0 +1,122 @@
+-- What is saved reads back: a header, an estimator and an enforcer, whose numbers fit their bytes and whose arrays have their sizes. Assumes nothing.
+use Prim.Native.Nat.{ℕ, zero, suc, _+_, _*_, _/_, _%_, _^_, _≤_, _<_}
+use mathlib.Core.Path.{_≡_, refl, ap, sym, subst, _∙_}
+use mathlib.Core.List.{List, [], _∷_, _++_, append-assoc, append-nil}
+use native.Mathlib.Omega.{arith}
+use lib.Pow.{pow-add}
+use lib.ListN.{length, getD, take, drop, length-append}
+use lib.Seq.{append-snoc, take-at, drop-at, getD-at}
+use Rattle.automaton.specs.declared.Header.{Header}
+use Rattle.verifier.specs.declared.Notion.{Notion}
+use Rattle.verifier.specs.declared.Notion.the-variants.{Weak, Strong}
+use Rattle.verifier.specs.declared.Estimator.{Estimator}
+use Rattle.enforcer.specs.declared.Enforcer.{Enforcer}
+use Rattle.gateway.specs.Layout.{numberAt, bytesOf, wordsAt, wordsBytes, bytesAt, headerAt, headerBytes, estimatorAt, estimatorBytes, notionAt, notionByte, enforcerAt, enforcerBytes}
+use Rattle.gateway.proofs.Bytes.{number-more, number-none, bytes-length}
+use Rattle.gateway.proofs.Saved.{words-bytes-length}
+
+-- a number between other bytes
+number-back : (a b : List ℕ) (n w at : ℕ) → w < 2 ^ (8 * n) → at ≡ length a → numberAt (a ++ (bytesOf n w ++ b)) at n ≡ w
+unfolding bytesOf
+number-back a b zero w at h e = number-none (a ++ b) at ∙ omega arith
+number-back a b (suc n) w at h e =
+    let x = w % 256 in
+    let rest = bytesOf n (w / 256) ++ b in
+    let small : w / 256 < 2 ^ (8 * n) = smaller w n h in
+    let here : getD (a ++ (x ∷ rest)) at 0 ≡ x = getD-at a x rest 0 at (sym e) in
+    let long : suc at ≡ length (a ++ x ∷ []) = omega (arith, length-append a (x ∷ [])) in
+    let later : numberAt (a ++ (x ∷ rest)) (suc at) n ≡ w / 256 =
+    subst (λ (l : List ℕ). numberAt l (suc at) n ≡ w / 256) (append-snoc a x rest) (number-back (a ++ x ∷ []) b n (w / 256) (suc at) small long) in
+    number-more (a ++ (x ∷ rest)) at n ∙ omega (arith, here, later)
+  where
+    smaller : (w n : ℕ) → w < 2 ^ (8 * suc n) → w / 256 < 2 ^ (8 * n)
+    smaller w n h =
+        let e : 8 * suc n ≡ 8 * n + 8 = omega arith in
+        omega (arith, rw e at h, pow-add 2 (8 * n) 8)
+
+-- bytes between other bytes
+part-back : (a xs b : List ℕ) (at n : ℕ) → at ≡ length a → n ≡ length xs → bytesAt (a ++ (xs ++ b)) at n ≡ xs
+part-back a xs b at n e f = ap (take n) (drop-at a (xs ++ b) at (sym e)) ∙ take-at xs b n (sym f)
+
+-- words between other bytes
+abbrev pub Words : List ℕ → Type 0
+Words [] = Unit {0}
+Words (w ∷ ws) = (w < 2 ^ 64) × Words ws
+
+words-back : (ws a b : List ℕ) (at : ℕ) → Words ws → at ≡ length a → wordsAt (a ++ (wordsBytes ws ++ b)) at (length ws) ≡ ws
+unfolding wordsAt wordsBytes
+words-back [] a b at small e = refl
+words-back (w ∷ ws) a b at small e =
+    let all : a ++ ((bytesOf 8 w ++ wordsBytes ws) ++ b) ≡ a ++ (bytesOf 8 w ++ (wordsBytes ws ++ b)) = ap (λ (l : List ℕ). a ++ l) (append-assoc (bytesOf 8 w) (wordsBytes ws) b) in
+    let next : a ++ ((bytesOf 8 w ++ wordsBytes ws) ++ b) ≡ (a ++ bytesOf 8 w) ++ (wordsBytes ws ++ b) = all ∙ sym (append-assoc a (bytesOf 8 w) (wordsBytes ws ++ b)) in
+    let first : numberAt (a ++ ((bytesOf 8 w ++ wordsBytes ws) ++ b)) at 8 ≡ w =
+    ap (λ (l : List ℕ). numberAt l at 8) all ∙ number-back a (wordsBytes ws ++ b) 8 w at (small .0) e in
+    let long : at + 8 ≡ length (a ++ bytesOf 8 w) = omega (arith, length-append a (bytesOf 8 w), bytes-length 8 w) in
+    let others : wordsAt (a ++ ((bytesOf 8 w ++ wordsBytes ws) ++ b)) (at + 8) (length ws) ≡ ws =
+    ap (λ (l : List ℕ). wordsAt l (at + 8) (length ws)) next ∙ words-back ws (a ++ bytesOf 8 w) b (at + 8) (small .1) long in
+    λ i. first i ∷ others i
+
+pub record HeaderSized (h : Header) : Type 0 where
+  pub secret : h .secret < 2 ^ 64
+  pub observable : h .observable < 2 ^ 32
+
+pub header-back : (h : Header) → HeaderSized h → headerAt (headerBytes h) ≡ h
+header-back h x =
+    let front = h .initial ∷ h .k ∷ [] in
+    let s : numberAt (headerBytes h) 2 8 ≡ h .secret = number-back front (bytesOf 4 (h .observable)) 8 (h .secret) 2 (x .secret) refl in
+    let o : numberAt (headerBytes h) 10 4 ≡ h .observable =
+    ap (λ (l : List ℕ). numberAt (h .initial ∷ h .k ∷ bytesOf 8 (h .secret) ++ l) 10 4) (sym (append-nil (bytesOf 4 (h .observable))))
+    ∙ number-back (h .initial ∷ h .k ∷ bytesOf 8 (h .secret)) [] 4 (h .observable) 10 (x .observable) (omega (arith, bytes-length 8 (h .secret))) in
+    λ i. record { initial = h .initial; k = h .k; secret = s i; observable = o i }
+
+-- an estimator as the code has it: the arrays have their sizes, and the state sets are words
+pub record EstimatorSized (s : Estimator) : Type 0 where
+  pub events : length (s .events) ≡ 15
+  pub entries : length (s .entries) ≡ 16
+  pub words : Words (s .entries)
+
+-- with other bytes behind, as in an enforcer
+estimator-in : (s : Estimator) (b : List ℕ) → EstimatorSized s → estimatorAt (s .count ∷ s .events ++ wordsBytes (s .entries) ++ b) ≡ s
+estimator-in s b x =
+    let all = s .count ∷ s .events ++ wordsBytes (s .entries) ++ b in
+    let split : all ≡ (s .count ∷ s .events) ++ (wordsBytes (s .entries) ++ b) = ap (λ (l : List ℕ). s .count ∷ l) (append-assoc (s .events) (wordsBytes (s .entries)) b) in
+    let events : bytesAt all 1 15 ≡ s .events = ap (λ (l : List ℕ). bytesAt l 1 15) split ∙ part-back (s .count ∷ []) (s .events) (wordsBytes (s .entries) ++ b) 1 15 refl (sym (x .events)) in
+    let entries : wordsAt all 16 16 ≡ s .entries =
+    ap (λ (l : List ℕ). wordsAt l 16 16) split ∙ ap (λ (n : ℕ). wordsAt ((s .count ∷ s .events) ++ (wordsBytes (s .entries) ++ b)) 16 n) (sym (x .entries))
+    ∙ words-back (s .entries) (s .count ∷ s .events) b 16 (x .words) (omega (arith, x .events)) in
+    λ i. record { count = s .count; events = events i; entries = entries i }
+
+pub estimator-back : (s : Estimator) → EstimatorSized s → estimatorAt (estimatorBytes s) ≡ s
+estimator-back s x = ap estimatorAt (sym (append-nil (estimatorBytes s))) ∙ estimator-in s [] x
+
+pub record EnforcerSized (s : Enforcer) : Type 0 where
+  pub estimator : EstimatorSized (s .estimator)
+  pub pending : length (s .pending) ≡ 16
+  pub waits : length (s .waits) ≡ 16
+
+notion-back : (notion : Notion) → notionAt (notionByte notion) ≡ notion
+notion-back Weak = refl
+notion-back Strong = refl
+
+pub enforcer-back : (s : Enforcer) → EnforcerSized s → enforcerAt (enforcerBytes s) ≡ s
+enforcer-back s x =
+    let e = estimatorBytes (s .estimator) in
+    let n = notionByte (s .notion) in
+    let long : length e ≡ 144 =
+    ap suc (length-append (s .estimator .events) (wordsBytes (s .estimator .entries)) ∙ omega (arith, x .estimator .events, x .estimator .entries, words-bytes-length (s .estimator .entries))) in
+    let all = enforcerBytes s in
+    let flat : all ≡ e ++ (n ∷ s .count ∷ s .pending ++ s .waits) = append-assoc e (n ∷ s .count ∷ s .pending) (s .waits) in
+    let middle : all ≡ (e ++ n ∷ s .count ∷ []) ++ (s .pending ++ s .waits) = flat ∙ sym (append-assoc e (n ∷ s .count ∷ []) (s .pending ++ s .waits)) in
+    let last : all ≡ (e ++ n ∷ s .count ∷ s .pending) ++ (s .waits ++ []) = ap (λ (l : List ℕ). (e ++ n ∷ s .count ∷ s .pending) ++ l) (sym (append-nil (s .waits))) in
+    let estimator : estimatorAt all ≡ s .estimator = ap estimatorAt flat ∙ estimator-in (s .estimator) (n ∷ s .count ∷ s .pending ++ s .waits) (x .estimator) in
+    let notion : notionAt (getD all 144 0) ≡ s .notion =
+    ap notionAt (ap (λ (l : List ℕ). getD l 144 0) flat ∙ getD-at e n (s .count ∷ s .pending ++ s .waits) 0 144 long) ∙ notion-back (s .notion) in
+    let count : getD all 145 0 ≡ s .count =
+    ap (λ (l : List ℕ). getD l 145 0) (flat ∙ sym (append-snoc e n (s .count ∷ s .pending ++ s .waits)))
+    ∙ getD-at (e ++ n ∷ []) (s .count) (s .pending ++ s .waits) 0 145 (length-append e (n ∷ []) ∙ omega arith) in
+    let pending : bytesAt all 146 16 ≡ s .pending =
+    ap (λ (l : List ℕ). bytesAt l 146 16) middle ∙ part-back (e ++ n ∷ s .count ∷ []) (s .pending) (s .waits) 146 16 (omega (arith, length-append e (n ∷ s .count ∷ []))) (sym (x .pending)) in
+    let waits : bytesAt all 162 16 ≡ s .waits =
+    ap (λ (l : List ℕ). bytesAt l 162 16) last
+    ∙ part-back (e ++ n ∷ s .count ∷ s .pending) (s .waits) [] 162 16 (omega (arith, length-append e (n ∷ s .count ∷ s .pending), x .pending)) (sym (x .waits)) in
+    λ i. record { estimator = estimator i; notion = notion i; count = count i; pending = pending i; waits = waits i }

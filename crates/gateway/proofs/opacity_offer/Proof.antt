@@ -1,0 +1,107 @@
+-- `gateway::opacity_offer` meets its contract.
+use native.Mathlib.Omega.{arith}
+use denote.Ref.{now}
+use Rattle.gateway.specs.Interface.{Offer}
+use Rattle.gateway.proofs.Entries.{offer-refused, offer-released}
+use borrow.Author.Needs.{needs}
+use Rattle.gateway.proofs.opacity_offer.Statement.{statement}
+use Rattle.gateway.proofs.opacity_offer.Tie as tie
+
+returns : tie.Need-returns
+returns c = Offer.size (λ s. c .if1 .taken (s .header-size))
+
+returns-2 : tie.Need-returns-2
+returns-2 c = Offer.size (λ s. c .if2 .taken (s .enforcer-size))
+
+slice-read-if3 : tie.Need-slice-read-if3
+slice-read-if3 c = search needs
+
+returns-3 : tie.Need-returns-3
+returns-3 c = Offer.size (λ s. omega (arith, c .if3 .taken, s .notion-known))
+
+returns-4 : tie.Need-returns-4
+returns-4 c = Offer.size (λ s. c .if4 .taken (s .released-size))
+
+read-enforcer-requires : tie.Need-read-enforcer-requires
+read-enforcer-requires c κs = search needs
+
+read-header-requires : tie.Need-read-header-requires
+read-header-requires c κs = search needs
+
+offer-requires : tie.Need-offer-requires
+offer-requires c κs = search needs
+
+enum-known-answer : tie.Need-enum-known-answer
+enum-known-answer c = search needs
+
+number-requires : tie.Need-number-requires
+number-requires c κs = search needs
+
+enum-known-answer-2 : tie.Need-enum-known-answer-2
+enum-known-answer-2 c = search needs
+
+write-enforcer-requires : tie.Need-write-enforcer-requires
+write-enforcer-requires c κs = search needs
+
+put-requires : tie.Need-put-requires
+put-requires c κs = search needs
+
+same-length : tie.Need-same-length
+same-length c = search needs
+
+same-length-2 : tie.Need-same-length-2
+same-length-2 c = search needs
+
+returns-5 : tie.Need-returns-5
+returns-5 c =
+    let a = c .before .before .before .before .before .before .before .before .before .before .before .before .before .before .before .before .before .before .before .before .before .args in
+    let called = c .before .before .before .before .before .before .offer in
+    offer-refused (now (a .table)) (now (a .header)) (a .event) (now (a .enforcer)) (now (a .output)) (now (a .released)) _ (c .before .before .before .before .before .before .before .before .read-header .result) (c .before .before .before .before .before .before .before .before .before .read-enforcer .result)
+    (called .result .enforcer) (called .result .answer)
+    (record { header-size = c .before .before .before .before .before .before .before .before .before .before .before .before .before .before .before .if1 .left; enforcer-size = c .before .before .before .before .before .before .before .before .before .before .before .before .before .before .if2 .left; notion-known = omega (arith, c .before .before .before .before .before .before .before .before .before .before .before .before .if3 .left); released-size = c .before .before .before .before .before .before .before .before .before .before .before .if4 .left })
+    (c .before .before .before .before .before .before .before .before .read-header .ensures) (c .before .before .before .before .before .before .before .before .before .read-enforcer .ensures) (called .ensures)
+    (c .before .before .answer .given .0 .0) _ (c .before .before .answer .given .1) (c .number .ensures)
+
+same-length-3 : tie.Need-same-length-3
+same-length-3 c = search needs
+
+same-length-4 : tie.Need-same-length-4
+same-length-4 c = search needs
+
+same-length-5 : tie.Need-same-length-5
+same-length-5 c = search needs
+
+returns-6 : tie.Need-returns-6
+returns-6 c =
+    let a = c .before .before .before .before .before .before .before .before .before .before .before .before .before .before .before .before .before .before .before .before .before .before .before .before .before .before .before .before .before .args in
+    let called = c .before .before .before .before .before .before .before .before .before .before .before .before .before .before .offer in
+    offer-released (now (a .table)) (now (a .header)) (a .event) (now (a .enforcer)) (now (a .output)) (now (a .released)) _ (c .before .before .before .before .before .before .before .before .before .before .before .before .before .before .before .before .read-header .result) (c .before .before .before .before .before .before .before .before .before .before .before .before .before .before .before .before .before .read-enforcer .result)
+    (called .result .enforcer) (called .result .answer)
+    (record { header-size = c .before .before .before .before .before .before .before .before .before .before .before .before .before .before .before .before .before .before .before .before .before .before .before .if1 .left; enforcer-size = c .before .before .before .before .before .before .before .before .before .before .before .before .before .before .before .before .before .before .before .before .before .before .if2 .left; notion-known = omega (arith, c .before .before .before .before .before .before .before .before .before .before .before .before .before .before .before .before .before .before .before .before .if3 .left); released-size = c .before .before .before .before .before .before .before .before .before .before .before .before .before .before .before .before .before .before .before .if4 .left })
+    (c .before .before .before .before .before .before .before .before .before .before .before .before .before .before .before .before .read-header .ensures) (c .before .before .before .before .before .before .before .before .before .before .before .before .before .before .before .before .before .read-enforcer .ensures) (called .ensures)
+    (c .before .before .before .before .before .before .before .before .before .before .answer2 .given .0 .0) _ _ (c .before .before .before .before .before .before .before .before .before .before .answer2 .given .1) (c .before .before .before .before .before .before .write-enforcer .ensures) (c .before .before .put .ensures)
+
+pub opacity-offer-spec : {M : Type 1} → statement M
+opacity-offer-spec =
+    tie.close
+    (tie.spec
+    returns
+    returns-2
+    slice-read-if3
+    returns-3
+    returns-4
+    read-enforcer-requires
+    read-header-requires
+    offer-requires
+    enum-known-answer
+    number-requires
+    enum-known-answer-2
+    write-enforcer-requires
+    put-requires
+    same-length
+    same-length-2
+    returns-5
+    same-length-3
+    same-length-4
+    same-length-5
+    returns-6)

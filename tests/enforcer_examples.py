@@ -3,7 +3,7 @@
     python3 tests/enforcer_examples.py > crates/enforcer_examples/stdout
 """
 
-from examples import P, P0, P1, U
+from examples import CORNERS, P, P0, P1, U
 from logs import INCOMPATIBLE, INITIAL_LEAK, NOT_OBSERVABLE
 from runs import Automaton, Listing
 
@@ -53,6 +53,8 @@ def main():
             offers(automaton, notion, ((1, 17),))
     for notion in ("weak", "strong"):
         offers(U, notion, ((1, 17),) * 3)
+    for notion in ("weak", "strong"):
+        offers(CORNERS, notion, ((0, 17), (32, 17)) + ((31, 17),) * 18)
     # saved enforcers that no call handed back, K 1: 3 events pending; event 32 pending; event 32 in a place that is not used
     print(f"saved !{MALFORMED} | 3")
     print(f"saved !{MALFORMED} | 2")

@@ -3,7 +3,7 @@
     python3 tests/verifier_examples.py > crates/verifier_examples/stdout
 """
 
-from examples import ONE, P, P0, P1, Q, T, U
+from examples import ALL_SECRET, CORNERS, NONE_SECRET, ONE, P, P0, P1, Q, T, U
 from logs import INCOMPATIBLE, NOT_OBSERVABLE, steps
 from runs import Listing
 
@@ -44,6 +44,9 @@ def main():
     malformed((1,))  # the header that a refused decoding hands back
     for automaton in (P, P1, P0):
         observe(automaton, (1, 2, 2, 0, 200, 1, 1))
+    observe(CORNERS, (0, 32, 255) + (31,) * 18)
+    observe(ALL_SECRET, (31, 0, 31))
+    observe(NONE_SECRET, (31, 0, 31))
     for _ in ("K 16", "K 255", "initial 64", "2,047 words"):
         malformed((1,))
     print(1, "!", MALFORMED)  # a good estimator, with the initial state 64

@@ -159,6 +159,37 @@ fn show_u() {
     offer_u(&u, header_of(0, 2, 2), Notion::Strong);
 }
 
+// The corners: states 61 to 63, event 31 and K 15. The first event makes the reader sure of the secret state 62: 16 events wait, and the next one
+// releases 17.
+fn offer_corners(table: &[u64], header: Header, notion: Notion) {
+    let mut s = start(table, header, notion);
+    s = offer(s, table, header, 0);
+    s = offer(s, table, header, 32);
+    let mut n: u8 = 0;
+    while n < 18 {
+        s = offer(s, table, header, 31);
+        n += 1;
+    }
+    end(s);
+}
+
+fn show_corners() {
+    let mut t = [0u64; 2048];
+    t[2047] = 1 << 62;
+    t[2046] = 1 << 61;
+    t[2045] = 1 << 61;
+    t[61] = 1 << 60;
+    t[60] = 1 << 61;
+    let header = Header {
+        initial: 63,
+        k: 15,
+        secret: 1 << 62,
+        observable: 1 << 31,
+    };
+    offer_corners(&t, header, Notion::Weak);
+    offer_corners(&t, header, Notion::Strong);
+}
+
 // One that did not grow from a fresh one, on the automaton of one state that takes event 1: `count` times `event` is pending, and waits for long.
 fn saved(table: &[u64], header: Header, count: u8, event: u8) -> Enforcer {
     let begun = Enforcer::start(table, header, Notion::Weak);
@@ -245,5 +276,6 @@ fn main() {
     show_p();
     show_t();
     show_u();
+    show_corners();
     show_saved();
 }

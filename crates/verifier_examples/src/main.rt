@@ -120,6 +120,62 @@ fn show_others(table: &mut [u64]) {
     show(&u, table, &bytes);
 }
 
+// The corners: states 60 to 63, event 31, K 15, and a cycle of unobservable transitions. The secret state 62 is passed once, and then further and
+// further back; bytes 0, 32 and 255 are refused.
+fn show_corners() {
+    let mut table = [0u64; 2048];
+    table[2047] = 1 << 62;
+    table[2046] = 1 << 61;
+    table[2045] = 1 << 61;
+    table[61] = 1 << 60;
+    table[60] = 1 << 61;
+    let header = Header {
+        initial: 63,
+        k: 15,
+        secret: 1 << 62,
+        observable: 1 << 31,
+    };
+    let bytes = [
+        0u8,
+        32,
+        255,
+        31,
+        31,
+        31,
+        31,
+        31,
+        31,
+        31,
+        31,
+        31,
+        31,
+        31,
+        31,
+        31,
+        31,
+        31,
+        31,
+        31,
+        31,
+    ];
+    observe(&table, header, &bytes);
+}
+
+// Every transition, and every state secret; then none.
+fn show_full() {
+    let table = [0xffff_ffff_ffff_ffffu64; 2048];
+    let mut header = Header {
+        initial: 63,
+        k: 15,
+        secret: 0xffff_ffff_ffff_ffff,
+        observable: 0xffff_ffff,
+    };
+    let bytes = [31u8, 0, 31];
+    observe(&table, header, &bytes);
+    header.secret = 0;
+    observe(&table, header, &bytes);
+}
+
 // An estimator that no call handed back.
 fn saved(count: u8, event: u8, entry: u64) -> Estimator {
     Estimator {
@@ -201,6 +257,8 @@ fn main() {
     let mut table = [0u64; 2048];
     show_others(&mut table);
     show_p(&mut table);
+    show_corners();
+    show_full();
     show_malformed(&table);
     show_limits(&table);
     show_open(saved(2, 31, 0), &table);

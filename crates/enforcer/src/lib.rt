@@ -214,7 +214,7 @@ impl Enforcer {
     }
 
     // The table and the header are an automaton, and the enforcer is within its limits.
-    fn sound(self, table: &[u64], header: Header) -> bool
+    pub fn sound(self, table: &[u64], header: Header) -> bool
         ensures { λ r. ⌜ Decided r (Sound (now (table .entry)) header × Limits (header .k) self) ⌝ }
     {
         let estimator = self.estimator;

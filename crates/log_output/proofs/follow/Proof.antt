@@ -1,0 +1,97 @@
+use borrow.Author.Needs.{needs}
+use native.Mathlib.Omega.{arith}
+use Prim.Native.Nat.{ℕ, _≤_, _+_, _-_}
+use mathlib.Core.Path.{_≡_, _∙_}
+use mathlib.Core.List.{List}
+use denote.Ref.{now}
+use lib.ListN.{length, take, drop, length-take}
+use Rattle.log_output.proofs.follow.Statement.{statement}
+use Rattle.log_output.proofs.follow.Tie as tie
+
+abbrev Inv-loop : tie.InvT-loop
+Inv-loop table header events out₀ now₀ i₀ out now i = (i ≤ length events) × (length out ≡ length out₀)
+
+abbrev μ-loop : tie.MeasureT-loop
+μ-loop table header events out₀ now₀ i₀ out now i = length events - i
+
+-- the bytes that were taken are among those of the read
+part-within : (l : List ℕ) (i n : ℕ) → i ≤ length l → n ≤ length (take (length l - i) (drop i l)) → i + n ≤ length l
+part-within l i n h k = omega (arith, length-take (length l - i) (drop i l))
+
+behind : (x : tie.Else2 Inv-loop μ-loop) → x .before .before .before .before .before .before .before .before .before .before .before .before .loop .i + x .before .before .before .before .advance .result .taken ≤ length (now (x .before .before .before .before .before .before .before .before .before .before .before .before .before .before .before .before .args .events))
+behind x = part-within (now (x .before .before .before .before .before .before .before .before .before .before .before .before .before .before .before .before .args .events)) (x .before .before .before .before .before .before .before .before .before .before .before .before .loop .i) (x .before .before .before .before .advance .result .taken) (x .before .before .before .before .before .before .before .before .before .before .before .before .loop .inv .0) (x .before .before .before .before .advance .ensures)
+
+loop-holds : tie.Need-loop-holds Inv-loop μ-loop
+loop-holds c = search needs
+
+with-room-requires : tie.Need-with-room-requires Inv-loop μ-loop
+with-room-requires c κs = search needs
+
+going-requires : tie.Need-going-requires Inv-loop μ-loop
+going-requires c κs = search needs
+
+same-length : tie.Need-same-length Inv-loop μ-loop
+same-length c = search needs
+
+returns : tie.Need-returns Inv-loop μ-loop
+returns c = search needs
+
+sub-advance : tie.Need-sub-advance Inv-loop μ-loop
+sub-advance c = search needs
+
+part-advance-start : tie.Need-part-advance-start Inv-loop μ-loop
+part-advance-start c = search needs
+
+part-advance-end : tie.Need-part-advance-end Inv-loop μ-loop
+part-advance-end c = search needs
+
+advance-requires : tie.Need-advance-requires Inv-loop μ-loop
+advance-requires c κs = search needs
+
+with-status-requires : tie.Need-with-status-requires Inv-loop μ-loop
+with-status-requires c κs = search needs
+
+same-length-2 : tie.Need-same-length-2 Inv-loop μ-loop
+same-length-2 c = c .before .before .before .before .before .advance .kept .1 .1 .1 .1 .0 ∙ c .before .before .before .before .before .before .before .before .before .before .before .before .before .loop .inv .1
+
+returns-2 : tie.Need-returns-2 Inv-loop μ-loop
+returns-2 c = search needs
+
+add-i : tie.Need-add-i Inv-loop μ-loop
+add-i c = omega (arith, behind c, c .before .before .before .before .before .before .before .before .before .before .before .before .before .before .before .before .good)
+
+loop-less : tie.Need-loop-less Inv-loop μ-loop
+loop-less c = omega (arith, behind c, c .if2 .left)
+
+loop-again : tie.Need-loop-again Inv-loop μ-loop
+loop-again c = (behind c, c .before .before .before .before .advance .kept .1 .1 .1 .1 .0 ∙ c .before .before .before .before .before .before .before .before .before .before .before .before .loop .inv .1)
+
+same-length-3 : tie.Need-same-length-3 Inv-loop μ-loop
+same-length-3 c = search needs
+
+returns-3 : tie.Need-returns-3 Inv-loop μ-loop
+returns-3 c = search needs
+
+pub follow-spec : {M : Type 1} → statement M
+follow-spec =
+    tie.close
+    (tie.spec
+    Inv-loop
+    μ-loop
+    loop-holds
+    with-room-requires
+    going-requires
+    same-length
+    returns
+    sub-advance
+    part-advance-start
+    part-advance-end
+    advance-requires
+    with-status-requires
+    same-length-2
+    returns-2
+    add-i
+    loop-less
+    loop-again
+    same-length-3
+    returns-3)

@@ -1,0 +1,5 @@
+-- Laws that belong to no one function.
+pub mod Outcomes
+pub mod Following
+pub mod Openings
+pub mod LogPromise

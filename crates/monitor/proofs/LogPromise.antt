@@ -1,0 +1,164 @@
+-- What a log prints is what the definitions say. Assumes nothing.
+use mathlib.Core.Path.{_≡_, refl, sym, ap, subst, _∙_}
+use mathlib.Core.List.{List, [], _∷_, _++_}
+use Prim.Native.Nat.{ℕ, _+_, _-_}
+use native.Mathlib.Omega.{arith}
+use lib.ListN.{length, take, drop, length-append}
+use Rattle.automaton.specs.Run.{automatonOf, Sound, Observable, Possible}
+use Rattle.automaton.specs.declared.Header.{Header}
+use Rattle.automaton.specs.declared.Refusal.{Refusal}
+use Rattle.automaton.specs.declared.Refusal.the-variants.{NotObservable, Incompatible}
+use Rattle.automaton.specs.Refusals.{numberOf}
+use Rattle.verifier.specs.declared.Notion.the-variants.{Weak, Strong}
+use Rattle.verifier.specs.declared.Estimator.{Estimator}
+use Rattle.verifier.specs.declared.Verdicts.{Verdicts}
+use Rattle.verifier.specs.Verdicts.{Steps, stepsOf}
+use Rattle.verifier.specs.Estimators as estimators
+use Rattle.verifier.specs.Replies as verifier
+use Rattle.verifier.specs.Replies.{Accepting}
+use Rattle.verifier.specs.Calls.{Right}
+use Rattle.verifier.proofs.Exactness.{exactly}
+use Rattle.verifier.proofs.Growing.{grown-limits}
+use Rattle.enforcer.specs.declared.Enforcer.{Enforcer}
+use Rattle.enforcer.specs.Enforcers as enforcers
+use Rattle.enforcer.specs.Offerings as enforcer
+use Rattle.enforcer.specs.Offerings.{Offering}
+use Rattle.enforcer.specs.SafePrefix.{Safe}
+use Rattle.enforcer.proofs.Lists.{passes-accepted}
+use Rattle.report.specs.Text.{decimal, line, acceptedLine, refusedLine}
+use Rattle.monitor.specs.Stepping.{offeredOnce, acceptedOnce, not-verified, not-enforced, accepted, Lines, done, next}
+use Rattle.monitor.specs.Opening.{started, encodingOf, Opening, opened}
+use Rattle.monitor.specs.LogText as log
+use Rattle.monitor.specs.LogText.{Released, Prints, Promise}
+use Rattle.monitor.specs.declared.Monitor.{Monitor}
+use Rattle.monitor.proofs.Openings.{decoded-sound}
+
+-- a refused event's line depends on the number alone
+refused-as : (b : ℕ) (r q : Refusal) → numberOf q ≡ numberOf r → refusedLine b r ≡ refusedLine b q
+refused-as b r q e = ap (λ (n : ℕ). line ((33 ∷ []) ∷ decimal b ∷ decimal n ∷ [])) (sym e)
+
+module _ (t : List ℕ) (h : Header) (sound : Sound t h) where
+  -- a monitor after the accepted events, of which r are released
+  record After (trace : List ℕ) (r : ℕ) (m : Monitor) : Type 0 where
+    estimator : estimators.Grown (automatonOf t h) (h .k) trace (m .estimator)
+    enforcer : enforcers.Grown Weak (automatonOf t h) (h .secret) (h .k) trace (m .enforcer)
+    accepted : m .accepted ≡ length trace
+    released : m .released ≡ r
+    pending : r + m .enforcer .count ≡ length trace
+
+  after-refused : (trace : List ℕ) (r : ℕ) (m : Monitor) → After trace r m → After trace r (offeredOnce m)
+  after-refused trace r m a = record { estimator = a .estimator; enforcer = a .enforcer; accepted = a .accepted; released = a .released; pending = a .pending }
+
+  -- the verifier refuses with 6 or 7, on their conditions
+  by-verifier : (trace : List ℕ) (r : ℕ) (m : Monitor) (b : ℕ) (q : Refusal) (n : ℕ) (s : Estimator) (bytes rest after : List ℕ) (r′ : ℕ) → After trace r m
+      → numberOf q ≡ n → Accepting t h (m .estimator) b (verifier.refused n) s → Prints t h trace r bytes rest after r′
+      → Prints t h trace r (b ∷ bytes) (refusedLine b q ++ rest) after r′
+  by-verifier trace r m b q n s bytes rest after r′ a e (Accepting.malformed bad) p = absurd (bad (sound, grown-limits (automatonOf t h) (h .k) trace (m .estimator) (a .estimator)))
+  by-verifier trace r m b q n s bytes rest after r′ a e (Accepting.not-observable so li never) p =
+      subst (λ (l : List ℕ). Prints t h trace r (b ∷ bytes) (l ++ rest) after r′) (sym (refused-as b q NotObservable (sym e))) (log.not-observable never p)
+  by-verifier trace r m b q n s bytes rest after r′ a e (Accepting.incompatible so li ob impossible) p =
+      subst (λ (l : List ℕ). Prints t h trace r (b ∷ bytes) (l ++ rest) after r′) (sym (refused-as b q Incompatible (sym e))) (log.incompatible ob (impossible trace (a .estimator)) p)
+
+  -- the enforcer refuses nothing that the verifier accepts
+  agree : (trace : List ℕ) (r : ℕ) (m : Monitor) (b n : ℕ) (v w : Steps) (s : Estimator) (output left : List ℕ) (e : Enforcer) → After trace r m
+      → Accepting t h (m .estimator) b (verifier.verdicts v w) s → length output ≡ 17 → Offering t h (m .enforcer) b output (enforcer.refused n) e left → ⊥
+  agree trace r m b n v w s output left e a acc wide (Offering.malformed bad) = bad (sound, a .enforcer .limits)
+  agree trace r m b n v w s output left e a acc wide (Offering.output-too-small so li small) = omega arith
+  agree trace r m b n v w s output left e a (Accepting.accepted so li ob ls bw bs exact) wide (Offering.not-observable so′ li′ enough never) = never ob
+  agree trace r m b n v w s output left e a (Accepting.accepted so li ob ls bw bs exact) wide (Offering.incompatible so′ li′ enough ob′ impossible) =
+      let x = exact trace (a .estimator) in
+      let p = x .grown .possible in
+      impossible Weak trace (a .enforcer) (p .run) (p .compatible)
+
+  -- an event that both accept
+  record Accepted (trace : List ℕ) (r : ℕ) (m : Monitor) (b : ℕ) (v : Verdicts) (s : Estimator) (f : ℕ) (e : Enforcer) (left : List ℕ) : Type 0 where
+    observable : Observable h b
+    possible : Possible (automatonOf t h) (trace ++ b ∷ [])
+    right : Right t h (trace ++ b ∷ []) (stepsOf (v .weak)) (stepsOf (v .strong))
+    longest : Released t h (trace ++ b ∷ []) (r + f)
+    piece : take f left ≡ take f (drop r (trace ++ b ∷ []))
+    then : After (trace ++ b ∷ []) (r + f) (acceptedOnce m s e f)
+
+  by-both : (trace : List ℕ) (r : ℕ) (m : Monitor) (b : ℕ) (v : Verdicts) (s : Estimator) (f : ℕ) (e : Enforcer) (output left : List ℕ) → After trace r m
+      → Accepting t h (m .estimator) b (verifier.verdicts (stepsOf (v .weak)) (stepsOf (v .strong))) s → Offering t h (m .enforcer) b output (enforcer.released f) e left
+      → Accepted trace r m b v s f e left
+  by-both trace r m b v s f e output left a (Accepting.accepted so li ob ls bw bs exact) (Offering.accepted so′ li′ wide ob′ after bal front rest exact′) =
+      let x = exact trace (a .estimator) in
+      let y = exact′ Weak trace (a .enforcer) in
+      let c = m .enforcer .count in
+      let len : length (trace ++ b ∷ []) ≡ length trace + 1 = length-append trace (b ∷ []) in
+      let here : length trace - c ≡ r = omega (arith, a .pending) in
+      let there : length (trace ++ b ∷ []) - e .count ≡ r + f = omega (arith, a .pending) in
+      let passes = passes-accepted (Safe Weak (automatonOf t h) (h .secret) (h .k)) trace c (m .enforcer .pending) (m .enforcer .waits) b f output left (e .count) (a .enforcer .queue) bal front in
+      record {
+        observable = ob;
+        possible = y .possible;
+        right = record { weak = exactly Weak _ _ _ (trace ++ b ∷ []) (stepsOf (v .weak)) (x .weak); strong = exactly Strong _ _ _ (trace ++ b ∷ []) (stepsOf (v .strong)) (x .strong) };
+        longest = subst (Released t h (trace ++ b ∷ [])) there (y .grown .queue .longest);
+        piece = passes .piece ∙ ap (λ (k : ℕ). take f (drop k (trace ++ b ∷ []))) here;
+        then = record {
+          estimator = x .grown;
+          enforcer = y .grown;
+          accepted = omega (arith, a .accepted);
+          released = omega (arith, a .released);
+          pending = omega (arith, a .pending);
+        };
+      }
+
+  print-accepted : (trace : List ℕ) (r : ℕ) (m : Monitor) (b : ℕ) (v : Verdicts) (s : Estimator) (f : ℕ) (e : Enforcer) (left bytes rest after : List ℕ) (r′ : ℕ) → After trace r m
+      → Accepted trace r m b v s f e left → Prints t h (trace ++ b ∷ []) (r + f) bytes rest after r′
+      → Prints t h trace r (b ∷ bytes) (acceptedLine (m .accepted + 1) b (v .weak) (v .strong) (take f left) ++ rest) after r′
+  print-accepted trace r m b v s f e left bytes rest after r′ a x p =
+      subst (λ (l : List ℕ). Prints t h trace r (b ∷ bytes) (acceptedLine (m .accepted + 1) b (v .weak) (v .strong) l ++ rest) after r′) (sym (x .piece))
+      (subst (λ (k : ℕ). Prints t h trace r (b ∷ bytes) (acceptedLine (k + 1) b (v .weak) (v .strong) (take f (drop r (trace ++ b ∷ []))) ++ rest) after r′) (sym (a .accepted))
+      (log.accepted v f (x .observable) (x .possible) (x .right) (x .longest) p))
+
+  -- all event bytes
+  record Ended (trace : List ℕ) (r : ℕ) (bytes text : List ℕ) (e : Monitor) : Type 0 where
+    after : List ℕ
+    prints : Prints t h trace r bytes text after (e .released)
+    accepted : e .accepted ≡ length after
+    pending : e .released + e .enforcer .count ≡ length after
+
+  follow : (trace : List ℕ) (r : ℕ) (m : Monitor) (bytes text : List ℕ) (e : Monitor) → After trace r m → Lines t h m bytes text e → Ended trace r bytes text e
+  follow trace r m bytes text e a done = record {
+    after = trace;
+    prints = subst (λ (k : ℕ). Prints t h trace r [] [] trace k) (sym (a .released)) log.none;
+    accepted = a .accepted;
+    pending = ap (λ (k : ℕ). k + m .enforcer .count) (a .released) ∙ a .pending;
+  }
+  follow trace r m bytes text e a (next {byte = b} {bytes = bs} {rest = rest} (not-verified q {s = s} acc) ls) =
+      let y = follow trace r (offeredOnce m) bs rest e (after-refused trace r m a) ls in
+      record {
+        after = y .after;
+        prints = by-verifier trace r m b q (numberOf q) s bs rest (y .after) (e .released) a refl acc (y .prints);
+        accepted = y .accepted;
+        pending = y .pending;
+      }
+  follow trace r m bytes text e a (next {byte = b} (not-enforced q {v = v} {w = w} {s = s} {e = e′} {output = output} {left = left} acc wide off) ls) =
+      absurd (agree trace r m b (numberOf q) v w s output left e′ a acc wide off)
+  follow trace r m bytes text e a (next {byte = b} {bytes = bs} {rest = rest} (accepted v {s = s} {f = f} {e = e′} {output = output} {left = left} acc wide off) ls) =
+      let x = by-both trace r m b v s f e′ output left a acc off in
+      let y = follow (trace ++ b ∷ []) (r + f) (acceptedOnce m s e′ f) bs rest e (x .then) ls in
+      record {
+        after = y .after;
+        prints = print-accepted trace r m b v s f e′ left bs rest (y .after) (e .released) a x (y .prints);
+        accepted = y .accepted;
+        pending = y .pending;
+      }
+
+-- a log that has started prints what the definitions say, however its bytes were cut into reads (Following, lines-append)
+pub log-promise : (log : List ℕ) (n : ℕ) (t : List ℕ) (h : Header) (m : Monitor) (bytes text : List ℕ) (e : Monitor) → Opening log (started n) t h m → Lines t h m bytes text e
+    → Promise t h bytes text e
+log-promise log n t h m bytes text e (opened within d fresh) ls =
+    let sound = decoded-sound (encodingOf log) (d .before) h t (d .decoding) in
+    let few = fresh .enforcer .queue .few in
+    let a : After t h sound [] 0 m = record {
+      estimator = fresh .estimator;
+      enforcer = fresh .enforcer;
+      accepted = fresh .accepted;
+      released = fresh .released;
+      pending = omega arith;
+    } in
+    let y = follow t h sound [] 0 m bytes text e a ls in
+    record { trace = y .after; prints = y .prints; accepted = y .accepted; pending = y .pending }

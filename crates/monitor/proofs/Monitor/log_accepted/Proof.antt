@@ -1,0 +1,43 @@
+use mathlib.Core.Path.{refl}
+use native.Mathlib.Omega.{arith}
+use Rattle.monitor.proofs.Outcomes.{printed}
+use borrow.Author.Needs.{needs}
+use Rattle.monitor.proofs.Monitor.log_accepted.Statement.{statement}
+use Rattle.monitor.proofs.Monitor.log_accepted.Tie as tie
+
+add-accepted : tie.Need-add-accepted
+add-accepted c = search needs
+
+accepted-requires : tie.Need-accepted-requires
+accepted-requires c κs = search needs
+
+add-t13 : tie.Need-add-t13
+add-t13 c = search needs
+
+cast-t15 : tie.Need-cast-t15
+cast-t15 c = search needs
+
+add-t16 : tie.Need-add-t16
+add-t16 c = search needs
+
+place-requires : tie.Need-place-requires
+place-requires c κs = search needs
+
+same-length : tie.Need-same-length
+same-length c = search needs
+
+returns : tie.Need-returns
+returns c = (refl, rw (c .place .ensures) (printed (omega (arith, c .before .before .before .before .before .before .before .before .before .before .pre .0 .room, c .before .before .before .before .before .before .before .before .before .before .pre .1 .few)) (c .before .before .before .before .before .accepted .ensures)))
+
+pub log-accepted-spec : {M : Type 1} → statement M
+log-accepted-spec =
+    tie.close
+    (tie.spec
+    add-accepted
+    accepted-requires
+    add-t13
+    cast-t15
+    add-t16
+    place-requires
+    same-length
+    returns)

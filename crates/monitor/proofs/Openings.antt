@@ -1,0 +1,57 @@
+-- How a log starts, from what decoding, the verifier and the enforcer answered. Assumes nothing.
+use mathlib.Core.Path.{_≡_, refl, sym, subst}
+use mathlib.Core.List.{List}
+use Prim.Native.Nat.{ℕ, _-_, _<_}
+use native.Mathlib.Omega.{arith}
+use Rattle.automaton.specs.Run.{Sound}
+use Rattle.automaton.specs.declared.Header.{Header}
+use Rattle.verifier.specs.declared.Notion.the-variants.{Weak}
+use Rattle.verifier.specs.declared.Estimator.{Estimator}
+use Rattle.verifier.specs.Replies as verifier
+use lib.ListN.{length, take, drop}
+use Rattle.encoding.specs.Decoding.{Outcome, accept, Decoding}
+use Rattle.encoding.proofs.Ended.{encoding-in}
+use Rattle.enforcer.specs.declared.Enforcer.{Enforcer}
+use Rattle.enforcer.specs.Offerings as enforcer
+use Rattle.enforcer.specs.Offerings.{Starting}
+use Rattle.monitor.specs.Stepping.{Balanced}
+use Rattle.monitor.specs.Opening.{Said, refused, started, frontSize, Decodes, Opening, opened, Begun, leaks, begun}
+use Rattle.monitor.specs.declared.Monitor.{Monitor}
+
+-- what was decoded is an automaton
+pub decoded-sound : (bytes table : List ℕ) (h : Header) (t : List ℕ) → Decoding bytes table h accept t → Sound t h
+decoded-sound bytes table h t (Decoding.accepted size e next is after holds) =
+    let small = encoding-in bytes is in
+    record { words = holds .size; back = omega (arith, small .0 .fixed .k); start = omega (arith, small .0 .fixed .initial) }
+
+pub not-begun : (t : List ℕ) (h : Header) (events n : ℕ) (e : Enforcer) (t′ : List ℕ) (h′ : Header) (m : Monitor) → Sound t h
+    → Starting t h Weak (enforcer.not-started n) e → (Balanced m → ⊥) → Begun t h events (refused n) t′ h′ m
+not-begun t h events n e t′ h′ m so (Starting.malformed bad out) b = absurd (bad so)
+not-begun t h events n e t′ h′ m so (Starting.initial-leak so′ tells out) b = leaks (Starting.initial-leak so′ tells out) b
+
+abbrev freshOf : Estimator → Enforcer → Monitor
+freshOf s e = record { estimator = s; enforcer = e; offered = 0; accepted = 0; released = 0 }
+
+pub is-begun : (t : List ℕ) (h : Header) (events : ℕ) (e : Enforcer) (says : verifier.Said) (s : Estimator) → Sound t h
+    → Starting t h Weak enforcer.started e → verifier.Opening t h says s → Begun t h events (started events) t h (freshOf s e)
+is-begun t h events e says s so (Starting.ready so′ tells grown) (verifier.Opening.malformed bad out) = absurd (bad so)
+is-begun t h events e says s so (Starting.ready so′ tells grown) (verifier.Opening.opened so″ li x) =
+    begun record { estimator = x .grown; enforcer = grown; offered = refl; accepted = refl; released = refl }
+
+-- the part of the log that was decoded
+pub decodes : (log : List ℕ) (size : ℕ) (before : List ℕ) (h : Header) (answer : Outcome) (t : List ℕ) → size ≡ frontSize log → length before ≡ 2048
+    → Decoding (take (size - 2) (drop 2 log)) before h answer t → Decodes log h answer t
+decodes log size before h answer t e w d = record {
+  before = before;
+  words = w;
+  decoding = subst (λ (k : ℕ). Decoding (take (k - 2) (drop 2 log)) before h answer t) e d;
+}
+
+pub opens : (log : List ℕ) (size : ℕ) (t : List ℕ) (h : Header) (says : Said) (t′ : List ℕ) (h′ : Header) (m : Monitor) → size ≡ frontSize log → size < length log
+    → Decodes log h accept t → Begun t h size says t′ h′ m → Opening log says t′ h′ m
+opens log size t h says t′ h′ m e l d (leaks start out) = Opening.initial-leak (omega arith) d start out
+opens log size t h says t′ h′ m e l d (begun fresh) = subst (λ (k : ℕ). Opening log (started k) t h m) (sym e) (opened (omega arith) d fresh)
+
+-- the events of a log that has started are behind its front
+pub started-within : {log t : List ℕ} {h : Header} {m : Monitor} {n : ℕ} → Opening log (started n) t h m → n < length log
+started-within (opened within d fresh) = within

@@ -1,0 +1,108 @@
+-- A step's outcome, from what the verifier and the enforcer answered and what was printed. Assumes nothing.
+use mathlib.Core.Path.{_≡_, refl, sym, ap, subst, _∙_}
+use mathlib.Core.Bool.{Bool, true, false}
+use mathlib.Core.List.{List}
+use lib.Dec.{eqb}
+use borrow.Author.Tests.{eqb-true, eqb-false}
+use Rattle.stateset.specs.Set.{Decided}
+use Prim.Native.Nat.{ℕ, _+_, _-_, _≤_, _<_}
+use native.Mathlib.Omega.{arith}
+use lib.ListN.{length, take, length-take}
+use lib.Seq.{length-sets}
+use Rattle.automaton.specs.declared.Header.{Header}
+use Rattle.automaton.specs.declared.Refusal.{Refusal}
+use Rattle.automaton.specs.Refusals.{numberOf}
+use Rattle.verifier.specs.declared.Estimator.{Estimator}
+use Rattle.verifier.specs.declared.Verdicts.{Verdicts}
+use Rattle.verifier.specs.Verdicts.{Steps, stepsOf}
+use Rattle.verifier.specs.Estimators as estimators
+use Rattle.verifier.specs.Replies as verifier
+use Rattle.verifier.specs.Replies.{Accepting}
+use Rattle.enforcer.specs.declared.Enforcer.{Enforcer}
+use Rattle.enforcer.specs.Enforcers as enforcers
+use Rattle.enforcer.specs.Offerings as enforcer
+use Rattle.enforcer.specs.Offerings.{Offering}
+use Rattle.report.specs.declared.Line.{Line}
+use Rattle.report.specs.Text.{acceptedLine, refusedLine}
+use Rattle.report.specs.Writing.{Written, no-room, written}
+use Rattle.monitor.specs.Stepping.{Balanced, Within, Countable, offeredOnce, acceptedOnce, not-verified, not-enforced, accepted, placeOf, Printed, Stepped}
+use Rattle.monitor.specs.Advancing.{Ready}
+use Rattle.monitor.specs.declared.Monitor.{Monitor}
+
+-- a line for which there is room
+pub printed : {room at : ℕ} {before text after : List ℕ} {line : Line} → at + room ≤ length before → Written room before at text line after
+    → Printed before at text (placeOf line at) after
+printed h (no-room full) = absurd (full h)
+printed {room} {at} {before} {text} h (written free) = record { bytes = refl; place = refl; size = length-sets before at text }
+
+-- a refused byte leaves all but the count of offered ones
+refused-within : (t : List ℕ) (h : Header) (m : Monitor) → Within t h m → Within t h (offeredOnce m)
+refused-within t h m w = record {
+  sound = w .sound;
+  estimator = w .estimator;
+  enforcer = w .enforcer;
+  balanced = record { among = omega (arith, w .balanced .among); balance = w .balanced .balance };
+}
+
+pub by-verifier : (t : List ℕ) (h : Header) (m : Monitor) (byte : ℕ) (r : Refusal) (s : Estimator) (after : Monitor) {out out′ : List ℕ} {at next : ℕ} → Within t h m
+    → Accepting t h (m .estimator) byte (verifier.refused (numberOf r)) s → after ≡ offeredOnce m → Printed out at (refusedLine byte r) next out′
+    → Stepped t h m byte out at after next out′
+by-verifier t h m byte r s after {out} {out′} {at} {next} b acc e p = subst (λ (x : Monitor). Stepped t h m byte out at x next out′) (sym e)
+    record { text = refusedLine byte r; steps = not-verified r acc; printed = p; within = refused-within t h m b }
+
+pub by-enforcer : (t : List ℕ) (h : Header) (m : Monitor) (byte : ℕ) (r : Refusal) (v w : Steps) (s : Estimator) (e : Enforcer) (output left : List ℕ) (after : Monitor)
+    {out out′ : List ℕ} {at next : ℕ} → Within t h m → Accepting t h (m .estimator) byte (verifier.verdicts v w) s
+    → length output ≡ 17 → Offering t h (m .enforcer) byte output (enforcer.refused (numberOf r)) e left → after ≡ offeredOnce m → Printed out at (refusedLine byte r) next out′
+    → Stepped t h m byte out at after next out′
+by-enforcer t h m byte r v w s e output left after {out} {out′} {at} {next} b acc wide off eq p = subst (λ (x : Monitor). Stepped t h m byte out at x next out′) (sym eq)
+    record { text = refusedLine byte r; steps = not-enforced r acc wide off; printed = p; within = refused-within t h m b }
+
+accepted-limits : (t : List ℕ) (h : Header) (self : Estimator) (byte : ℕ) (v w : Steps) (s : Estimator) → Accepting t h self byte (verifier.verdicts v w) s
+    → estimators.Limits (h .k) s
+accepted-limits t h self byte v w s (Accepting.accepted so li ob after bw bs exact) = after
+
+-- the counts of an offer
+record Counted (h : Header) (m : Monitor) (f : ℕ) (e : Enforcer) : Type 0 where
+  few : f ≤ 17
+  kept : f + e .count ≡ m .enforcer .count + 1
+  limits : enforcers.Limits (h .k) e
+
+counted : (t : List ℕ) (h : Header) (m : Monitor) (byte f : ℕ) (e : Enforcer) (output left : List ℕ) → Offering t h (m .enforcer) byte output (enforcer.released f) e left → Counted h m f e
+counted t h m byte f e output left (Offering.accepted so li wide ob after bal front rest exact) = record { few = omega (arith, li .few, so .back); kept = bal; limits = after }
+
+pub countable : (t : List ℕ) (h : Header) (m : Monitor) (byte f : ℕ) (e : Enforcer) (output left : List ℕ) (out : List ℕ) (at : ℕ) → Within t h m → Ready m out at
+    → Offering t h (m .enforcer) byte output (enforcer.released f) e left → Countable m f
+countable t h m byte f e output left out at b ready off =
+    let c = counted t h m byte f e output left off in
+    record {
+      few = c .few;
+      accepted = omega (arith, b .balanced .among, ready .allowed);
+      released = omega (arith, b .balanced .among, b .balanced .balance, ready .allowed, c .kept);
+    }
+
+pub by-both : (t : List ℕ) (h : Header) (m : Monitor) (byte : ℕ) (v : Verdicts) (s : Estimator) (f : ℕ) (e : Enforcer) (output left : List ℕ) (after : Monitor)
+    {out out′ : List ℕ} {at next : ℕ} → Within t h m → Accepting t h (m .estimator) byte (verifier.verdicts (stepsOf (v .weak)) (stepsOf (v .strong))) s
+    → length output ≡ 17 → Offering t h (m .enforcer) byte output (enforcer.released f) e left → after ≡ acceptedOnce m s e f
+    → Printed out at (acceptedLine (m .accepted + 1) byte (v .weak) (v .strong) (take f left)) next out′
+    → Stepped t h m byte out at after next out′
+by-both t h m byte v s f e output left after {out} {out′} {at} {next} b acc wide off eq p =
+    let c = counted t h m byte f e output left off in
+    subst (λ (x : Monitor). Stepped t h m byte out at x next out′) (sym eq)
+    record {
+      text = acceptedLine (m .accepted + 1) byte (v .weak) (v .strong) (take f left);
+      steps = accepted v acc wide off;
+      printed = p;
+      within = record {
+        sound = b .sound;
+        estimator = accepted-limits t h (m .estimator) byte (stepsOf (v .weak)) (stepsOf (v .strong)) s acc;
+        enforcer = c .limits;
+        balanced = record { among = omega (arith, b .balanced .among); balance = omega (arith, b .balanced .balance, c .kept) };
+      };
+    }
+
+-- the released events are a part of the output
+pub part-size : (l : List ℕ) (n : ℕ) → n ≤ length l → length (take (n - 0) l) ≡ n
+part-size l n h = simp (length-take) (omega arith)
+
+pub part-is : (l : List ℕ) (n : ℕ) → take (n - 0) l ≡ take n l
+part-is l n = let e : n - 0 ≡ n = omega arith in ap (λ (k : ℕ). take k l) e

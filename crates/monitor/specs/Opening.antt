@@ -1,0 +1,63 @@
+-- How a log starts: two bytes, high first, the length of the encoding (01: description); the encoding; then one byte an event.
+use mathlib.Core.Path.{_≡_}
+use mathlib.Core.List.{List, []}
+use Prim.Native.Nat.{ℕ, _+_, _-_, _*_, _≤_, _<_}
+use lib.ListN.{length, getD, take, drop}
+use Rattle.automaton.specs.Run.{automatonOf}
+use Rattle.automaton.specs.Refusals.{numberOf}
+use Rattle.automaton.specs.declared.Header.{Header}
+use Rattle.verifier.specs.declared.Notion.the-variants.{Weak}
+use Rattle.verifier.specs.Estimators as estimators
+use Rattle.encoding.specs.Decoding.{Outcome, accept, refuse, Decoding}
+use Rattle.enforcer.specs.declared.Enforcer.{Enforcer}
+use Rattle.enforcer.specs.Enforcers as enforcers
+use Rattle.enforcer.specs.Offerings.{Starting, not-started}
+use Rattle.monitor.specs.Stepping.{Balanced}
+use Rattle.monitor.specs.declared.Monitor.{Monitor}
+use Rattle.monitor.specs.declared.OpenAnswer.{OpenAnswer}
+use Rattle.monitor.specs.declared.OpenAnswer.the-variants as answer
+
+-- what an answer says: the number of a refusal, or where the events start
+pub data Said : Type 0 where
+  refused : ℕ → Said
+  started : ℕ → Said
+
+abbrev pub said : OpenAnswer → Said
+said (answer.Refused r) = refused (numberOf r)
+said (answer.Started n) = started n
+
+-- how many bytes the length and the encoding take. (Where a byte of the length is missing this is more than there are)
+abbrev pub frontSize : List ℕ → ℕ
+frontSize log = 2 + (getD log 0 0 * 256 + getD log 1 0)
+
+abbrev pub encodingOf : List ℕ → List ℕ
+encodingOf log = take (frontSize log - 2) (drop 2 log)
+
+-- a fresh monitor: a fresh estimator, an enforcer that a weak start has handed back, and no event so far
+pub record Fresh (t : List ℕ) (h : Header) (m : Monitor) : Type 0 where
+  pub estimator : estimators.Grown (automatonOf t h) (h .k) [] (m .estimator)
+  pub enforcer : enforcers.Grown Weak (automatonOf t h) (h .secret) (h .k) [] (m .enforcer)
+  pub offered : m .offered ≡ 0
+  pub accepted : m .accepted ≡ 0
+  pub released : m .released ≡ 0
+
+-- what decoding says of the log's encoding, with some table of 2,048 words
+pub record Decodes (log : List ℕ) (h : Header) (answer : Outcome) (t : List ℕ) : Type 0 where
+  pub before : List ℕ
+  pub words : length before ≡ 2048
+  pub decoding : Decoding (encodingOf log) before h answer t
+
+-- the start of a log, in the order of its refusals: 1, those of the encoding, 11, 8. A refused one hands back a monitor that takes no byte
+pub data Opening (log : List ℕ) : Said → (table : List ℕ) → Header → Monitor → Type 0 where
+  truncated : {t : List ℕ} {h : Header} {m : Monitor} → length log < frontSize log → (Balanced m → ⊥) → Opening log (refused 1) t h m
+  not-decoded : {n : ℕ} {t t′ : List ℕ} {h h′ : Header} {m : Monitor} → frontSize log ≤ length log → Decodes log h′ (refuse n) t′ → (Balanced m → ⊥)
+      → Opening log (refused n) t h m
+  empty-log : {t t′ : List ℕ} {h h′ : Header} {m : Monitor} → length log ≡ frontSize log → Decodes log h′ accept t′ → (Balanced m → ⊥) → Opening log (refused 11) t h m
+  initial-leak : {t t′ : List ℕ} {h h′ : Header} {m : Monitor} {e : Enforcer} → frontSize log < length log → Decodes log h′ accept t′
+      → Starting t′ h′ Weak (not-started 8) e → (Balanced m → ⊥) → Opening log (refused 8) t h m
+  opened : {t : List ℕ} {h : Header} {m : Monitor} → frontSize log < length log → Decodes log h accept t → Fresh t h m → Opening log (started (frontSize log)) t h m
+
+-- a start on an automaton, inside `open`
+pub data Begun (t : List ℕ) (h : Header) (events : ℕ) : Said → List ℕ → Header → Monitor → Type 0 where
+  leaks : {t′ : List ℕ} {h′ : Header} {m : Monitor} {e : Enforcer} → Starting t h Weak (not-started 8) e → (Balanced m → ⊥) → Begun t h events (refused 8) t′ h′ m
+  begun : {m : Monitor} → Fresh t h m → Begun t h events (started events) t h m

@@ -1,0 +1,85 @@
+-- What one event byte of a log, and then several, make of a monitor, and the lines that they print.
+use mathlib.Core.Path.{_≡_}
+use mathlib.Core.List.{List, [], _∷_, _++_}
+use Prim.Native.Nat.{ℕ, _+_, _≤_}
+use lib.ListN.{length, take}
+use lib.Seq.{sets}
+use Rattle.automaton.specs.Run.{Sound}
+use Rattle.automaton.specs.declared.Header.{Header}
+use Rattle.automaton.specs.declared.Refusal.{Refusal}
+use Rattle.automaton.specs.Refusals.{numberOf}
+use Rattle.verifier.specs.declared.Estimator.{Estimator}
+use Rattle.verifier.specs.declared.Verdicts.{Verdicts}
+use Rattle.verifier.specs.Verdicts.{Steps, stepsOf}
+use Rattle.verifier.specs.Estimators as estimators
+use Rattle.verifier.specs.Replies as verifier
+use Rattle.verifier.specs.Replies.{Accepting}
+use Rattle.enforcer.specs.declared.Enforcer.{Enforcer}
+use Rattle.enforcer.specs.Enforcers as enforcers
+use Rattle.enforcer.specs.Offerings as enforcer
+use Rattle.enforcer.specs.Offerings.{Offering}
+use Rattle.report.specs.declared.Line.{Line}
+use Rattle.report.specs.declared.Line.the-variants.{Next, NoRoom}
+use Rattle.report.specs.Text.{acceptedLine, refusedLine}
+use Rattle.monitor.specs.declared.Monitor.{Monitor}
+
+-- the counts agree: an accepted event was offered, and it is released or pending (01: accepted = freed + held)
+pub record Balanced (m : Monitor) : Type 0 where
+  pub among : m .accepted ≤ m .offered
+  pub balance : m .accepted ≡ m .released + m .enforcer .count
+
+-- on this automaton within its limits: its estimator and its enforcer are, and the counts agree
+pub record Within (t : List ℕ) (h : Header) (m : Monitor) : Type 0 where
+  pub sound : Sound t h
+  pub estimator : estimators.Limits (h .k) (m .estimator)
+  pub enforcer : enforcers.Limits (h .k) (m .enforcer)
+  pub balanced : Balanced m
+
+-- one event more, and so many released ones, can be counted and printed
+pub record Countable (m : Monitor) (f : ℕ) : Type 0 where
+  pub few : f ≤ 17
+  pub accepted : m .accepted + 1 ≤ 4294967295
+  pub released : m .released + f ≤ 4294967295
+
+-- one event byte more, which was refused
+abbrev pub offeredOnce : Monitor → Monitor
+offeredOnce m = record { estimator = m .estimator; enforcer = m .enforcer; offered = m .offered + 1; accepted = m .accepted; released = m .released }
+
+-- one event more, which was accepted: the estimator and the enforcer after it, and how many events it released
+abbrev pub acceptedOnce : Monitor → Estimator → Enforcer → ℕ → Monitor
+acceptedOnce m s e f = record { estimator = s; enforcer = e; offered = m .offered + 1; accepted = m .accepted + 1; released = m .released + f }
+
+-- an event byte: the line, and the monitor after it. The byte is offered to the verifier, and where that accepts it to the enforcer, with an output of 17 bytes
+pub data Stepping (t : List ℕ) (h : Header) (m : Monitor) (byte : ℕ) : List ℕ → Monitor → Type 0 where
+  not-verified : (r : Refusal) {s : Estimator} → Accepting t h (m .estimator) byte (verifier.refused (numberOf r)) s
+      → Stepping t h m byte (refusedLine byte r) (offeredOnce m)
+  not-enforced : (r : Refusal) {v w : Steps} {s : Estimator} {e : Enforcer} {output left : List ℕ} → Accepting t h (m .estimator) byte (verifier.verdicts v w) s
+      → length output ≡ 17 → Offering t h (m .enforcer) byte output (enforcer.refused (numberOf r)) e left
+      → Stepping t h m byte (refusedLine byte r) (offeredOnce m)
+  accepted : (v : Verdicts) {s : Estimator} {f : ℕ} {e : Enforcer} {output left : List ℕ}
+      → Accepting t h (m .estimator) byte (verifier.verdicts (stepsOf (v .weak)) (stepsOf (v .strong))) s
+      → length output ≡ 17 → Offering t h (m .enforcer) byte output (enforcer.released f) e left
+      → Stepping t h m byte (acceptedLine (m .accepted + 1) byte (v .weak) (v .strong) (take f left)) (acceptedOnce m s e f)
+
+-- event bytes one after another: their lines, and the monitor after them
+pub data Lines (t : List ℕ) (h : Header) : Monitor → List ℕ → List ℕ → Monitor → Type 0 where
+  done : {m : Monitor} → Lines t h m [] [] m
+  next : {m n e : Monitor} {byte : ℕ} {bytes text rest : List ℕ} → Stepping t h m byte text n → Lines t h n bytes rest e
+      → Lines t h m (byte ∷ bytes) (text ++ rest) e
+
+-- a text inside an output: it stands at `at`, all other bytes stay, and the next one goes behind it
+pub record Printed (out : List ℕ) (at : ℕ) (text : List ℕ) (next : ℕ) (out′ : List ℕ) : Type 0 where
+  pub bytes : out′ ≡ sets out at text
+  pub place : next ≡ at + length text
+  pub size : length out′ ≡ length out
+
+abbrev pub placeOf : Line → ℕ → ℕ
+placeOf (Next n) at = n
+placeOf NoRoom at = at
+
+-- one event byte, its line, and the monitor after it
+pub record Stepped (t : List ℕ) (h : Header) (m : Monitor) (byte : ℕ) (out : List ℕ) (at : ℕ) (after : Monitor) (next : ℕ) (out′ : List ℕ) : Type 0 where
+  pub text : List ℕ
+  pub steps : Stepping t h m byte text after
+  pub printed : Printed out at text next out′
+  pub within : Within t h after

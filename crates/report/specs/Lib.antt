@@ -1,0 +1,3 @@
+-- What the contracts of `report` cite. A reviewer reads Text, then Writing.
+pub mod Text
+pub mod Writing

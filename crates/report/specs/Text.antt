@@ -1,0 +1,62 @@
+-- The lines of the log program, as bytes.
+use Prim.Native.Nat.{ℕ, zero, suc, _+_, _*_, _-_, _/_, _%_}
+use mathlib.Core.Bool.{cond}
+use mathlib.Core.List.{List, [], _∷_, _++_, map, foldl}
+use lib.Dec.{ltb}
+use Rattle.automaton.specs.declared.Refusal.{Refusal}
+use Rattle.automaton.specs.Refusals.{numberOf}
+use Rattle.verifier.specs.declared.Verdict.{Verdict}
+use Rattle.verifier.specs.declared.Verdict.the-variants.{NoLeak, Leak}
+
+-- n in base ten, where n has at most `most` digits
+unfoldable pub digits : (most n : ℕ) → List ℕ
+digits zero n = []
+digits (suc most) n = cond (ltb n 10) ((48 + n) ∷ []) (digits most (n / 10) ++ ((48 + n % 10) ∷ []))
+
+-- n in base ten. (Ten digits hold every number below 2 ^ 32, and they read back as it: Decimal, reads-back)
+unfoldable pub decimal : ℕ → List ℕ
+decimal n = digits 10 n
+
+-- the number that digits say
+abbrev pub valueOf : List ℕ → ℕ
+valueOf ds = foldl (λ (v d : ℕ). 10 * v + (d - 48)) 0 ds
+
+-- each part with the separator in front of it
+abbrev pub led : ℕ → List (List ℕ) → List ℕ
+led s [] = []
+led s (x ∷ xs) = s ∷ (x ++ led s xs)
+
+-- the parts, the separator between each two
+abbrev pub joined : ℕ → List (List ℕ) → List ℕ
+joined s [] = []
+joined s (x ∷ xs) = x ++ led s xs
+
+-- a line: its fields one space apart
+abbrev pub line : List (List ℕ) → List ℕ
+line fields = joined 32 fields ++ (10 ∷ [])
+
+-- the steps of a leak, or `-`
+abbrev pub steps : Verdict → List ℕ
+steps NoLeak = 45 ∷ []
+steps (Leak l) = decimal l
+
+-- the events, joined by commas, or `-`
+abbrev pub events : List ℕ → List ℕ
+events [] = 45 ∷ []
+events (e ∷ es) = joined 44 (map decimal (e ∷ es))
+
+-- an accepted event: its place from 1, the event, the verdicts, the events that it released (01: freed)
+abbrev pub acceptedLine : ℕ → ℕ → Verdict → Verdict → List ℕ → List ℕ
+acceptedLine place event weak strong released = line (decimal place ∷ decimal event ∷ steps weak ∷ steps strong ∷ events released ∷ [])
+
+-- a refused event: `!`, the byte, the number of the refusal
+abbrev pub refusedLine : ℕ → Refusal → List ℕ
+refusedLine byte refusal = line ((33 ∷ []) ∷ decimal byte ∷ decimal (numberOf refusal) ∷ [])
+
+-- `end`, and the numbers of accepted, released and pending events (01: freed, held)
+abbrev pub endLine : ℕ → ℕ → ℕ → List ℕ
+endLine accepted released pending = line ((101 ∷ 110 ∷ 100 ∷ []) ∷ decimal accepted ∷ decimal released ∷ decimal pending ∷ [])
+
+-- a refused log: `refused`, and the number of the refusal
+abbrev pub refusedLog : Refusal → List ℕ
+refusedLog refusal = line ((114 ∷ 101 ∷ 102 ∷ 117 ∷ 115 ∷ 101 ∷ 100 ∷ []) ∷ decimal (numberOf refusal) ∷ [])

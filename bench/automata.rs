@@ -1,0 +1,181 @@
+//! The automata that are measured, their encodings, and traces that they can show.
+
+use crate::random::Random;
+use std::collections::BTreeSet;
+
+pub struct Automaton {
+    pub states: usize,
+    pub events: usize,
+    pub k: u8,
+    pub initial: u8,
+    pub secret: u64,
+    pub observable: u32,
+    /// Bit `to` of word 64 * event + from.
+    pub table: Box<[u64; 2048]>,
+}
+
+impl Automaton {
+    pub fn new(states: usize, events: usize, k: u8, secret: u64, observable: u32, transitions: &[(usize, usize, usize)]) -> Self {
+        let mut table = Box::new([0; 2048]);
+        for &(from, event, to) in transitions {
+            table[64 * event + from] |= 1 << to;
+        }
+        Automaton { states, events, k, initial: 0, secret, observable, table }
+    }
+
+    pub fn with_k(&self, k: u8) -> Self {
+        Automaton { k, table: self.table.clone(), ..*self }
+    }
+
+    pub fn transitions(&self) -> Vec<(usize, usize, usize)> {
+        let mut list = Vec::new();
+        for (word, &targets) in self.table.iter().enumerate() {
+            list.extend((0..64).filter(|to| targets >> to & 1 == 1).map(|to| (word % 64, word / 64, to)));
+        }
+        list
+    }
+
+    /// The packed encoding, if it has no more transitions than one can list.
+    pub fn encode(&self) -> Option<Vec<u8>> {
+        let transitions = self.transitions();
+        if 1023 < transitions.len() {
+            return None;
+        }
+        let mut bits = Vec::new();
+        let mut field = |value: usize, width: usize| bits.extend((0..width).rev().map(|i| (value >> i & 1) as u8));
+        field(self.states - 1, 6);
+        field(self.events - 1, 5);
+        field(self.k as usize, 4);
+        field(self.initial as usize, 6);
+        field(transitions.len(), 10);
+        field(0, 1);
+        (0..self.states).for_each(|q| field((self.secret >> q & 1) as usize, 1));
+        (0..self.events).for_each(|e| field((self.observable >> e & 1) as usize, 1));
+        for (from, event, to) in transitions {
+            field(from, 6);
+            field(event, 5);
+            field(to, 6);
+        }
+        bits.resize(bits.len().div_ceil(8) * 8, 0);
+        Some(bits.chunks(8).map(|byte| byte.iter().fold(0, |number, bit| 2 * number + bit)).collect())
+    }
+
+    /// Where unobservable transitions lead from a set.
+    fn silent(&self, set: u64) -> u64 {
+        let mut reached = set;
+        loop {
+            let before = reached;
+            for event in (0..32).filter(|e| self.observable >> e & 1 == 0) {
+                reached |= self.image(event, reached);
+            }
+            if reached == before {
+                return reached;
+            }
+        }
+    }
+
+    fn image(&self, event: usize, set: u64) -> u64 {
+        (0..64).filter(|q| set >> q & 1 == 1).fold(0, |to, q| to | self.table[64 * event + q])
+    }
+
+    /// Where runs can be before the first event.
+    pub fn first(&self) -> u64 {
+        self.silent(1 << self.initial)
+    }
+
+    /// Where runs can be after one more event; none if no run is compatible with it.
+    pub fn after(&self, estimate: u64, event: usize) -> u64 {
+        if 31 < event || self.observable >> event & 1 == 0 { 0 } else { self.silent(self.image(event, estimate)) }
+    }
+
+    /// A trace that the automaton can show: each event is drawn from those that some run can go on with.
+    pub fn trace(&self, length: usize, seed: u64) -> Vec<u8> {
+        let mut random = Random(seed);
+        let mut estimate = self.first();
+        let mut trace = Vec::with_capacity(length);
+        while trace.len() < length {
+            let next: Vec<usize> = (0..32).filter(|&e| self.observable >> e & 1 == 1 && self.image(e, estimate) != 0).collect();
+            assert!(!next.is_empty(), "the trace ends: no run goes on");
+            let event = next[random.below(next.len())];
+            estimate = self.after(estimate, event);
+            trace.push(event as u8);
+        }
+        trace
+    }
+}
+
+/// P of the requirements.
+pub fn p() -> Automaton {
+    Automaton::new(4, 3, 2, 0b10, 0b110, &[(0, 0, 2), (0, 1, 1), (1, 2, 0), (2, 1, 3), (3, 1, 3)])
+}
+
+/// What is drawn at random. The first events are the unobservable ones.
+pub struct Drawn {
+    pub states: usize,
+    pub events: usize,
+    pub k: u8,
+    pub secret: usize,
+    pub unobservable: usize,
+    /// Transitions by unobservable events, and by all.
+    pub silent: usize,
+    pub transitions: usize,
+}
+
+/// An automaton with such numbers. The initial state is not secret, so that every enforcer starts.
+pub fn drawn(numbers: Drawn, seed: u64) -> Automaton {
+    let Drawn { states, events, k, secret: secrets, unobservable, silent, transitions } = numbers;
+    let mut random = Random(seed);
+    let mut set = BTreeSet::new();
+    while set.len() < silent {
+        set.insert((random.below(states), random.below(unobservable), random.below(states)));
+    }
+    // Each state has an observable transition, so that no trace ends.
+    for from in 0..states {
+        set.insert((from, unobservable + random.below(events - unobservable), random.below(states)));
+    }
+    while set.len() < transitions {
+        set.insert((random.below(states), unobservable + random.below(events - unobservable), random.below(states)));
+    }
+    let mut secret: u64 = 0;
+    while (secret.count_ones() as usize) < secrets {
+        secret |= 1 << (1 + random.below(states - 1));
+    }
+    let all = (1u64 << events) - 1;
+    let observable = (all >> unobservable << unobservable) as u32;
+    Automaton::new(states, events, k, secret, observable, &set.into_iter().collect::<Vec<_>>())
+}
+
+pub fn mid() -> Automaton {
+    drawn(Drawn { states: 16, events: 8, k: 4, secret: 4, unobservable: 2, silent: 16, transitions: 96 }, 2)
+}
+
+/// Of 64 states the largest that an encoding can list; of fewer, a part of it as dense.
+pub fn large(states: usize) -> Automaton {
+    drawn(Drawn { states, events: 32, k: 15, secret: states.div_ceil(16), unobservable: 4, silent: states, transitions: (16 * states).min(1023) }, 3)
+}
+
+/// A small one that differs with its number in everything.
+pub fn small(number: u64) -> Automaton {
+    let mut random = Random(number);
+    let states = 2 + random.below(6);
+    let events = 2 + random.below(4);
+    let unobservable = 1 + random.below(events - 1);
+    let silent = random.below(states + 1);
+    let transitions = silent + states + random.below(states + 1);
+    drawn(Drawn { states, events, k: random.below(16) as u8, secret: random.below(states), unobservable, silent, transitions }, number)
+}
+
+/// 64 unobservable transitions in a ring, left by the observable ones from near its end to its start: a closure goes through the states one by one.
+/// The secret state can be avoided, so that both looks back go all the way.
+pub fn chain() -> Automaton {
+    let mut transitions: Vec<_> = (0..64).map(|q| (q, 0, (q + 1) % 64)).collect();
+    transitions.extend([(62, 1, 0), (61, 2, 0)]);
+    Automaton::new(64, 3, 15, 1 << 63, 0b110, &transitions)
+}
+
+/// Every transition there is; all events but the last are unobservable. No encoding can list them: a caller may lend any table.
+pub fn dense() -> Automaton {
+    let mut automaton = Automaton::new(64, 32, 15, 0xffff_ffff_0000_0000, 1 << 31, &[]);
+    automaton.table.fill(!0);
+    automaton
+}

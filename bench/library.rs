@@ -1,0 +1,167 @@
+//! (a) The proved library through its C interface (include/opacity.h).
+
+use crate::automata::Automaton;
+
+type Decode = unsafe extern "C" fn(*const u8, usize, *mut u64, usize, *mut u8, usize) -> u8;
+type Fresh = unsafe extern "C" fn(*const u64, usize, *const u8, usize, *mut u8, usize, *mut u8, usize) -> u8;
+type Accept = unsafe extern "C" fn(*const u64, usize, *const u8, usize, u8, *mut u8, usize, *mut u8, usize) -> u8;
+type Start = unsafe extern "C" fn(*const u64, usize, *const u8, usize, u8, *mut u8, usize) -> u8;
+type Offer = unsafe extern "C" fn(*const u64, usize, *const u8, usize, u8, *mut u8, usize, *mut u8, usize, *mut u8, usize) -> u8;
+
+extern "C" {
+    fn opacity_decode(encoding: *const u8, _: usize, table: *mut u64, _: usize, header: *mut u8, _: usize) -> u8;
+    fn opacity_fresh(table: *const u64, _: usize, header: *const u8, _: usize, estimator: *mut u8, _: usize, verdicts: *mut u8, _: usize) -> u8;
+    fn opacity_accept(
+        table: *const u64, _: usize, header: *const u8, _: usize, event: u8, estimator: *mut u8, _: usize, verdicts: *mut u8, _: usize,
+    ) -> u8;
+    fn opacity_start(table: *const u64, _: usize, header: *const u8, _: usize, notion: u8, enforcer: *mut u8, _: usize) -> u8;
+    fn opacity_offer(
+        table: *const u64, _: usize, header: *const u8, _: usize, event: u8, enforcer: *mut u8, _: usize, output: *mut u8, _: usize,
+        released: *mut u8, _: usize,
+    ) -> u8;
+}
+
+/// The five functions, or stand-ins: the measuring of the stack compares the two.
+#[derive(Clone, Copy)]
+pub struct Functions {
+    decode: Decode,
+    fresh: Fresh,
+    accept: Accept,
+    start: Start,
+    offer: Offer,
+}
+
+pub const PROVED: Functions =
+    Functions { decode: opacity_decode, fresh: opacity_fresh, accept: opacity_accept, start: opacity_start, offer: opacity_offer };
+
+unsafe extern "C" fn no_decode(_: *const u8, _: usize, _: *mut u64, _: usize, _: *mut u8, _: usize) -> u8 {
+    0
+}
+unsafe extern "C" fn no_fresh(_: *const u64, _: usize, _: *const u8, _: usize, _: *mut u8, _: usize, _: *mut u8, _: usize) -> u8 {
+    0
+}
+unsafe extern "C" fn no_accept(_: *const u64, _: usize, _: *const u8, _: usize, _: u8, _: *mut u8, _: usize, _: *mut u8, _: usize) -> u8 {
+    0
+}
+unsafe extern "C" fn no_start(_: *const u64, _: usize, _: *const u8, _: usize, _: u8, _: *mut u8, _: usize) -> u8 {
+    0
+}
+unsafe extern "C" fn no_offer(
+    _: *const u64, _: usize, _: *const u8, _: usize, _: u8, _: *mut u8, _: usize, _: *mut u8, _: usize, _: *mut u8, _: usize,
+) -> u8 {
+    0
+}
+
+/// Functions that do nothing.
+pub const NOTHING: Functions = Functions { decode: no_decode, fresh: no_fresh, accept: no_accept, start: no_start, offer: no_offer };
+
+pub const WEAK: u8 = 0;
+
+/// What a gateway lends: the table, the header, the saved states and what is written for it.
+pub struct Library {
+    table: Vec<u64>,
+    header: [u8; 14],
+    estimator: [u8; 144],
+    verdicts: [u8; 2],
+    enforcer: [u8; 178],
+    output: [u8; 17],
+    released: [u8; 1],
+}
+
+impl Library {
+    /// Decodes the automaton's encoding; a table that no encoding can list is lent as it is.
+    pub fn new(automaton: &Automaton) -> Self {
+        let mut made = Library {
+            table: vec![0; 2048], header: [0; 14], estimator: [0; 144], verdicts: [0; 2], enforcer: [0; 178], output: [0; 17], released: [0],
+        };
+        match automaton.encode() {
+            Some(encoding) => {
+                assert_eq!(made.call_decode(&PROVED, &encoding), 0, "decode");
+                assert!(made.table[..] == automaton.table[..], "decode: the table");
+            }
+            None => {
+                made.table.copy_from_slice(&automaton.table[..]);
+                made.header[0] = automaton.initial;
+                made.header[1] = automaton.k;
+                made.header[2..10].copy_from_slice(&automaton.secret.to_le_bytes());
+                made.header[10..14].copy_from_slice(&automaton.observable.to_le_bytes());
+            }
+        }
+        made
+    }
+
+    #[inline(always)]
+    pub fn call_decode(&mut self, functions: &Functions, encoding: &[u8]) -> u8 {
+        let (table, header) = (&mut self.table, &mut self.header);
+        unsafe { (functions.decode)(encoding.as_ptr(), encoding.len(), table.as_mut_ptr(), table.len(), header.as_mut_ptr(), header.len()) }
+    }
+
+    #[inline(always)]
+    pub fn call_fresh(&mut self, functions: &Functions) -> u8 {
+        let (table, header, estimator, verdicts) = (&self.table, &self.header, &mut self.estimator, &mut self.verdicts);
+        unsafe {
+            (functions.fresh)(
+                table.as_ptr(), table.len(), header.as_ptr(), header.len(), estimator.as_mut_ptr(), estimator.len(), verdicts.as_mut_ptr(),
+                verdicts.len(),
+            )
+        }
+    }
+
+    #[inline(always)]
+    pub fn call_accept(&mut self, functions: &Functions, event: u8) -> u8 {
+        let (table, header, estimator, verdicts) = (&self.table, &self.header, &mut self.estimator, &mut self.verdicts);
+        unsafe {
+            (functions.accept)(
+                table.as_ptr(), table.len(), header.as_ptr(), header.len(), event, estimator.as_mut_ptr(), estimator.len(),
+                verdicts.as_mut_ptr(), verdicts.len(),
+            )
+        }
+    }
+
+    #[inline(always)]
+    pub fn call_start(&mut self, functions: &Functions, notion: u8) -> u8 {
+        let (table, header, enforcer) = (&self.table, &self.header, &mut self.enforcer);
+        unsafe { (functions.start)(table.as_ptr(), table.len(), header.as_ptr(), header.len(), notion, enforcer.as_mut_ptr(), enforcer.len()) }
+    }
+
+    #[inline(always)]
+    pub fn call_offer(&mut self, functions: &Functions, event: u8) -> u8 {
+        let (table, header, enforcer, output, released) = (&self.table, &self.header, &mut self.enforcer, &mut self.output, &mut self.released);
+        unsafe {
+            (functions.offer)(
+                table.as_ptr(), table.len(), header.as_ptr(), header.len(), event, enforcer.as_mut_ptr(), enforcer.len(), output.as_mut_ptr(),
+                output.len(), released.as_mut_ptr(), released.len(),
+            )
+        }
+    }
+
+    pub fn fresh(&mut self) -> [u8; 2] {
+        assert_eq!(self.call_fresh(&PROVED), 0, "fresh");
+        self.verdicts
+    }
+
+    /// The two verdicts, or the number of the refusal.
+    pub fn accept(&mut self, event: u8) -> Result<[u8; 2], u8> {
+        match self.call_accept(&PROVED, event) {
+            0 => Ok(self.verdicts),
+            refusal => Err(refusal),
+        }
+    }
+
+    /// The verdicts of the last event that was accepted.
+    pub fn verdicts(&self) -> [u8; 2] {
+        self.verdicts
+    }
+
+    pub fn start(&mut self, notion: u8) {
+        assert_eq!(self.call_start(&PROVED, notion), 0, "start");
+    }
+
+    /// The released events, or the number of the refusal.
+    pub fn offer(&mut self, event: u8) -> Result<&[u8], u8> {
+        match self.call_offer(&PROVED, event) {
+            0 => Ok(&self.output[..self.released[0] as usize]),
+            refusal => Err(refusal),
+        }
+    }
+}

@@ -1,0 +1,89 @@
+//! How deep each function of the interface goes: it is called on a painted stack, and the deepest byte that lost its paint is looked for. The depth of
+//! the same call of a function that does nothing is taken off, so that what is left is the function's own: below its return address.
+
+use crate::automata::Automaton;
+use crate::library::{self, Library};
+use std::arch::asm;
+
+const SIZE: usize = 64 * 1024;
+const PAINT: u8 = 0xa5;
+
+#[repr(align(64))]
+struct Stack([u8; SIZE]);
+
+/// The lent memory of a call, and the functions to call it with.
+struct Call<'a> {
+    library: &'a mut Library,
+    functions: library::Functions,
+    encoding: &'a [u8],
+    event: u8,
+    answer: u8,
+}
+
+extern "C" fn decode(call: &mut Call) {
+    call.answer = call.library.call_decode(&call.functions, call.encoding);
+}
+
+extern "C" fn fresh(call: &mut Call) {
+    call.answer = call.library.call_fresh(&call.functions);
+}
+
+extern "C" fn accept(call: &mut Call) {
+    call.answer = call.library.call_accept(&call.functions, call.event);
+}
+
+extern "C" fn start(call: &mut Call) {
+    call.answer = call.library.call_start(&call.functions, library::WEAK);
+}
+
+extern "C" fn offer(call: &mut Call) {
+    call.answer = call.library.call_offer(&call.functions, call.event);
+}
+
+/// The bytes that lost their paint.
+fn depth(stack: &mut Stack, job: extern "C" fn(&mut Call), call: &mut Call) -> usize {
+    stack.0.fill(PAINT);
+    let top = unsafe { stack.0.as_mut_ptr().add(SIZE) };
+    unsafe {
+        asm!(
+            "mov r12, rsp",
+            "mov rsp, {top}",
+            "call {job}",
+            "mov rsp, r12",
+            top = in(reg) top,
+            job = in(reg) job,
+            in("rdi") call,
+            out("r12") _,
+            clobber_abi("C"),
+        );
+    }
+    SIZE - stack.0.iter().position(|&byte| byte != PAINT).unwrap_or(SIZE)
+}
+
+/// The deepest of all calls on an automaton and its trace, for each function.
+pub fn depths(automaton: &Automaton, trace: &[u8]) -> [(&'static str, Option<usize>); 5] {
+    let mut stack = Box::new(Stack([0; SIZE]));
+    let mut library = Library::new(automaton);
+    let encoding = automaton.encode().unwrap_or_default();
+    let mut measure = |library: &mut Library, job: extern "C" fn(&mut Call), event: u8| {
+        let mut call = Call { library, functions: library::NOTHING, encoding: &encoding, event, answer: 0 };
+        let caller = depth(&mut stack, job, &mut call);
+        call.functions = library::PROVED;
+        let all = depth(&mut stack, job, &mut call);
+        assert_eq!(call.answer, 0, "refused");
+        all - caller
+    };
+    // An automaton that no encoding can list is not decoded.
+    let decoding = if encoding.is_empty() { None } else { Some(measure(&mut library, decode, 0)) };
+    let making = measure(&mut library, fresh, 0);
+    let starting = measure(&mut library, start, 0);
+    let accepting = trace.iter().map(|&event| measure(&mut library, accept, event)).max();
+    let offering = trace.iter().map(|&event| measure(&mut library, offer, event)).max();
+    [
+        ("opacity_decode", decoding),
+        ("opacity_fresh", Some(making)),
+        ("opacity_accept", accepting),
+        ("opacity_start", Some(starting)),
+        ("opacity_offer", offering),
+    ]
+}

@@ -1,0 +1,71 @@
+/* The worked example of the requirements through the C interface: decodes automaton P, runs the verifier and a weak enforcer over the trace 1 2 1 1,
+   and prints a line for each event: its place, the event, the weak and the strong verdict, the released events. c/run compares the lines. */
+#include <stdio.h>
+
+#include "opacity.h"
+
+/* Four states, events 0 to 2, K 2, initial state 0, secret {1}, observable {1, 2}; transitions (0,0,2) (0,1,1) (1,2,0) (2,1,3) (3,1,3). */
+static const uint8_t encoding[] = {0x0c, 0x44, 0x00, 0x0a, 0x46, 0x00, 0x02, 0x00, 0x20, 0x82, 0x20, 0x02, 0x08, 0x61, 0x84, 0x30};
+static const uint8_t trace[] = {1, 2, 1, 1};
+
+/* All the memory that the library works in besides its stack. */
+static uint64_t table[OPACITY_TABLE_WORDS];
+static uint8_t header[OPACITY_HEADER_BYTES];
+static uint8_t estimator[OPACITY_ESTIMATOR_BYTES];
+static uint8_t enforcer[OPACITY_ENFORCER_BYTES];
+static uint8_t verdicts[OPACITY_VERDICTS_BYTES];
+static uint8_t output[OPACITY_OUTPUT_BYTES];
+static uint8_t released[OPACITY_RELEASED_BYTES];
+
+static int refused(uint8_t number)
+{
+    printf("refused %d\n", number);
+    return 1;
+}
+
+static void print_verdict(uint8_t verdict)
+{
+    if (verdict == OPACITY_NO_LEAK)
+        printf(" -");
+    else
+        printf(" %d", verdict);
+}
+
+int main(void)
+{
+    unsigned long accepted = 0, out = 0;
+    uint8_t answer;
+
+    answer = opacity_decode(encoding, sizeof encoding, table, OPACITY_TABLE_WORDS, header, sizeof header);
+    if (answer != OPACITY_OK)
+        return refused(answer);
+    answer = opacity_fresh(table, OPACITY_TABLE_WORDS, header, sizeof header, estimator, sizeof estimator, verdicts, sizeof verdicts);
+    if (answer != OPACITY_OK)
+        return refused(answer);
+    answer = opacity_start(table, OPACITY_TABLE_WORDS, header, sizeof header, OPACITY_WEAK, enforcer, sizeof enforcer);
+    if (answer != OPACITY_OK)
+        return refused(answer);
+
+    for (size_t i = 0; i < sizeof trace; i++) {
+        uint8_t event = trace[i];
+        answer = opacity_accept(table, OPACITY_TABLE_WORDS, header, sizeof header, event, estimator, sizeof estimator, verdicts, sizeof verdicts);
+        /* The enforcer accepts exactly what the verifier accepts, so its answer needs no second report. */
+        if (answer == OPACITY_OK)
+            answer = opacity_offer(table, OPACITY_TABLE_WORDS, header, sizeof header, event, enforcer, sizeof enforcer, output, sizeof output,
+                                   released, sizeof released);
+        if (answer != OPACITY_OK) {
+            printf("! %d %d\n", event, answer);
+            continue;
+        }
+        accepted++;
+        out += released[0];
+        printf("%lu %d", accepted, event);
+        print_verdict(verdicts[0]);
+        print_verdict(verdicts[1]);
+        for (int j = 0; j < released[0]; j++)
+            printf("%c%d", j == 0 ? ' ' : ',', output[j]);
+        printf(released[0] == 0 ? " -\n" : "\n");
+    }
+    printf("end %lu %lu %d\n", accepted, out, enforcer[OPACITY_ENFORCER_PENDING]);
+    return 0;
+}

@@ -153,7 +153,7 @@ fn preimage(rows: &[u64; 64], set: u64) -> u64
     r
 }
 
-// The states that a set reaches by the relation, through allowed states alone.
+// The states that a set reaches by the relation, through allowed states alone. (Once all of these are reached, there is nothing left to find.)
 fn closure(rows: &[u64; 64], allowed: u64, from: u64) -> u64
     ensures { λ r. ⌜ Is r (Reached (Row (now (rows .entry))) allowed from) ⌝ }
 {
@@ -163,6 +163,9 @@ fn closure(rows: &[u64; 64], allowed: u64, from: u64) -> u64
         let q = u64::trailing_zeros(todo) as usize;
         done |= 1 << q;
         todo = (todo | rows[q] & allowed) & !done;
+        if done | todo == allowed {
+            return allowed;
+        }
     }
     done
 }

@@ -1,7 +1,7 @@
 ghost use mathlib.Core.Path.{_≡_};
 ghost use mathlib.Core.List.{List, [], _∷_, _++_};
 ghost use Prim.Native.Nat.{ℕ, _+_, _*_, _<_, _≤_};
-ghost use lib.ListN.{length, getD};
+ghost use lib.ListN.{length, getD, take, drop};
 ghost use Rattle.stateset.specs.Set.{In, Is, Decided};
 ghost use Rattle.automaton.specs.Run.{Automaton, automatonOf, Observable, Sound};
 ghost use Rattle.automaton.specs.Refusals.{numberOf};
@@ -127,7 +127,8 @@ fn transpose(rows: &[u64]) -> [u64; 64]
 }
 
 // Where the relation leads from the states of a set.
-fn image(rows: &[u64; 64], set: u64) -> u64
+fn image(rows: &[u64], set: u64) -> u64
+    requires { ⌜ length (now rows) ≡ 64 ⌝ }
     ensures { λ r. ⌜ Is r (Image (Row (now (rows .entry))) set) ⌝ }
 {
     let mut todo = set;
@@ -141,7 +142,8 @@ fn image(rows: &[u64; 64], set: u64) -> u64
 }
 
 // The states from which the relation leads into a set.
-fn preimage(rows: &[u64; 64], set: u64) -> u64
+fn preimage(rows: &[u64], set: u64) -> u64
+    requires { ⌜ length (now rows) ≡ 64 ⌝ }
     ensures { λ r. ⌜ Is r (Preimage (Row (now (rows .entry))) set) ⌝ }
 {
     let mut r: u64 = 0;
@@ -178,12 +180,14 @@ pub fn silent_rows(table: &[u64], header: Header) -> [u64; 64]
     rows_of(table, !header.observable)
 }
 
-// Where an event may lead from each state, if it is observable.
-fn event_rows(table: &[u64], header: Header, event: u8) -> [u64; 64]
+// Where an event may lead from each state: 64 words as they stand in the table.
+fn event_rows(table: &[u64], event: u8) -> &[u64]
     requires { ⌜ (length (now table) ≡ 2048) × (event < 32) ⌝ }
-    ensures { λ r. ⌜ (In event (header .observable) → Rows r (By (automatonOf (now (table .entry)) header) (event ∷ []))) ⌝ }
+    ensures { λ r. ⌜ now r ≡ take 64 (drop (64 * event) (now (table .entry))) ⌝ }
 {
-    rows_of(table, 1 << event)
+    let from = 64 * event as usize;
+    let to = from + 64;
+    &table[from..to]
 }
 
 // The unobservable reach of an entry set: the states in which runs can be before the next event.
@@ -200,8 +204,7 @@ pub fn observable_reach(table: &[u64], header: Header, event: u8, estimate: u64)
     ensures { λ r. ⌜ ((trace : List ℕ) → In event (header .observable) → Is estimate (Arrives (automatonOf (now (table .entry)) header) trace)
         → Is r (Enters (automatonOf (now (table .entry)) header) (trace ++ event ∷ []))) ⌝ }
 {
-    let rows = event_rows(table, header, event);
-    image(&rows, estimate)
+    image(event_rows(table, event), estimate)
 }
 
 // From the states that some events can follow, those that the same events can follow with one more before them, through allowed states alone.
@@ -217,8 +220,7 @@ pub fn backward_reach(
     ensures { λ r. ⌜ ((rest : List ℕ) → In event (header .observable) → Rows (now (back .entry)) (λ q m. By (automatonOf (now (table .entry)) header) [] m q)
         → Is then (Leaves (automatonOf (now (table .entry)) header) allowed rest) → Is r (Leaves (automatonOf (now (table .entry)) header) allowed (event ∷ rest))) ⌝ }
 {
-    let rows = event_rows(table, header, event);
-    let into = preimage(&rows, then);
+    let into = preimage(event_rows(table, event), then);
     closure(back, allowed, into)
 }
 

@@ -1,6 +1,6 @@
 """Tests of the lister itself: `python3 tests/self_test.py`.
 
-01's feeds with its answers, and the merged listing of `runs` against one in which nothing is merged or
+01's examples with its answers, and the merged listing of `runs` against one in which nothing is merged or
 left out: each run as its list of transitions.
 """
 
@@ -14,7 +14,7 @@ from runs import Listing, TooManyRuns
 
 
 def test_examples():
-    """01's feeds and openings."""
+    """01's examples and openings."""
     assert encoded(P) == P_ENCODING and encoded(Q) == Q_ENCODING
     for automaton, events, expected in EXAMPLES:
         assert output(with_length(encoded(automaton), bytes(events))) == expected, expected

@@ -48,7 +48,7 @@ U = record {
 abbrev pub call : ℕ → Said → Call
 call byte says = record { byte = byte; says = says }
 
--- Q's description up to its last byte, and P's
+-- Q's description, its fourth and its last byte given; and P's
 abbrev pub q-bytes : ℕ → ℕ → List ℕ
 q-bytes fourth last = 0x08 ∷ 0x22 ∷ 0x00 ∷ fourth ∷ 0x48 ∷ 0x01 ∷ 0x04 ∷ 0x10 ∷ last ∷ []
 

@@ -185,14 +185,7 @@ pub fn start(log: &[u8], out: &mut [u8]) -> Monitored {
 fn write_end(progress: Progress, out: &mut [u8]) {
     let last = with_room(progress, out);
     let monitor = last.monitor;
-    let enforcer = monitor.enforcer;
-    let next = place(report::ended(
-        out,
-        last.at,
-        monitor.accepted,
-        monitor.released,
-        enforcer.count as u32,
-    ));
+    let next = place(monitor.end(out, last.at));
     flush(out, next);
 }
 

@@ -1,7 +1,7 @@
 -- Event bytes one after another. Assumes nothing.
 use mathlib.Core.Path.{_≡_, refl, sym, ap, subst, _∙_}
 use mathlib.Core.List.{List, [], _∷_, _++_, append-assoc, append-nil}
-use mathlib.Core.Logic.{_⊎_}
+use mathlib.Core.Logic.{_⊎_, inl, inr, ⊎-elim}
 use Prim.Native.Nat.{ℕ, _+_, _≤_, _<_}
 use native.Mathlib.Omega.{arith}
 use lib.ListN.{length, getD, length-append}
@@ -26,6 +26,8 @@ printed-append : {out out′ out″ xs ys : List ℕ} {at to to′ : ℕ} → Pr
 printed-append {out} {out′} {out″} {xs} {ys} {at} {to} {to′} p q = record {
   bytes = q .bytes ∙ ap (λ (l : List ℕ). sets l to ys) (p .bytes) ∙ ap (λ (k : ℕ). sets (sets out at xs) k ys) (p .place) ∙ sets-append xs ys out at;
   place = omega (arith, length-append xs ys, p .place, q .place);
+  inside = ⊎-elim (λ e. subst (λ (l : List ℕ). (l ≡ []) ⊎ (at + length l ≤ length out)) (sym (ap (λ (l : List ℕ). xs ++ l) e ∙ append-nil xs)) (p .inside))
+      (λ h. inr (omega (arith, length-append xs ys, p .place, p .size))) (q .inside);
   size = q .size ∙ p .size;
 }
 
@@ -34,7 +36,7 @@ along-start t h m events out at b = record {
   among = omega arith;
   text = [];
   lines = done;
-  printed = record { bytes = refl; place = omega arith; size = refl };
+  printed = record { bytes = refl; place = omega arith; inside = inl refl; size = refl };
   within = b;
 }
 
@@ -54,10 +56,10 @@ pub along-end : (t : List ℕ) (h : Header) (m : Monitor) (events out : List ℕ
     → Along t h m events out at e to i out′ → (i ≡ length events) ⊎ (Ready e out′ to → ⊥) → Advancing t h m events out at (taken i to) e out′
 along-end t h m events out at e to i out′ b a stop =
     let here : (l : List ℕ) (k : ℕ) → l ≡ sets out at (a .text) → k ≡ at + length (a .text) → (i ≡ length events) ⊎ (Ready e l k → ⊥) → Advancing t h m events out at (taken i k) e l =
-    λ l k x y s. rw (x, y) (advanced b (a .among) (a .lines) (a .within) (rw (x, y) at s)) in
+    λ l k x y s. rw (x, y) (advanced b (a .among) (a .lines) (a .within) (a .printed .inside) (rw (x, y) at s)) in
     here out′ to (a .printed .bytes) (a .printed .place) stop
 
 -- no more bytes are taken than there are
 pub taken-within : {t : List ℕ} {h : Header} {m : Monitor} {events out : List ℕ} {at n to : ℕ} {e : Monitor} {out′ : List ℕ}
     → Advancing t h m events out at (taken n to) e out′ → n ≤ length events
-taken-within (advanced b within lines b′ stop) = within
+taken-within (advanced b within lines b′ inside stop) = within

@@ -1,6 +1,7 @@
 -- A step's outcome, from what the verifier and the enforcer answered and what was printed. Assumes nothing.
 use mathlib.Core.Path.{_≡_, refl, sym, ap, subst, _∙_}
 use mathlib.Core.Bool.{Bool, true, false}
+use mathlib.Core.Logic.{inr}
 use mathlib.Core.List.{List}
 use lib.Dec.{eqb}
 use borrow.Author.Tests.{eqb-true, eqb-false}
@@ -33,7 +34,7 @@ use Rattle.monitor.specs.declared.Monitor.{Monitor}
 pub printed : {room at : ℕ} {before text after : List ℕ} {line : Line} → at + room ≤ length before → Written room before at text line after
     → Printed before at text (placeOf line at) after
 printed h (no-room full) = absurd (full h)
-printed {room} {at} {before} {text} h (written free) = record { bytes = refl; place = refl; size = length-sets before at text }
+printed {room} {at} {before} {text} h (written free fit) = record { bytes = refl; place = refl; inside = inr (omega arith); size = length-sets before at text }
 
 -- a refused byte leaves all but the count of offered ones
 refused-within : (t : List ℕ) (h : Header) (m : Monitor) → Within t h m → Within t h (offeredOnce m)

@@ -1,6 +1,6 @@
 -- What `advance` gives.
 use mathlib.Core.Path.{_≡_}
-use mathlib.Core.List.{List}
+use mathlib.Core.List.{List, []}
 use mathlib.Core.Logic.{_⊎_}
 use Prim.Native.Nat.{ℕ, _+_, _≤_}
 use lib.ListN.{length, take}
@@ -26,11 +26,12 @@ pub record Ready (m : Monitor) (out : List ℕ) (at : ℕ) : Type 0 where
   pub room : at + 256 ≤ length out
   pub allowed : m .offered + 1 ≤ 4294967295
 
--- event bytes: the answer, the monitor after them and the output after them. Bytes are taken until there are no more or the monitor is not ready
+-- event bytes: the answer, the monitor after them and the output after them, in which all their lines stand. Bytes are taken until there are no more or
+-- the monitor is not ready
 pub data Advancing (t : List ℕ) (h : Header) (m : Monitor) (events out : List ℕ) (at : ℕ) : Said → Monitor → List ℕ → Type 0 where
   malformed : (Within t h m → ⊥) → Advancing t h m events out at (refused 9) m out
   advanced : {n : ℕ} {text : List ℕ} {e : Monitor} → Within t h m → n ≤ length events → Lines t h m (take n events) text e → Within t h e
-      → (n ≡ length events) ⊎ (Ready e (sets out at text) (at + length text) → ⊥)
+      → (text ≡ []) ⊎ (at + length text ≤ length out) → (n ≡ length events) ⊎ (Ready e (sets out at text) (at + length text) → ⊥)
       → Advancing t h m events out at (taken n (at + length text)) e (sets out at text)
 
 -- the first i event bytes are taken, inside `advance`

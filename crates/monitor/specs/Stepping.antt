@@ -1,6 +1,7 @@
 -- What one event byte of a log, and then several, make of a monitor, and the lines that they print.
 use mathlib.Core.Path.{_≡_}
 use mathlib.Core.List.{List, [], _∷_, _++_}
+use mathlib.Core.Logic.{_⊎_}
 use Prim.Native.Nat.{ℕ, _+_, _≤_}
 use lib.ListN.{length, take}
 use lib.Seq.{sets}
@@ -67,10 +68,11 @@ pub data Lines (t : List ℕ) (h : Header) : Monitor → List ℕ → List ℕ �
   next : {m n e : Monitor} {byte : ℕ} {bytes text rest : List ℕ} → Stepping t h m byte text n → Lines t h n bytes rest e
       → Lines t h m (byte ∷ bytes) (text ++ rest) e
 
--- a text inside an output: it stands at `at`, all other bytes stay, and the next one goes behind it
+-- a text inside an output: all of it stands there, from `at` on (or there is none), all other bytes stay, and the next one goes behind it
 pub record Printed (out : List ℕ) (at : ℕ) (text : List ℕ) (next : ℕ) (out′ : List ℕ) : Type 0 where
   pub bytes : out′ ≡ sets out at text
   pub place : next ≡ at + length text
+  pub inside : (text ≡ []) ⊎ (at + length text ≤ length out)
   pub size : length out′ ≡ length out
 
 abbrev pub placeOf : Line → ℕ → ℕ

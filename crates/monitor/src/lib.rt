@@ -17,7 +17,8 @@ ghost use Rattle.automaton.specs.Run.{Sound};
 ghost use Rattle.verifier.specs.Replies as verifier;
 ghost use Rattle.verifier.specs.Replies.{Accepting};
 ghost use Rattle.verifier.specs.Verdicts.{stepsOf};
-ghost use Rattle.report.specs.Text.{acceptedLine, refusedLine};
+ghost use Rattle.report.specs.Writing.{roomFor, Written};
+ghost use Rattle.report.specs.Text.{acceptedLine, refusedLine, endLine};
 ghost use Rattle.monitor.specs.Stepping.{Balanced, Within, Countable, offeredOnce, acceptedOnce, placeOf, Printed, Stepped};
 ghost use Rattle.monitor.specs.Opening.{frontSize, Opening, Begun, said as opened};
 ghost use Rattle.monitor.specs.declared.OpenAnswer.the-variants as answer;
@@ -249,6 +250,17 @@ impl Monitor {
             monitor: now,
             answer: AdvanceAnswer::Taken(i, next),
         }
+    }
+}
+
+impl Monitor {
+    // The last line of a log: how many events were accepted, released and are pending.
+    pub fn end(self, out: &mut [u8], at: usize) -> Line
+        ensures { λ r. ⌜ Written (roomFor 0) (now (out .entry)) at (endLine (self .accepted) (self .released) (self .enforcer .count)) r (now (out .exit)) ⌝ }
+    {
+        let enforcer = self.enforcer;
+        let pending = enforcer.count as u32;
+        report::ended(out, at, self.accepted, self.released, pending)
     }
 }
 

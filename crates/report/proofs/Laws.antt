@@ -98,7 +98,7 @@ pub lined : (a : List ℕ) (fs : List (List ℕ)) → a ++ flat fs (10 ∷ []) �
 lined a fs = ap (λ (l : List ℕ). a ++ l) (flat-led fs (10 ∷ [])) ∙ sym (append-assoc a (led 32 fs) (10 ∷ []))
 
 -- the answers of the public functions
-pub entered : {m room at next : ℕ} {before after text : List ℕ} → at + room ≤ length before → Wrote m before at text after next → Written room before at text (Next next) after
-entered {m} {room} {at} {next} {before} {after} {text} h w =
+pub entered : {room at next : ℕ} {before after text : List ℕ} → at + room ≤ length before → Wrote room before at text after next → Written room before at text (Next next) after
+entered {room} {at} {next} {before} {after} {text} h w =
     subst (λ (l : List ℕ). Written room before at text (Next next) l) (sym (w .bytes))
-    (subst (λ (k : ℕ). Written room before at text (Next k) (sets before at text)) (sym (w .place)) (written h))
+    (subst (λ (k : ℕ). Written room before at text (Next k) (sets before at text)) (sym (w .place)) (written h (omega (arith, w .place, w .limit))))

@@ -11,10 +11,10 @@ use Rattle.report.specs.declared.Line.the-variants.{Next, NoRoom}
 abbrev pub roomFor : ℕ → ℕ
 roomFor released = 64 + 11 * released
 
--- a line: where it is written, its bytes stand at `at`, all other bytes stay, and the next line goes behind it
+-- a line: where it is written, its bytes all stand inside the output, from `at` on, all other bytes stay, and the next line goes behind it
 pub data Written (room : ℕ) (before : List ℕ) (at : ℕ) (text : List ℕ) : Line → List ℕ → Type 0 where
   no-room : (at + room ≤ length before → ⊥) → Written room before at text NoRoom before
-  written : at + room ≤ length before → Written room before at text (Next (at + length text)) (sets before at text)
+  written : at + room ≤ length before → length text ≤ room → Written room before at text (Next (at + length text)) (sets before at text)
 
 -- a part of a line, of at most `most` bytes, that ends before `next`
 pub record Wrote (most : ℕ) (before : List ℕ) (at : ℕ) (text after : List ℕ) (next : ℕ) : Type 0 where

@@ -18,7 +18,7 @@ use borrow.Author.Needs.{needs}
 use Rattle.enforcer.proofs.Enforcer.offer.Statement.{statement}
 use Rattle.enforcer.proofs.Enforcer.offer.Tie as tie
 
--- past the first test the plan and the Enforcer are sound
+-- past the first test the automaton and the enforcer are sound
 ok : (x : tie.Else1) → Sound (now (x .before .before .before .before .args .table)) (x .before .before .before .before .args .header)
     × Limits (x .before .before .before .before .args .header .k) (x .before .before .before .before .args .self)
 ok x = holds (x .before .sound .result) (not-false _ (x .if1 .left)) (x .before .sound .ensures)

@@ -1,4 +1,4 @@
--- A loop that tries each number below 64, from the highest down, and shifts what it found up by one. Assumes nothing.
+-- A loop that tries numbers below 65, from the highest down, and shifts what it found up by one. Assumes nothing.
 use mathlib.Core.Path.{_≡_, refl, ap, sym, subst, _∙_}
 use mathlib.Core.Logic.{⊎-elim}
 use Prim.Native.Nat.{ℕ, zero, suc, _+_, _-_, _*_, _/_, _%_, _^_, _≤_, _<_}
@@ -16,11 +16,11 @@ pub record From (P : ℕ → Type 0) (q r : ℕ) : Type 0 where
   pub whole : (p : ℕ) → P (q + p) → In p r
 
 module _ (P : ℕ → Type 0) where
-  pub from-start : ((x : ℕ) → P x → x < 64) → From P 64 0
-  from-start below = record {
-    small = omega arith;
+  pub from-start : (q : ℕ) → ((x : ℕ) → P x → x < q) → From P q 0
+  from-start q below = record {
+    small = pow-pos (64 - q);
     sound = λ p i. absurd (omega (arith, bit-zero p));
-    whole = λ p x. absurd (omega (arith, below (64 + p) x));
+    whole = λ p x. absurd (omega (arith, below (q + p) x));
   }
 
   pub from-end : (q r : ℕ) → q ≡ 0 → From P q r → Is r P

@@ -7,11 +7,12 @@ use Rattle.automaton.specs.Run.{automatonOf, Sound}
 use Rattle.automaton.specs.declared.Header.{Header}
 use Rattle.verifier.specs.declared.Notion.{Notion}
 use Rattle.verifier.specs.declared.Notion.the-variants.{Weak, Strong}
+use Rattle.verifier.specs.declared.Verdict.{Verdict}
 use Rattle.verifier.specs.declared.Verdicts.{Verdicts}
 use Rattle.verifier.specs.declared.Estimator.{Estimator}
 use Rattle.verifier.specs.Verdicts.{stepsOf, Tells}
 use Rattle.verifier.specs.Replies as verifier
-use Rattle.verifier.specs.Replies.{Accepting}
+use Rattle.verifier.specs.Replies.{Accepting, AcceptedBy}
 use Rattle.enforcer.specs.Enforcers.{Limits, Grown}
 use Rattle.enforcer.specs.Offerings.{refused, said, Offering, Exact, not-observable, incompatible, accepted}
 use Rattle.enforcer.specs.Inner.{waitOf, chosen, Took}
@@ -33,24 +34,24 @@ pub chosen-tells : (notion : Notion) (t : List ℕ) (h : Header) (trace : List �
 chosen-tells Weak t h trace v s x = x .weak
 chosen-tells Strong t h trace v s x = x .strong
 
-pub taken-outcome : (t : List ℕ) (h : Header) (self : Enforcer) (byte : ℕ) (output : List ℕ) (v : Verdicts) (s : Estimator) (r : OfferAnswer) (after : Enforcer) (left : List ℕ)
-    → Sound t h → Limits (h .k) self → 17 ≤ length output → Accepting t h (self .estimator) byte (verifier.verdicts (stepsOf (v .weak)) (stepsOf (v .strong))) s
-    → Took (h .k) self s (waitOf (h .k) (stepsOf (chosen (self .notion) v))) byte output r after left → Offering t h self byte output (said r) after left
+pub taken-outcome : (t : List ℕ) (h : Header) (self : Enforcer) (byte : ℕ) (output : List ℕ) (v : Verdict) (s : Estimator) (r : OfferAnswer) (after : Enforcer) (left : List ℕ)
+    → Sound t h → Limits (h .k) self → 17 ≤ length output → AcceptedBy (self .notion) t h (self .estimator) byte (stepsOf v) s
+    → Took (h .k) self s (waitOf (h .k) (stepsOf v)) byte output r after left → Offering t h self byte output (said r) after left
 taken-outcome t h self byte output v s (offer.Refused r) after left so li wide acc took = absurd took
-taken-outcome t h self byte output v s (offer.Released f) after left so li wide (Accepting.accepted so′ li′ ob ls bw bs exact) took =
+taken-outcome t h self byte output v s (offer.Released f) after left so li wide acc took =
     let enough = took .shifted .ready .enough in
     let bal = took .shifted .balance in
+    let ob = acc .observable in
     let limits : Limits (h .k) after = record {
-      estimator = rw (took .estimator-is) ls;
+      estimator = rw (took .estimator-is) (acc .limits-after);
       few = omega arith;
       small = took .small (omega (arith, ob .event-small)) (li .small);
     } in
     accepted so li wide ob limits (took .shifted .balance) (took .front) (took .shifted .rest)
     (λ notion trace g.
-    let x = exact trace (g .estimator) in
-    let tells : Tells notion (automatonOf t h) (h .secret) (h .k) (trace ++ byte ∷ []) (stepsOf (chosen (self .notion) v)) =
-    rw (g .under) (chosen-tells notion t h (trace ++ byte ∷ []) v s x) in
+    let x = acc .exact trace (g .estimator) in
+    let tells : Tells notion (automatonOf t h) (h .secret) (h .k) (trace ++ byte ∷ []) (stepsOf v) = rw (← g .under) (x .tells) in
     record {
       possible = x .possible;
-      grown = grown-next notion (automatonOf t h) (h .secret) (h .k) trace self s (stepsOf (chosen (self .notion) v)) byte output f after left g tells took (x .possible) (x .grown) limits;
+      grown = grown-next notion (automatonOf t h) (h .secret) (h .k) trace self s (stepsOf v) byte output f after left g tells took (x .possible) (x .grown) limits;
     })

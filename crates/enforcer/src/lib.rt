@@ -1,6 +1,7 @@
 use automaton::Header;
 use automaton::Refusal;
 use verifier::Answer;
+use verifier::AnswerBy;
 use verifier::Estimator;
 use verifier::Notion;
 use verifier::Verdict;
@@ -274,18 +275,17 @@ impl Enforcer {
             };
         }
         let estimator = self.estimator;
-        let reply = estimator.accept(table, header, byte);
+        let notion = self.notion;
+        let reply = estimator.accept_by(table, header, notion, byte);
         let answer = reply.answer;
         match answer {
-            Answer::Refused(refusal) => Given {
+            AnswerBy::Refused(refusal) => Given {
                 enforcer: self,
                 answer: OfferAnswer::Refused(refusal),
             },
-            Answer::Accepted(verdicts) => {
+            AnswerBy::Accepted(verdict) => {
                 let next = reply.estimator;
-                let notion = self.notion;
                 let k = header.k;
-                let verdict = choose(notion, verdicts);
                 let w = wait(k, verdict);
                 self.take_in(k, next, w, byte, output)
             }

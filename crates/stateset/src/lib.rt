@@ -1,7 +1,7 @@
 // Sets of states, a bit for each: state q is in the set where bit q, counted from the least significant, is 1.
 ghost use mathlib.Core.Path.{_≡_};
 ghost use mathlib.Core.Logic.{_⊎_};
-ghost use Prim.Native.Nat.{_<_};
+ghost use Prim.Native.Nat.{ℕ, _<_, _≤_};
 ghost use Rattle.stateset.specs.Set.{In, Is, Decided};
 
 // The set of all 64 states.
@@ -26,4 +26,11 @@ pub fn with(set: u64, state: usize) -> u64
     ensures { λ r. ⌜ Is r (λ q. In q set ⊎ (q ≡ state)) ⌝ }
 {
     set | 1 << state
+}
+
+// A number above every state of the set: the highest one, and one more.
+pub fn bound(set: u64) -> usize
+    ensures { λ r. ⌜ (r ≤ 64) × ((q : ℕ) → In q set → q < r) ⌝ }
+{
+    64 - u64::leading_zeros(set) as usize
 }

@@ -6,10 +6,13 @@ use Rattle.automaton.specs.Refusals.{numberOf}
 use Rattle.automaton.specs.declared.Header.{Header}
 use Rattle.verifier.specs.Verdicts.{Steps, none, leak, stepsOf, Tells}
 use Rattle.verifier.specs.Estimators.{Limits, Grown}
+use Rattle.verifier.specs.declared.Notion.{Notion}
 use Rattle.verifier.specs.declared.Notion.the-variants.{Weak, Strong}
 use Rattle.verifier.specs.declared.Estimator.{Estimator}
 use Rattle.verifier.specs.declared.Answer.{Answer}
 use Rattle.verifier.specs.declared.Answer.the-variants as answer
+use Rattle.verifier.specs.declared.AnswerBy.{AnswerBy}
+use Rattle.verifier.specs.declared.AnswerBy.the-variants as by
 
 -- what an answer says: the number of a refusal, or the steps of the two verdicts
 pub data Said : Type 0 where
@@ -48,3 +51,29 @@ pub data Accepting (t : List ℕ) (h : Header) (self : Estimator) (event : ℕ) 
       → Limits (h .k) s → Bounded (h .k) weak → Bounded (h .k) strong
       → ((trace : List ℕ) → Grown (automatonOf t h) (h .k) trace self → Exact t h (trace ++ event ∷ []) weak strong s)
       → Accepting t h self event (verdicts weak strong) s
+
+-- the same by one notion alone: the number of a refusal, or the steps of its verdict
+pub data SaidBy : Type 0 where
+  refusedBy : ℕ → SaidBy
+  verdict : Steps → SaidBy
+
+abbrev pub saidBy : AnswerBy → SaidBy
+saidBy (by.Refused r) = refusedBy (numberOf r)
+saidBy (by.Accepted v) = verdict (stepsOf v)
+
+pub record ExactBy (notion : Notion) (t : List ℕ) (h : Header) (trace : List ℕ) (v : Steps) (s : Estimator) : Type 0 where
+  pub possible : Possible (automatonOf t h) trace
+  pub tells : Tells notion (automatonOf t h) (h .secret) (h .k) trace v
+  pub grown : Grown (automatonOf t h) (h .k) trace s
+
+pub record AcceptedBy (notion : Notion) (t : List ℕ) (h : Header) (self : Estimator) (event : ℕ) (v : Steps) (s : Estimator) : Type 0 where
+  pub sound : Sound t h
+  pub limits : Limits (h .k) self
+  pub observable : Observable h event
+  pub limits-after : Limits (h .k) s
+  pub bounded : Bounded (h .k) v
+  pub exact : (trace : List ℕ) → Grown (automatonOf t h) (h .k) trace self → ExactBy notion t h (trace ++ event ∷ []) v s
+
+abbrev pub AcceptingBy : Notion → List ℕ → Header → Estimator → ℕ → SaidBy → Estimator → Type 0
+AcceptingBy notion t h self event (refusedBy n) s = Accepting t h self event (refused n) s
+AcceptingBy notion t h self event (verdict v) s = AcceptedBy notion t h self event v s

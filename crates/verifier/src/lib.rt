@@ -3,15 +3,15 @@ use automaton::Refusal;
 ghost use mathlib.Core.Path.{_≡_};
 ghost use mathlib.Core.List.{List, [], _∷_, _++_};
 ghost use Prim.Native.Nat.{ℕ, _+_, _≤_, _<_, min};
-ghost use lib.ListN.{length, getD};
-ghost use Rattle.stateset.specs.Set.{Is, Decided};
+ghost use lib.ListN.{length, getD, replicate};
+ghost use Rattle.stateset.specs.Set.{In, Is, Decided};
 ghost use Rattle.automaton.specs.Run.{Automaton, automatonOf, Possible, Sound, Observable};
-ghost use Rattle.automaton.specs.Reaching.{By, Enters};
-ghost use Rattle.automaton.specs.Relation.{Rows};
+ghost use Rattle.automaton.specs.Reaching.{Enters, Arrives, Closed};
+ghost use Rattle.automaton.specs.Relation.{Sub};
 ghost use Rattle.verifier.specs.declared.Notion.the-variants as notion;
 ghost use Rattle.verifier.specs.Estimators.{Limits, Grown};
-ghost use Rattle.verifier.specs.Replies.{said, Opening, Accepting};
-ghost use Rattle.verifier.specs.Inner.{Pushed, Next, Prepared, Found, Judged};
+ghost use Rattle.verifier.specs.Replies.{said, saidBy, Opening, Accepting, AcceptingBy};
+ghost use Rattle.verifier.specs.Inner.{Pushed, Next, Sampled, Prepared, Found, Judged, Advancing};
 
 // 01's "none", or "leak" with its steps.
 pub enum Verdict {
@@ -44,6 +44,28 @@ pub struct Estimator {
 pub struct Reply {
     pub estimator: Estimator,
     pub answer: Answer,
+}
+
+// The same by one notion alone.
+pub enum AnswerBy {
+    Refused(Refusal),
+    Accepted(Verdict),
+}
+
+pub struct ReplyBy {
+    pub estimator: Estimator,
+    pub answer: AnswerBy,
+}
+
+// An event was refused, or the estimator has moved on, and a look back stays within some states.
+pub enum AdvanceAnswer {
+    Refused(Refusal),
+    Within(u64),
+}
+
+pub struct Advance {
+    pub estimator: Estimator,
+    pub answer: AdvanceAnswer,
 }
 
 // The states right after one more event, if a run is left.
@@ -97,23 +119,49 @@ fn count_after(count: u8, k: u8) -> u8
     k
 }
 
+// The states of all entry sets.
+fn entered(entries: [u64; 16]) -> u64
+    ensures { λ r. ⌜ ((l q : ℕ) → l < 16 → In q (getD entries l 0) → In q r) ⌝ }
+{
+    let mut r: u64 = 0;
+    for l in 0..16 {
+        r |= entries[l];
+    }
+    r
+}
+
 // The states right after one more event, from those right after the event before it.
 fn next_estimate(
     table: &[u64],
     header: Header,
-    silent: &[u64; 64],
+    silent: &[u64],
+    states: u64,
     entry: u64,
     event: u8,
 ) -> NextEstimate
-    requires { ⌜ Sound (now table) header × Observable header event × Rows (now silent) (By (automatonOf (now table) header) []) ⌝ }
+    requires { ⌜ Sound (now table) header × Observable header event × Closed (automatonOf (now table) header) states (now silent) × Sub entry states ⌝ }
     ensures { λ r. ⌜ Next (automatonOf (now (table .entry)) header) entry event r ⌝ }
 {
-    let estimate = automaton::unobservable_reach(silent, entry);
-    let states = automaton::observable_reach(table, header, event, estimate);
-    if states == 0 {
+    let estimate = automaton::unobservable_reach(silent, states, entry);
+    let after = automaton::observable_reach(table, header, event, estimate);
+    if after == 0 {
         return NextEstimate::Empty;
     }
-    NextEstimate::States(states)
+    NextEstimate::States(after)
+}
+
+// The possible states, those in which runs can be and that are in `then`; or, where one of them is not secret, it among some of them. (Most often
+// one is right after the event, and nothing is closed.)
+fn possible_states(silent: &[u64], states: u64, entry: u64, then: u64, secret: u64) -> u64
+    requires { ⌜ length (now silent) ≡ 64 ⌝ }
+    ensures { λ r. ⌜ ((p : Automaton) (trace : List ℕ) → p .initial ≤ 63 → Closed p states (now (silent .entry)) → Sub entry states
+        → Is entry (Enters p trace) → Sampled secret then (Arrives p trace) r) ⌝ }
+{
+    let some = entry & then;
+    if some & !secret != 0 {
+        return some;
+    }
+    automaton::unobservable_reach(silent, states, entry) & then
 }
 
 // The least step back at which every possible state is secret. (01: "every moment of count n − l is in a secret state". The possible states l steps
@@ -122,22 +170,22 @@ fn weak_verdict(
     estimator: Estimator,
     table: &[u64],
     header: Header,
-    silent: &[u64; 64],
-    back: &[u64; 64],
-    secret: u64,
+    silent: &[u64],
+    back: &[u64],
+    states: u64,
     last: u8,
 ) -> Verdict
-    requires { ⌜ Prepared (now table) header estimator (now back) × Rows (now silent) (By (automatonOf (now table) header) []) × (last ≤ estimator .count) ⌝ }
-    ensures { λ r. ⌜ Found notion.Weak (automatonOf (now (table .entry)) header) secret last estimator r ⌝ }
+    requires { ⌜ Prepared (now table) header estimator (now silent) (now back) states × (last ≤ estimator .count) ⌝ }
+    ensures { λ r. ⌜ Found notion.Weak (automatonOf (now (table .entry)) header) (header .secret) last estimator r ⌝ }
 {
     let events = estimator.events;
     let entries = estimator.entries;
-    let mut then = stateset::ALL;
+    let secret = header.secret;
+    let mut then = states;
     let mut l: u8 = 0;
     'steps: loop {
         let at = l as usize;
-        let estimate = automaton::unobservable_reach(silent, entries[at]);
-        let possible = estimate & then;
+        let possible = possible_states(silent, states, entries[at], then, secret);
         let mut todo = possible;
         'states: while todo != 0 {
             let q = u64::trailing_zeros(todo);
@@ -152,7 +200,7 @@ fn weak_verdict(
         if l == last {
             return Verdict::NoLeak;
         }
-        then = automaton::backward_reach(table, header, back, stateset::ALL, events[at], then);
+        then = automaton::backward_reach(table, header, back, states, events[at], then);
         l += 1;
     }
 }
@@ -162,16 +210,18 @@ fn strong_verdict(
     estimator: Estimator,
     table: &[u64],
     header: Header,
-    back: &[u64; 64],
-    secret: u64,
+    silent: &[u64],
+    back: &[u64],
+    states: u64,
     last: u8,
 ) -> Verdict
-    requires { ⌜ Prepared (now table) header estimator (now back) × (last ≤ estimator .count) ⌝ }
-    ensures { λ r. ⌜ Found notion.Strong (automatonOf (now (table .entry)) header) secret last estimator r ⌝ }
+    requires { ⌜ Prepared (now table) header estimator (now silent) (now back) states × (last ≤ estimator .count) ⌝ }
+    ensures { λ r. ⌜ Found notion.Strong (automatonOf (now (table .entry)) header) (header .secret) last estimator r ⌝ }
 {
     let events = estimator.events;
     let entries = estimator.entries;
-    let mut then = !secret;
+    let clear = states & !header.secret;
+    let mut then = clear;
     let mut l: u8 = 0;
     'steps: loop {
         let at = l as usize;
@@ -181,8 +231,28 @@ fn strong_verdict(
         if l == last {
             return Verdict::NoLeak;
         }
-        then = automaton::backward_reach(table, header, back, !secret, events[at], then);
+        then = automaton::backward_reach(table, header, back, clear, events[at], then);
         l += 1;
+    }
+}
+
+// The verdict by a notion.
+fn judge_by(
+    notion: Notion,
+    estimator: Estimator,
+    table: &[u64],
+    header: Header,
+    silent: &[u64],
+    back: &[u64],
+    states: u64,
+) -> Verdict
+    requires { ⌜ Prepared (now table) header estimator (now silent) (now back) states ⌝ }
+    ensures { λ r. ⌜ Found notion (automatonOf (now (table .entry)) header) (header .secret) (estimator .count) estimator r ⌝ }
+{
+    let last = estimator.count;
+    match notion {
+        Notion::Weak => weak_verdict(estimator, table, header, silent, back, states, last),
+        Notion::Strong => strong_verdict(estimator, table, header, silent, back, states, last),
     }
 }
 
@@ -190,16 +260,16 @@ fn judge(
     estimator: Estimator,
     table: &[u64],
     header: Header,
-    silent: &[u64; 64],
-    back: &[u64; 64],
+    silent: &[u64],
+    back: &[u64],
+    states: u64,
 ) -> Verdicts
-    requires { ⌜ Prepared (now table) header estimator (now back) × Rows (now silent) (By (automatonOf (now table) header) []) ⌝ }
+    requires { ⌜ Prepared (now table) header estimator (now silent) (now back) states ⌝ }
     ensures { λ r. ⌜ Judged (now (table .entry)) header estimator r ⌝ }
 {
-    let secret = header.secret;
     let last = estimator.count;
-    let weak = weak_verdict(estimator, table, header, silent, back, secret, last);
-    let strong = strong_verdict(estimator, table, header, back, secret, last);
+    let weak = weak_verdict(estimator, table, header, silent, back, states, last);
+    let strong = strong_verdict(estimator, table, header, silent, back, states, last);
     Verdicts {
         weak: weak,
         strong: strong,
@@ -277,50 +347,106 @@ impl Estimator {
             };
         }
         let estimator = Estimator::initial(header.initial);
-        let silent = automaton::silent_rows(table, header);
-        let back = automaton::silent_back(table, header, &silent);
-        let verdicts = judge(estimator, table, header, &silent, &back);
+        let mut silent = [0u64; 64];
+        let entries = estimator.entries;
+        let from = entered(entries);
+        let near = automaton::silent_rows(table, header, &mut silent, 0, from);
+        let back = automaton::silent_back(&silent, near.states);
+        let verdicts = judge(estimator, table, header, &silent, &back, near.states);
         Reply {
             estimator: estimator,
             answer: Answer::Accepted(verdicts),
         }
     }
 
-    // Accepts one event, or hands back the estimator as it was. (01: "An event on which no run is left is turned back, and the watch stays.")
-    pub fn accept(self, table: &[u64], header: Header, event: u8) -> Reply
-        ensures { λ r. ⌜ Accepting (now (table .entry)) header self event (said (r .answer)) (r .estimator) ⌝ }
+    // Accepts one event, up to the verdicts, or hands back the estimator as it was. (01: "An event on which no run is left is turned back, and the
+    // watch stays.") What is known of unobservable events is left behind, for the look back.
+    fn advance(self, table: &[u64], header: Header, event: u8, silent: &mut [u64]) -> Advance
+        requires { ⌜ now silent ≡ replicate 64 0 ⌝ }
+        ensures { λ r. ⌜ Advancing (now (table .entry)) header self event (now (silent .exit)) (r .answer) (r .estimator) ⌝ }
     {
         if !self.sound(table, header) {
-            return Reply {
+            return Advance {
                 estimator: self,
-                answer: Answer::Refused(Refusal::Malformed),
+                answer: AdvanceAnswer::Refused(Refusal::Malformed),
             };
         }
         if !automaton::observable(header, event) {
-            return Reply {
+            return Advance {
                 estimator: self,
-                answer: Answer::Refused(Refusal::NotObservable),
+                answer: AdvanceAnswer::Refused(Refusal::NotObservable),
             };
         }
-        let silent = automaton::silent_rows(table, header);
+        let newest = self.entries[0];
+        let near = automaton::silent_rows(table, header, silent, 0, newest);
         let NextEstimate::States(entry) = next_estimate(
             table,
             header,
-            &silent,
-            self.entries[0],
+            silent,
+            near.states,
+            newest,
             event,
         ) else {
-            return Reply {
+            return Advance {
                 estimator: self,
-                answer: Answer::Refused(Refusal::Incompatible),
+                answer: AdvanceAnswer::Refused(Refusal::Incompatible),
             };
         };
         let estimator = self.push(header.k, event, entry);
-        let back = automaton::silent_back(table, header, &silent);
-        let verdicts = judge(estimator, table, header, &silent, &back);
-        Reply {
+        let entries = estimator.entries;
+        let from = near.states | entered(entries);
+        let reach = automaton::silent_rows(table, header, silent, near.known, from);
+        Advance {
             estimator: estimator,
-            answer: Answer::Accepted(verdicts),
+            answer: AdvanceAnswer::Within(reach.states),
+        }
+    }
+
+    // Accepts one event, or hands back the estimator as it was.
+    pub fn accept(self, table: &[u64], header: Header, event: u8) -> Reply
+        ensures { λ r. ⌜ Accepting (now (table .entry)) header self event (said (r .answer)) (r .estimator) ⌝ }
+    {
+        let mut silent = [0u64; 64];
+        let moved = self.advance(table, header, event, &mut silent);
+        let estimator = moved.estimator;
+        let answer = moved.answer;
+        match answer {
+            AdvanceAnswer::Refused(refusal) => Reply {
+                estimator: estimator,
+                answer: Answer::Refused(refusal),
+            },
+            AdvanceAnswer::Within(states) => {
+                let back = automaton::silent_back(&silent, states);
+                let verdicts = judge(estimator, table, header, &silent, &back, states);
+                Reply {
+                    estimator: estimator,
+                    answer: Answer::Accepted(verdicts),
+                }
+            }
+        }
+    }
+
+    // The same by one notion alone, for half of the work.
+    pub fn accept_by(self, table: &[u64], header: Header, notion: Notion, event: u8) -> ReplyBy
+        ensures { λ r. ⌜ AcceptingBy notion (now (table .entry)) header self event (saidBy (r .answer)) (r .estimator) ⌝ }
+    {
+        let mut silent = [0u64; 64];
+        let moved = self.advance(table, header, event, &mut silent);
+        let estimator = moved.estimator;
+        let answer = moved.answer;
+        match answer {
+            AdvanceAnswer::Refused(refusal) => ReplyBy {
+                estimator: estimator,
+                answer: AnswerBy::Refused(refusal),
+            },
+            AdvanceAnswer::Within(states) => {
+                let back = automaton::silent_back(&silent, states);
+                let verdict = judge_by(notion, estimator, table, header, &silent, &back, states);
+                ReplyBy {
+                    estimator: estimator,
+                    answer: AnswerBy::Accepted(verdict),
+                }
+            }
         }
     }
 }

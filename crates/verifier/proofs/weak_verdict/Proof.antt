@@ -5,46 +5,54 @@ use mathlib.Core.Logic.{⊎-elim}
 use Prim.Native.Nat.{ℕ, _-_, _/_, _^_, _≤_, _<_}
 use native.Mathlib.Omega.{arith}
 use borrow.Author.Needs.{needs}
-use lib.Bits.{bitAnd, and-le-l}
+use lib.Bits.{bitAnd}
 use lib.Count.{trailingZeros}
 use lib.ListN.{length, take}
-use Rattle.stateset.specs.Set.{In, Is, everything}
+use Rattle.stateset.specs.Set.{In}
 use Rattle.stateset.proofs.Bits.{Taken, taken, in-test, bit-lt}
 use Rattle.automaton.specs.Run.{automatonOf}
 use Rattle.automaton.specs.Notion.{ClearAt}
 use Rattle.automaton.specs.Reaching.{Arrives}
 use Rattle.verifier.specs.declared.Notion.the-variants.{Weak}
-use Rattle.verifier.specs.Inner.{Remembers}
+use Rattle.verifier.specs.Inner.{Remembers, Sampled}
 use Rattle.verifier.proofs.Passing.{Passed, pass-start, pass-turn, pass-end}
-use Rattle.verifier.proofs.LookBack.{SoFar, back-start, back-turn, back-none, back-leak, weak-sure, weak-clear}
+use Rattle.verifier.proofs.LookBack.{SoFar, back-start, back-turn, back-none, back-leak, remembers-inside, weak-sure, weak-clear}
 use Rattle.verifier.proofs.weak_verdict.Statement.{statement}
 use Rattle.verifier.proofs.weak_verdict.Tie as tie
 
 abbrev Inv-states : tie.InvT-states
-Inv-states table header silent back secret last events entries then l at estimate possible todo₀ todo = Passed possible secret todo
+Inv-states table header silent back states last events entries secret then l at possible todo₀ todo = Passed possible secret todo
 
 abbrev μ-states : tie.MeasureT-states
-μ-states table header silent back secret last events entries then l at estimate possible todo₀ todo = todo
+μ-states table header silent back states last events entries secret then l at possible todo₀ todo = todo
 
 abbrev Inv-steps : tie.InvT-steps
-Inv-steps table header silent back secret last events entries then₀ l₀ then l = (l ≤ last) × (last ≤ 15)
-    × ((trace : List ℕ) → Remembers (automatonOf table header) trace last events entries → SoFar Weak (automatonOf table header) secret everything trace l then)
+Inv-steps table header silent back states last events entries secret then₀ l₀ then l = (l ≤ last) × (last ≤ 15)
+    × ((trace : List ℕ) → Remembers (automatonOf table header) trace last events entries → SoFar Weak (automatonOf table header) secret states trace l then)
 
 abbrev μ-steps : tie.MeasureT-steps
-μ-steps table header silent back secret last events entries then₀ l₀ then l = last - l
+μ-steps table header silent back states last events entries secret then₀ l₀ then l = last - l
 
-abbrev begin : tie.After-unobservable-reach Inv-states μ-states Inv-steps μ-steps → tie.Start Inv-states μ-states Inv-steps μ-steps
-begin u = u .before .before .before .before .before
+abbrev begin : tie.After-possible-states Inv-states μ-states Inv-steps μ-steps → tie.Start Inv-states μ-states Inv-steps μ-steps
+begin u = u .before .before .before .before .before .before .before
 
-abbrev Trace : tie.After-unobservable-reach Inv-states μ-states Inv-steps μ-steps → List ℕ → Type 0
+abbrev Trace : tie.After-possible-states Inv-states μ-states Inv-steps μ-steps → List ℕ → Type 0
 Trace u trace =
     Remembers (automatonOf (begin u .args .table .now) (begin u .args .header)) trace (begin u .args .last) (begin u .args .estimator .events) (begin u .args .estimator .entries)
 
--- the states in which runs can be l steps back
-estimated : (u : tie.After-unobservable-reach Inv-states μ-states Inv-steps μ-steps) (trace : List ℕ) → Trace u trace
-    → Is (u .unobservable-reach .result) (Arrives (automatonOf (begin u .args .table .now) (begin u .args .header)) (take (length trace - u .before .steps .l) trace))
-estimated u trace m =
-    u .unobservable-reach .ensures _ _ (begin u .pre .0 .sound .start) (begin u .pre .1) (m .entries-are (u .before .steps .l) (u .before .steps .inv .0))
+-- possible states l steps back
+sampled : (u : tie.After-possible-states Inv-states μ-states Inv-steps μ-steps) (trace : List ℕ) → Trace u trace
+    → Sampled (begin u .args .header .secret) (u .before .steps .then) (Arrives (automatonOf (begin u .args .table .now) (begin u .args .header)) (take (length trace - u .before .steps .l) trace))
+    (u .possible-states .result)
+sampled u trace m =
+    let a = begin u in
+    let s = u .before .steps in
+    u .possible-states .ensures _ _ (a .pre .0 .sound .start) (a .pre .0 .near .closed) (λ q i. a .pre .0 .near .inside (s .l) q (omega (arith, s .inv .0, s .inv .1)) i) (m .entries-are (s .l) (s .inv .0))
+
+-- the states of the look back
+inside : (u : tie.After-possible-states Inv-states μ-states Inv-steps μ-steps) (trace : List ℕ) → Trace u trace → (j q : ℕ) → length trace - begin u .args .last ≤ j → j ≤ length trace
+    → Arrives (automatonOf (begin u .args .table .now) (begin u .args .header)) (take j trace) q → In q (begin u .args .states)
+inside u trace m = remembers-inside _ trace _ _ _ _ (u .before .steps .inv .1) (begin u .pre .0 .near) m
 
 -- a digit that is not 0
 one : (q w : ℕ) → (bitAnd (w / 2 ^ q) 1 ≡ 0 → ⊥) → In q w
@@ -59,7 +67,7 @@ pick c = taken (c .before .states .todo) (omega arith) (c .before .states .inv .
 
 -- the state at which the inner loop was left excuses the system
 clear : (c : tie.Else2 Inv-states μ-states Inv-steps μ-steps) (trace : List ℕ) → Trace (c .before .before .before) trace
-    → ClearAt (automatonOf (begin (c .before .before .before) .args .table .now) (begin (c .before .before .before) .args .header)) (begin (c .before .before .before) .args .secret) trace
+    → ClearAt (automatonOf (begin (c .before .before .before) .args .table .now) (begin (c .before .before .before) .args .header)) (begin (c .before .before .before) .args .header .secret) trace
     (length trace - c .before .before .before .before .steps .l)
 clear c trace m =
     let u = c .before .before .before in
@@ -71,31 +79,31 @@ clear c trace m =
     (λ w. absurd (omega arith))
     (λ v.
     let t = taken w (omega arith) (c .before .before .states .inv .small) in
-    weak-clear _ _ trace (s .l) _ _ (a .pre .0 .sound .start) (estimated u trace m) (x .follows) (trailingZeros 64 w) (c .before .before .states .inv .kept (trailingZeros 64 w) (t .inside))
-    (λ i. omega (arith, in-test (trailingZeros 64 w) (a .args .secret), v .1 .taken)))
+    weak-clear _ _ trace _ (s .l) _ _ _ (a .pre .0 .sound .start) (s .inv .0) (inside u trace m) (sampled u trace m) (x .follows) (trailingZeros 64 w)
+    (c .before .before .states .inv .kept (trailingZeros 64 w) (t .inside)) (λ i. omega (arith, in-test (trailingZeros 64 w) (a .args .header .secret), v .1 .taken)))
     (c .before .states-test .came)
 
 steps-holds : tie.Need-steps-holds Inv-states μ-states Inv-steps μ-steps
 steps-holds c =
-    let a = c .before .before .before in
-    (omega arith, omega (arith, a .pre .2, a .pre .0 .limits .few, a .pre .0 .sound .back), λ trace m. back-start Weak _ _ _ trace)
+    let a = c .before .before .before .before .before in
+    (omega arith, omega (arith, a .pre .1, a .pre .0 .limits .few, a .pre .0 .sound .back), λ trace m. back-start Weak _ _ _ trace)
 
 cast-at : tie.Need-cast-at Inv-states μ-states Inv-steps μ-steps
 cast-at c = search needs
 
-mul-unobservable-reach : tie.Need-mul-unobservable-reach Inv-states μ-states Inv-steps μ-steps
-mul-unobservable-reach c = omega arith
+mul-possible-states : tie.Need-mul-possible-states Inv-states μ-states Inv-steps μ-steps
+mul-possible-states c = omega arith
 
-array-read-unobservable-reach :
-    tie.Need-array-read-unobservable-reach Inv-states μ-states Inv-steps μ-steps
-array-read-unobservable-reach c = omega arith
+array-read-possible-states :
+    tie.Need-array-read-possible-states Inv-states μ-states Inv-steps μ-steps
+array-read-possible-states c = omega arith
 
-unobservable-reach-requires :
-    tie.Need-unobservable-reach-requires Inv-states μ-states Inv-steps μ-steps
-unobservable-reach-requires c κs = search needs
+possible-states-requires :
+    tie.Need-possible-states-requires Inv-states μ-states Inv-steps μ-steps
+possible-states-requires c κs = search needs
 
 states-holds : tie.Need-states-holds Inv-states μ-states Inv-steps μ-steps
-states-holds c = pass-start _ _ (omega (arith, and-le-l (c .unobservable-reach .result) (c .before .steps .then)))
+states-holds c = pass-start _ _ (omega arith)
 
 cast-if1 : tie.Need-cast-if1 Inv-states μ-states Inv-steps μ-steps
 cast-if1 c = omega (arith, pick c .small)
@@ -112,7 +120,7 @@ states-less c = pick (c .before) .less
 states-again : tie.Need-states-again Inv-states μ-states Inv-steps μ-steps
 states-again c =
     let q = trailingZeros 64 (c .before .before .states .todo) in
-    pass-turn _ _ _ q _ (pick (c .before)) (one q (begin (c .before .before .before) .args .secret) (c .if1 .left)) (c .before .before .states .inv)
+    pass-turn _ _ _ q _ (pick (c .before)) (one q (begin (c .before .before .before) .args .header .secret) (c .if1 .left)) (c .before .before .states .inv)
 
 returns : tie.Need-returns Inv-states μ-states Inv-steps μ-steps
 returns c =
@@ -124,7 +132,8 @@ returns c =
       exact = λ trace m.
           let x = s .inv .2 trace m in
           back-leak Weak _ _ _ trace _ _ _ (s .inv .0) (m .reached) x
-          (weak-sure _ _ trace (s .l) _ _ (a .pre .0 .sound .start) (estimated u trace m) (x .follows) (λ q h i. pass-end _ _ _ (c .if2 .taken) (c .before .before .states .inv) q i));
+          (weak-sure _ _ trace _ (s .l) _ _ _ (a .pre .0 .sound .start) (s .inv .0) (inside u trace m) (sampled u trace m) (x .follows)
+          (λ q i. pass-end _ _ _ (c .if2 .taken) (c .before .before .states .inv) q i));
     }
 
 returns-2 : tie.Need-returns-2 Inv-states μ-states Inv-steps μ-steps
@@ -142,7 +151,7 @@ array-read-backward-reach c = omega arith
 backward-reach-requires : tie.Need-backward-reach-requires Inv-states μ-states Inv-steps μ-steps
 backward-reach-requires c κs =
     let a = begin (c .before .before .before .before) in
-    (a .pre .0 .sound .words, omega (arith, a .pre .0 .limits .small (c .before .before .before .before .before .steps .l) (omega (arith, a .pre .2))))
+    (a .pre .0 .sound .words, a .pre .0 .back-are .size, omega (arith, a .pre .0 .limits .small (c .before .before .before .before .before .steps .l) (omega (arith, a .pre .1))))
 
 add-l : tie.Need-add-l Inv-states μ-states Inv-steps μ-steps
 add-l c = omega arith
@@ -157,7 +166,7 @@ steps-again c =
       omega arith,
       s .inv .1,
       λ trace m. back-turn Weak _ _ _ trace _ _ _ _ _ _ m (omega arith) (s .inv .2 trace m) (clear (c .before .before) trace m)
-          (λ o F. c .backward-reach .ensures _ o (a .pre .0 .back-are) F),
+          (λ o F. c .backward-reach .ensures _ _ o (a .pre .0 .back-are) (λ q i. i) F),
     )
 
 pub weak-verdict-spec : {M : Type 1} → statement M
@@ -170,9 +179,9 @@ weak-verdict-spec =
     μ-steps
     steps-holds
     cast-at
-    mul-unobservable-reach
-    array-read-unobservable-reach
-    unobservable-reach-requires
+    mul-possible-states
+    array-read-possible-states
+    possible-states-requires
     states-holds
     cast-if1
     shr-if1

@@ -2,13 +2,11 @@ use mathlib.Core.Path.{_≡_, subst, ap, _∙_}
 use Prim.Native.Nat.{ℕ}
 use denote.Ref.{now}
 use Rattle.automaton.specs.Run.{Sound}
-use Rattle.verifier.specs.declared.Answer.{Answer}
-use Rattle.verifier.specs.declared.Verdict.{Verdict}
+use Rattle.verifier.specs.declared.AnswerBy.{AnswerBy}
 use Rattle.verifier.specs.Verdicts.{stepsOf}
-use Rattle.verifier.specs.Replies as verifier
-use Rattle.verifier.specs.Replies.{Accepting}
+use Rattle.verifier.specs.Replies.{saidBy, AcceptingBy}
 use Rattle.enforcer.specs.Enforcers.{Limits}
-use Rattle.enforcer.specs.Inner.{waitOf, chosen, Took}
+use Rattle.enforcer.specs.Inner.{waitOf, Took}
 use borrow.Author.Tests.{not-true, not-false}
 use Rattle.stateset.proofs.Decides.{holds, fails}
 use Rattle.enforcer.specs.Offerings.{Offering, output-too-small}
@@ -34,8 +32,8 @@ returns-2 c =
     let ok = holds (c .before .before .sound .result) (not-false _ (c .before .if1 .left)) (c .before .before .sound .ensures) in
     output-too-small (ok .0) (ok .1) (c .if2 .taken)
 
-accept-requires : tie.Need-accept-requires
-accept-requires c κs = search needs
+accept-by-requires : tie.Need-accept-by-requires
+accept-by-requires c κs = search needs
 
 enum-known-answer : tie.Need-enum-known-answer
 enum-known-answer c = search needs
@@ -43,15 +41,12 @@ enum-known-answer c = search needs
 enum-known-answer-2 : tie.Need-enum-known-answer-2
 enum-known-answer-2 c = search needs
 
-choose-requires : tie.Need-choose-requires
-choose-requires c κs = search needs
-
 wait-requires : tie.Need-wait-requires
-wait-requires c κs = ok (c .before .before .before .before .before .before .before .before) .0 .back
+wait-requires c κs = ok (c .before .before .before .before .before .before .before) .0 .back
 
 take-in-requires : tie.Need-take-in-requires
 take-in-requires c κs =
-    let e2 = c .before .before .before .before .before .before .before .before .before in
+    let e2 = c .before .before .before .before .before .before .before .before in
     let good = ok (e2 .before) in
     (good .0 .back, good .1 .few, e2 .if2 .left)
 
@@ -60,10 +55,10 @@ returns-3 c =
     let e2 = c .before .before .before .before .before in
     let good = ok (e2 .before) in
     let a = e2 .before .before .before .before .before .args in
-    let called = c .before .before .before .accept in
+    let called = c .before .before .before .accept-by in
     refused-outcome (now (a .table)) (a .header) (a .self) (a .byte) (now (a .output)) (numberOf (c .before .answer .given .0 .0)) (called .result .estimator)
     (good .0) (good .1) (e2 .if2 .left)
-    (subst (λ (x : Answer). Accepting (now (a .table)) (a .header) (a .self .estimator) (a .byte) (verifier.said x) (called .result .estimator)) (c .before .answer .given .1) (called .ensures))
+    (subst (λ (x : AnswerBy). AcceptingBy (a .self .notion) (now (a .table)) (a .header) (a .self .estimator) (a .byte) (saidBy x) (called .result .estimator)) (c .before .answer .given .1) (called .ensures))
 
 same-length : tie.Need-same-length
 same-length c = search needs
@@ -71,21 +66,19 @@ same-length c = search needs
 returns-4 : tie.Need-returns-4
 returns-4 c =
     let after-wait = c .before .before .before .before in
-    let after-choose = after-wait .before in
-    let after-answer = after-choose .before .before .before in
+    let after-answer = after-wait .before .before .before in
     let after-accept = after-answer .before .before in
     let e2 = after-accept .before .before in
     let good = ok (e2 .before) in
     let a = e2 .before .before .before .before .before .args in
-    let called = after-accept .accept in
+    let called = after-accept .accept-by in
     let taken = c .before .before .take-in in
     let v = after-answer .answer2 .given .0 .0 in
-    let w : after-wait .wait .result ≡ waitOf (a .header .k) (stepsOf (chosen (a .self .notion) v)) =
-    after-wait .wait .ensures ∙ ap (λ (u : Verdict). waitOf (a .header .k) (stepsOf u)) (after-choose .choose .ensures) in
     taken-outcome (now (a .table)) (a .header) (a .self) (a .byte) (now (a .output)) v (called .result .estimator) (taken .result .answer) (taken .result .enforcer) (taken .last .1 .1 .1 .1 .1 .0)
     (good .0) (good .1) (e2 .if2 .left)
-    (subst (λ (x : Answer). Accepting (now (a .table)) (a .header) (a .self .estimator) (a .byte) (verifier.said x) (called .result .estimator)) (after-answer .answer2 .given .1) (called .ensures))
-    (subst (λ (n : ℕ). Took (a .header .k) (a .self) (called .result .estimator) n (a .byte) (now (a .output)) (taken .result .answer) (taken .result .enforcer) (taken .last .1 .1 .1 .1 .1 .0)) w (taken .ensures))
+    (subst (λ (x : AnswerBy). AcceptingBy (a .self .notion) (now (a .table)) (a .header) (a .self .estimator) (a .byte) (saidBy x) (called .result .estimator)) (after-answer .answer2 .given .1) (called .ensures))
+    (subst (λ (n : ℕ). Took (a .header .k) (a .self) (called .result .estimator) n (a .byte) (now (a .output)) (taken .result .answer) (taken .result .enforcer) (taken .last .1 .1 .1 .1 .1 .0))
+    (after-wait .wait .ensures) (taken .ensures))
 
 pub offer-spec : {M : Type 1} → statement M
 offer-spec =
@@ -94,10 +87,9 @@ offer-spec =
     sound-requires
     returns
     returns-2
-    accept-requires
+    accept-by-requires
     enum-known-answer
     enum-known-answer-2
-    choose-requires
     wait-requires
     take-in-requires
     returns-3

@@ -1,8 +1,10 @@
--- What is saved reads back: a header, an estimator and an enforcer, whose numbers fit their bytes and whose arrays have their sizes. Assumes nothing.
+-- What is saved reads back: a header, an estimator and an enforcer, whose numbers fit their bytes and whose arrays have their sizes, and a verdict. Assumes
+-- nothing.
 use Prim.Native.Nat.{ℕ, zero, suc, _+_, _*_, _/_, _%_, _^_, _≤_, _<_}
 use mathlib.Core.Path.{_≡_, refl, ap, sym, subst, _∙_}
 use mathlib.Core.List.{List, [], _∷_, _++_, append-assoc, append-nil}
 use native.Mathlib.Omega.{arith}
+use borrow.Author.Tests.{ne-eqb}
 use lib.Pow.{pow-add}
 use lib.ListN.{length, getD, take, drop, length-append}
 use lib.Seq.{append-snoc, take-at, drop-at, getD-at}
@@ -10,8 +12,10 @@ use Rattle.automaton.specs.declared.Header.{Header}
 use Rattle.verifier.specs.declared.Notion.{Notion}
 use Rattle.verifier.specs.declared.Notion.the-variants.{Weak, Strong}
 use Rattle.verifier.specs.declared.Estimator.{Estimator}
+use Rattle.verifier.specs.Verdicts.{Steps, none, leak}
+use Rattle.verifier.specs.Replies.{Bounded}
 use Rattle.enforcer.specs.declared.Enforcer.{Enforcer}
-use Rattle.gateway.specs.Layout.{numberAt, bytesOf, wordsAt, wordsBytes, bytesAt, headerAt, headerBytes, estimatorAt, estimatorBytes, notionAt, notionByte, enforcerAt, enforcerBytes}
+use Rattle.gateway.specs.Layout.{numberAt, bytesOf, wordsAt, wordsBytes, bytesAt, headerAt, headerBytes, estimatorAt, estimatorBytes, notionAt, notionByte, enforcerAt, enforcerBytes, verdictAt, verdictByte}
 use Rattle.gateway.proofs.Bytes.{number-more, number-none, bytes-length}
 use Rattle.gateway.proofs.Saved.{words-bytes-length}
 
@@ -89,6 +93,9 @@ estimator-in s b x =
 pub estimator-back : (s : Estimator) → EstimatorSized s → estimatorAt (estimatorBytes s) ≡ s
 estimator-back s x = ap estimatorAt (sym (append-nil (estimatorBytes s))) ∙ estimator-in s [] x
 
+pub estimator-length : (s : Estimator) → EstimatorSized s → length (estimatorBytes s) ≡ 144
+estimator-length s x = ap suc (length-append (s .events) (wordsBytes (s .entries)) ∙ omega (arith, x .events, x .entries, words-bytes-length (s .entries)))
+
 pub record EnforcerSized (s : Enforcer) : Type 0 where
   pub estimator : EstimatorSized (s .estimator)
   pub pending : length (s .pending) ≡ 16
@@ -98,19 +105,38 @@ notion-back : (notion : Notion) → notionAt (notionByte notion) ≡ notion
 notion-back Weak = refl
 notion-back Strong = refl
 
+notion-place : (s : Enforcer) → EnforcerSized s → getD (enforcerBytes s) 144 0 ≡ notionByte (s .notion)
+notion-place s x =
+    let e = estimatorBytes (s .estimator) in
+    let n = notionByte (s .notion) in
+    ap (λ (l : List ℕ). getD l 144 0) (append-assoc e (n ∷ s .count ∷ s .pending) (s .waits))
+    ∙ getD-at e n (s .count ∷ s .pending ++ s .waits) 0 144 (estimator-length (s .estimator) (x .estimator))
+
+-- the saved notion is one
+pub notion-saved : (s : Enforcer) → EnforcerSized s → getD (enforcerBytes s) 144 0 ≤ 1
+notion-saved s x = rw (notion-place s x) (one (s .notion))
+  where
+    one : (notion : Notion) → notionByte notion ≤ 1
+    one Weak = omega arith
+    one Strong = omega arith
+
+pub enforcer-length : (s : Enforcer) → EnforcerSized s → length (enforcerBytes s) ≡ 178
+enforcer-length s x =
+    let e = estimatorBytes (s .estimator) in
+    let middle = notionByte (s .notion) ∷ s .count ∷ s .pending in
+    length-append (e ++ middle) (s .waits) ∙ omega (arith, length-append e middle, estimator-length (s .estimator) (x .estimator), x .pending, x .waits)
+
 pub enforcer-back : (s : Enforcer) → EnforcerSized s → enforcerAt (enforcerBytes s) ≡ s
 enforcer-back s x =
     let e = estimatorBytes (s .estimator) in
     let n = notionByte (s .notion) in
-    let long : length e ≡ 144 =
-    ap suc (length-append (s .estimator .events) (wordsBytes (s .estimator .entries)) ∙ omega (arith, x .estimator .events, x .estimator .entries, words-bytes-length (s .estimator .entries))) in
+    let long = estimator-length (s .estimator) (x .estimator) in
     let all = enforcerBytes s in
     let flat : all ≡ e ++ (n ∷ s .count ∷ s .pending ++ s .waits) = append-assoc e (n ∷ s .count ∷ s .pending) (s .waits) in
     let middle : all ≡ (e ++ n ∷ s .count ∷ []) ++ (s .pending ++ s .waits) = flat ∙ sym (append-assoc e (n ∷ s .count ∷ []) (s .pending ++ s .waits)) in
     let last : all ≡ (e ++ n ∷ s .count ∷ s .pending) ++ (s .waits ++ []) = ap (λ (l : List ℕ). (e ++ n ∷ s .count ∷ s .pending) ++ l) (sym (append-nil (s .waits))) in
     let estimator : estimatorAt all ≡ s .estimator = ap estimatorAt flat ∙ estimator-in (s .estimator) (n ∷ s .count ∷ s .pending ++ s .waits) (x .estimator) in
-    let notion : notionAt (getD all 144 0) ≡ s .notion =
-    ap notionAt (ap (λ (l : List ℕ). getD l 144 0) flat ∙ getD-at e n (s .count ∷ s .pending ++ s .waits) 0 144 long) ∙ notion-back (s .notion) in
+    let notion : notionAt (getD all 144 0) ≡ s .notion = ap notionAt (notion-place s x) ∙ notion-back (s .notion) in
     let count : getD all 145 0 ≡ s .count =
     ap (λ (l : List ℕ). getD l 145 0) (flat ∙ sym (append-snoc e n (s .count ∷ s .pending ++ s .waits)))
     ∙ getD-at (e ++ n ∷ []) (s .count) (s .pending ++ s .waits) 0 145 (length-append e (n ∷ []) ∙ omega arith) in
@@ -120,3 +146,8 @@ enforcer-back s x =
     ap (λ (l : List ℕ). bytesAt l 162 16) last
     ∙ part-back (e ++ n ∷ s .count ∷ s .pending) (s .waits) [] 162 16 (omega (arith, length-append e (n ∷ s .count ∷ s .pending), x .pending)) (sym (x .waits)) in
     λ i. record { estimator = estimator i; notion = notion i; count = count i; pending = pending i; waits = waits i }
+
+-- a verdict with at most 15 steps
+pub verdict-back : (K : ℕ) (v : Steps) → K ≤ 15 → Bounded K v → verdictAt (verdictByte v) ≡ v
+verdict-back K none h b = refl
+verdict-back K (leak l) h b = let other : l ≡ 255 → ⊥ = λ e. absurd (omega arith) in rw (ne-eqb l 255 other)

@@ -3,3 +3,7 @@ pub mod Bytes
 pub mod Saved
 pub mod Entries
 pub mod Inverse
+pub mod Sizes
+pub mod Numbered
+pub mod Feeding
+pub mod SavedPoints

@@ -1,7 +1,9 @@
 -- The bytes of headers, saved estimators and saved enforcers. A number of several bytes has the least significant first.
 use Prim.Native.Nat.{ℕ, zero, suc, _+_, _*_, _/_, _%_, _≤_, _<_, _^_}
 use mathlib.Core.Path.{_≡_}
+use mathlib.Core.Bool.{cond}
 use mathlib.Core.List.{List, [], _∷_, _++_}
+use lib.Dec.{eqb}
 use lib.ListN.{length, getD, take, drop}
 use Rattle.automaton.specs.declared.Header.{Header}
 use Rattle.verifier.specs.declared.Notion.{Notion}
@@ -65,6 +67,9 @@ abbrev pub enforcerBytes : Enforcer → List ℕ
 enforcerBytes s = estimatorBytes (s .estimator) ++ notionByte (s .notion) ∷ s .count ∷ s .pending ++ s .waits
 
 -- a verdict: its steps, 255 for none
+abbrev pub verdictAt : ℕ → Steps
+verdictAt byte = cond (eqb byte 255) none (leak byte)
+
 abbrev pub verdictByte : Steps → ℕ
 verdictByte none = 255
 verdictByte (leak l) = l

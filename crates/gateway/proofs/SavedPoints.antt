@@ -1,0 +1,59 @@
+-- The mission's second and third points for a gateway that keeps bytes. Assumes nothing.
+use Prim.Native.Nat.{ℕ}
+use mathlib.Core.Path.{refl, sym, subst}
+use mathlib.Core.List.{List, []}
+use Rattle.automaton.specs.Run.{Automaton, automatonOf}
+use Rattle.automaton.specs.declared.Header.{Header}
+use Rattle.encoding.specs.Decoding.{Decoding, accept}
+use Rattle.verifier.specs.declared.Notion.{Notion}
+use Rattle.verifier.specs.declared.Notion.the-variants.{Weak, Strong}
+use Rattle.verifier.specs.declared.Estimator.{Estimator}
+use Rattle.verifier.specs.Verdicts.{Steps, none, leak, Tells}
+use Rattle.verifier.specs.Replies.{Bounded, Opening}
+use Rattle.verifier.specs.Calls as verifier
+use Rattle.verifier.proofs.SecondPoint.{second-point}
+use Rattle.enforcer.specs.declared.Enforcer.{Enforcer}
+use Rattle.enforcer.specs.Offerings.{Starting}
+use Rattle.enforcer.specs.Offers as enforcer
+use Rattle.enforcer.proofs.ThirdPoint.{third-point}
+use Rattle.gateway.specs.Layout.{headerAt, estimatorAt, notionAt, enforcerAt}
+use Rattle.gateway.specs.Interface.{Decode, Fresh, Start}
+use Rattle.gateway.specs.Feeds.{AcceptCall, AcceptCalls, weakAt, strongAt, callsOf, OfferCall, OfferCalls, offersOf}
+use Rattle.gateway.proofs.Inverse.{verdict-back}
+use Rattle.gateway.proofs.Sizes.{decoded-header-back, grown-estimator-back, grown-enforcer-back}
+use Rattle.gateway.proofs.Numbered.{not-zero}
+use Rattle.gateway.proofs.Feeding.{keeps-estimator, accept-calls, keeps-enforcer, offer-calls}
+
+-- what `headerAt header` is below: after a decode that answered 0 the header's bytes hold the header of the description, and the table its transitions
+pub saved-header : (description table before t header : List ℕ) → Decode description table before 0 t header → Decoding description table (headerAt header) accept t
+saved-header description table before t header (Decode.refused size x) = absurd (not-zero description table x refl)
+saved-header description table before t header (Decode.accepted size {h = h} x) =
+    subst (λ (y : Header). Decoding description table y accept t) (sym (decoded-header-back description table h t x)) x
+
+bounded : (notion : Notion) (p : Automaton) (secret K : ℕ) (trace : List ℕ) (v : Steps) → Tells notion p secret K trace v → Bounded K v
+bounded notion p secret K trace none x = tt
+bounded notion p secret K trace (leak l) x = x .within
+
+-- THE SECOND POINT: a fresh call that answered 0, and any calls of accept on the bytes that the call before left
+pub saved-second-point : (t header before lent s told : List ℕ) (cs : List AcceptCall) (e : List ℕ) → Fresh t header before lent 0 s told → AcceptCalls t header s cs e
+    → verifier.Promise t (headerAt header) (weakAt told) (strongAt told) (callsOf cs) (estimatorAt e)
+saved-second-point t header before lent s told cs e (Fresh.accepted sizes {weak = v} {strong = w} {s = x} (Opening.opened so li exact)) f =
+    let h = headerAt header in
+    let p = automatonOf t h in
+    let back = grown-estimator-back p (h .k) [] x (exact .grown) in
+    let calls = accept-calls t header (sizes .header-size) s cs e (keeps-estimator t header (sizes .header-size) [] x (exact .grown)) f in
+    rw (
+      verdict-back (h .k) v (so .back) (bounded Weak p (h .secret) (h .k) [] v (exact .weak)),
+      verdict-back (h .k) w (so .back) (bounded Strong p (h .secret) (h .k) [] w (exact .strong)),
+    ) (second-point t h v w x (callsOf cs) (estimatorAt e) (Opening.opened so li exact)
+    (subst (λ (y : Estimator). verifier.Calls t h y (callsOf cs) (estimatorAt e)) back calls))
+
+-- THE THIRD POINT: a start that answered 0, and any calls of offer on the bytes that the call before left
+pub saved-third-point : (t header : List ℕ) (notion : ℕ) (before s : List ℕ) (cs : List OfferCall) (e : List ℕ) → Start t header notion before 0 s → OfferCalls t header s cs e
+    → enforcer.Promise (notionAt notion) t (headerAt header) (offersOf cs) (enforcerAt e)
+saved-third-point t header notion before s cs e (Start.started sizes {s = x} (Starting.ready so tells grown)) f =
+    let h = headerAt header in
+    let back = grown-enforcer-back (notionAt notion) (automatonOf t h) (h .secret) (h .k) [] x grown in
+    let calls = offer-calls t header (sizes .header-size) (notionAt notion) s cs e (keeps-enforcer t header (sizes .header-size) (notionAt notion) [] x grown) f in
+    third-point (notionAt notion) t h x (offersOf cs) (enforcerAt e) (Starting.ready so tells grown)
+    (subst (λ (y : Enforcer). enforcer.Offers t h y (offersOf cs) (enforcerAt e)) back calls)

@@ -1,0 +1,73 @@
+-- The states that the crates below hand back, and the header of an accepted description, fit their bytes, and so read back. Assumes nothing.
+use Prim.Native.Nat.{ℕ, suc, _+_, _^_, _<_}
+use mathlib.Core.Path.{_≡_, subst}
+use mathlib.Core.List.{List, [], _∷_}
+use native.Mathlib.Omega.{arith}
+use native.Mathlib.Nat.{lt-of-lt-of-le}
+use lib.ListN.{getD}
+use lib.Pow.{pow-mono}
+use Rattle.bitfields.specs.Bits.{bitsOf}
+use Rattle.bitfields.specs.Parser.{done, flags}
+use Rattle.bitfields.proofs.Parsing.{on-done, same-done, flags-lt}
+use Rattle.automaton.specs.Run.{Automaton}
+use Rattle.automaton.specs.declared.Header.{Header}
+use Rattle.encoding.specs.Encoding.{Encoding, encoding, ending, fixed, front, transitions}
+use Rattle.encoding.specs.Decoding.{Decoding, accept}
+use Rattle.encoding.proofs.Ended.{fixed-in, encoding-in}
+use Rattle.verifier.specs.declared.Notion.{Notion}
+use Rattle.verifier.specs.declared.Estimator.{Estimator}
+use Rattle.verifier.specs.Estimators as verifier
+use Rattle.enforcer.specs.declared.Enforcer.{Enforcer}
+use Rattle.enforcer.specs.Enforcers as enforcer
+use Rattle.gateway.specs.Layout.{headerAt, headerBytes, estimatorAt, estimatorBytes, enforcerAt, enforcerBytes}
+use Rattle.gateway.proofs.Inverse.{Words, HeaderSized, EstimatorSized, EnforcerSized, header-back, estimator-back, enforcer-back}
+
+all-words : (ws : List ℕ) → ((l : ℕ) → getD ws l 0 < 2 ^ 64) → Words ws
+all-words [] small = tt
+all-words (w ∷ ws) small = (small 0, all-words ws (λ l. small (suc l)))
+
+-- an estimator that has grown by some trace
+pub estimator-sized : (p : Automaton) (K : ℕ) (trace : List ℕ) (s : Estimator) → verifier.Grown p K trace s → EstimatorSized s
+estimator-sized p K trace s g = record { events = g .events-size; entries = g .entries-size; words = all-words (s .entries) (g .entries-words) }
+
+pub grown-estimator-back : (p : Automaton) (K : ℕ) (trace : List ℕ) (s : Estimator) → verifier.Grown p K trace s → estimatorAt (estimatorBytes s) ≡ s
+grown-estimator-back p K trace s g = estimator-back s (estimator-sized p K trace s g)
+
+-- an enforcer that has grown by some trace
+pub enforcer-sized : (notion : Notion) (p : Automaton) (secret K : ℕ) (trace : List ℕ) (s : Enforcer) → enforcer.Grown notion p secret K trace s → EnforcerSized s
+enforcer-sized notion p secret K trace s g =
+    record { estimator = estimator-sized p K trace (s .estimator) (g .estimator); pending = g .pending-padded .size-is; waits = g .waits-padded .size-is }
+
+pub grown-enforcer-back : (notion : Notion) (p : Automaton) (secret K : ℕ) (trace : List ℕ) (s : Enforcer) → enforcer.Grown notion p secret K trace s
+    → enforcerAt (enforcerBytes s) ≡ s
+grown-enforcer-back notion p secret K trace s g = enforcer-back s (enforcer-sized notion p secret K trace s g)
+
+-- the secret set has one bit for each of at most 64 states
+front-secret : (bs : List ℕ) (d : Encoding) {n : ℕ} → front (bitsOf bs) 0 ≡ done (d .front) n → d .front .secret < 2 ^ 64
+unfolding front
+front-secret bs d e =
+    let b = bitsOf bs in
+    on-done (fixed b 0) _ e λ g n1 e1 r1.
+    on-done (flags (g .topstate + 1) b n1) _ r1 λ secret n2 e2 r2.
+    on-done (flags (g .topevent + 1) b n2) _ r2 λ observable n3 e3 r3.
+    let narrow : secret < 2 ^ 64 = lt-of-lt-of-le (flags-lt (g .topstate + 1) bs n1 e2) (pow-mono {i = g .topstate + 1} {j = 64} (omega (arith, fixed-in bs e1 .topstate))) in
+    let same : secret ≡ d .front .secret = λ i. same-done r3 .0 i .secret in
+    omega arith
+
+encoding-secret : (bs : List ℕ) {d : Encoding} {n : ℕ} → encoding (bitsOf bs) 0 ≡ done d n → d .front .secret < 2 ^ 64
+unfolding encoding
+encoding-secret bs {d} {n} e =
+    let b = bitsOf bs in
+    on-done (front b 0) _ e λ f n1 e1 r1.
+    on-done (transitions (f .fixed .topstate) (f .fixed .topevent) (f .fixed .count) b n1) _ r1 λ ts n2 e2 r2.
+    on-done (ending b n2) _ r2 λ u n3 e3 r3.
+    let x : Encoding = record { front = f; transitions = ts } in
+    subst (λ (y : Encoding). y .front .secret < 2 ^ 64) (same-done r3 .0) (front-secret bs x e1)
+
+-- the header of an accepted description
+pub header-sized : (description table : List ℕ) (h : Header) (after : List ℕ) → Decoding description table h accept after → HeaderSized h
+header-sized description table h after (Decoding.accepted size e next is after′ holds) =
+    record { secret = encoding-secret description is; observable = encoding-in description is .0 .observable }
+
+pub decoded-header-back : (description table : List ℕ) (h : Header) (after : List ℕ) → Decoding description table h accept after → headerAt (headerBytes h) ≡ h
+decoded-header-back description table h after x = header-back h (header-sized description table h after x)

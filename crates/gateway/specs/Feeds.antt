@@ -1,0 +1,74 @@
+-- A gateway that keeps a table, a header and a state as bytes, and passes each call the state's bytes as the call before left them. The promises of the
+-- verifier and the enforcer, of lists of calls on their own states, are kept for it: proofs/SavedPoints.
+use Prim.Native.Nat.{ℕ, zero, suc}
+use mathlib.Core.Path.{_≡_}
+use mathlib.Core.List.{List, [], _∷_}
+use lib.ListN.{length, getD}
+use Rattle.verifier.specs.Verdicts.{Steps}
+use Rattle.verifier.specs.Replies as verifier
+use Rattle.verifier.specs.Calls.{Call}
+use Rattle.enforcer.specs.Offerings as offering
+use Rattle.enforcer.specs.Offers as enforcer
+use Rattle.gateway.specs.Layout.{verdictAt}
+use Rattle.gateway.specs.Interface.{Accept, Offer}
+
+-- one call of accept: the event, the bytes lent for the verdicts, the answer, and those bytes after it
+pub record AcceptCall : Type 0 where
+  pub event : ℕ
+  pub lent : List ℕ
+  pub answer : ℕ
+  pub told : List ℕ
+
+-- calls of accept, one after another: the estimator's bytes before them, the calls that lent 2 bytes for the verdicts, and the estimator's bytes after them
+pub data AcceptCalls (t header : List ℕ) : List ℕ → List AcceptCall → List ℕ → Type 0 where
+  done : {s : List ℕ} → AcceptCalls t header s [] s
+  next : {s m e : List ℕ} {c : AcceptCall} {cs : List AcceptCall} → length (c .lent) ≡ 2 → Accept t header (c .event) s (c .lent) (c .answer) m (c .told)
+      → AcceptCalls t header m cs e → AcceptCalls t header s (c ∷ cs) e
+  -- a call that lent another number of bytes, and so got 9, may stand between them; it is not listed
+  torn : {s m e : List ℕ} {c : AcceptCall} {cs : List AcceptCall} → (length (c .lent) ≡ 2 → ⊥) → Accept t header (c .event) s (c .lent) (c .answer) m (c .told)
+      → AcceptCalls t header m cs e → AcceptCalls t header s cs e
+
+-- the verdicts that two bytes hold
+abbrev pub weakAt : List ℕ → Steps
+weakAt told = verdictAt (getD told 0 0)
+
+abbrev pub strongAt : List ℕ → Steps
+strongAt told = verdictAt (getD told 1 0)
+
+-- what an answer says: 0 that the bytes hold the verdicts, and else the number of a refusal
+abbrev pub acceptSaid : ℕ → List ℕ → verifier.Said
+acceptSaid zero told = verifier.verdicts (weakAt told) (strongAt told)
+acceptSaid (suc n) told = verifier.refused (suc n)
+
+-- what was offered and said, as the verifier's promise has it
+abbrev pub callsOf : List AcceptCall → List Call
+callsOf [] = []
+callsOf (c ∷ cs) = record { byte = c .event; says = acceptSaid (c .answer) (c .told) } ∷ callsOf cs
+
+-- one call of offer: the event, the output and the byte lent for the number of released events, the answer, and both after it
+pub record OfferCall : Type 0 where
+  pub event : ℕ
+  pub output : List ℕ
+  pub lent : List ℕ
+  pub answer : ℕ
+  pub left : List ℕ
+  pub released : List ℕ
+
+-- calls of offer, one after another: the enforcer's bytes before them, the calls that lent 1 byte for the number, and the enforcer's bytes after them
+pub data OfferCalls (t header : List ℕ) : List ℕ → List OfferCall → List ℕ → Type 0 where
+  done : {s : List ℕ} → OfferCalls t header s [] s
+  next : {s m e : List ℕ} {c : OfferCall} {cs : List OfferCall} → length (c .lent) ≡ 1
+      → Offer t header (c .event) s (c .output) (c .lent) (c .answer) m (c .left) (c .released) → OfferCalls t header m cs e → OfferCalls t header s (c ∷ cs) e
+  -- a call that lent another number of bytes, and so got 9, may stand between them; it is not listed
+  torn : {s m e : List ℕ} {c : OfferCall} {cs : List OfferCall} → (length (c .lent) ≡ 1 → ⊥)
+      → Offer t header (c .event) s (c .output) (c .lent) (c .answer) m (c .left) (c .released) → OfferCalls t header m cs e → OfferCalls t header s cs e
+
+-- what an answer says: 0 that the byte is the number of released events, and else the number of a refusal
+abbrev pub offerSaid : ℕ → List ℕ → offering.Said
+offerSaid zero released = offering.released (getD released 0 0)
+offerSaid (suc n) released = offering.refused (suc n)
+
+-- what was offered, said and left, as the enforcer's promise has it
+abbrev pub offersOf : List OfferCall → List enforcer.Offer
+offersOf [] = []
+offersOf (c ∷ cs) = record { byte = c .event; output = c .output; says = offerSaid (c .answer) (c .released); left = c .left } ∷ offersOf cs

@@ -15,7 +15,8 @@ use Rattle.verifier.specs.Replies as verifier
 use Rattle.verifier.specs.Replies.{Accepting, AcceptedBy}
 use Rattle.enforcer.specs.Enforcers.{Limits, Grown}
 use Rattle.enforcer.specs.Offerings.{refused, said, Offering, Exact, not-observable, incompatible, accepted}
-use Rattle.enforcer.specs.Inner.{waitOf, chosen, Took}
+use Rattle.verifier.specs.Replies.{chosen}
+use Rattle.enforcer.specs.Inner.{waitOf, Took}
 use Rattle.enforcer.specs.declared.Enforcer.{Enforcer}
 use Rattle.enforcer.specs.declared.OfferAnswer.{OfferAnswer}
 use Rattle.enforcer.specs.declared.OfferAnswer.the-variants as offer

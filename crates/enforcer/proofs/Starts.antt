@@ -17,7 +17,7 @@ use Rattle.verifier.specs.Replies as verifier
 use Rattle.verifier.specs.Replies.{Opening}
 use Rattle.enforcer.specs.Enforcers.{Limits, Padded, Grown}
 use Rattle.enforcer.specs.Offerings.{Said, refused, not-started, started, Unusable, Starting, Offering}
-use Rattle.enforcer.specs.Inner.{chosen}
+use Rattle.verifier.specs.Replies.{chosen}
 use Rattle.enforcer.specs.declared.Enforcer.{Enforcer}
 use Rattle.enforcer.specs.SafePrefix.{Safe}
 use Rattle.enforcer.proofs.SafeLaws.{safe-wait}

@@ -4,10 +4,6 @@ use mathlib.Core.List.{List, [], _∷_, _++_}
 use mathlib.Core.Logic.{_⊎_}
 use Prim.Native.Nat.{ℕ, _+_, _-_, _≤_, _<_}
 use lib.ListN.{getD, take, drop}
-use Rattle.verifier.specs.declared.Notion.{Notion}
-use Rattle.verifier.specs.declared.Notion.the-variants.{Weak, Strong}
-use Rattle.verifier.specs.declared.Verdict.{Verdict}
-use Rattle.verifier.specs.declared.Verdicts.{Verdicts}
 use Rattle.verifier.specs.declared.Estimator.{Estimator}
 use Rattle.verifier.specs.Verdicts.{Steps, none, leak}
 use Rattle.enforcer.specs.Enforcers.{pendingOf, Padded}
@@ -19,11 +15,6 @@ use Rattle.enforcer.specs.declared.OfferAnswer.the-variants.{Refused, Re
 abbrev pub waitOf : ℕ → Steps → ℕ
 waitOf K none = 0
 waitOf K (leak l) = K + 1 - l
-
--- the verdict by the notion
-abbrev pub chosen : Notion → Verdicts → Verdict
-chosen Weak v = v .weak
-chosen Strong v = v .strong
 
 -- how many of the events go, by the waits that are left. (An enforcer that is full, and whose first event still waits, did not grow from a fresh one)
 pub record Ready (K count : ℕ) (soon : List ℕ) (f : ℕ) : Type 0 where

@@ -1,11 +1,9 @@
 use automaton::Header;
 use automaton::Refusal;
 use verifier::Answer;
-use verifier::AnswerBy;
 use verifier::Estimator;
 use verifier::Notion;
 use verifier::Verdict;
-use verifier::Verdicts;
 ghost use mathlib.Core.Path.{_≡_};
 ghost use mathlib.Core.List.{List, [], _∷_, _++_};
 ghost use Prim.Native.Nat.{ℕ, _+_, _-_, _≤_, _<_};
@@ -15,7 +13,7 @@ ghost use Rattle.automaton.specs.Run.{Sound};
 ghost use Rattle.verifier.specs.Verdicts.{stepsOf};
 ghost use Rattle.enforcer.specs.Enforcers.{Limits, Padded};
 ghost use Rattle.enforcer.specs.Offerings.{begun, said, Starting, Offering};
-ghost use Rattle.enforcer.specs.Inner.{waitOf, chosen, Ready, Took};
+ghost use Rattle.enforcer.specs.Inner.{waitOf, Ready, Took};
 
 // The estimator, the notion, and the pending events, the oldest first, each with the number of further events that it waits for (01: Holder).
 pub struct Enforcer {
@@ -45,16 +43,6 @@ pub enum OfferAnswer {
 pub struct Given {
     pub enforcer: Enforcer,
     pub answer: OfferAnswer,
-}
-
-// The verdict by the notion.
-fn choose(notion: Notion, verdicts: Verdicts) -> Verdict
-    ensures { λ r. ⌜ r ≡ chosen notion verdicts ⌝ }
-{
-    match notion {
-        Notion::Weak => verdicts.weak,
-        Notion::Strong => verdicts.strong,
-    }
 }
 
 // How many further events make a trace with this verdict safe.
@@ -193,7 +181,7 @@ impl Enforcer {
                 answer: StartAnswer::Refused(refusal),
             },
             Answer::Accepted(verdicts) => {
-                let verdict = choose(notion, verdicts);
+                let verdict = verifier::choose(notion, verdicts);
                 let Verdict::NoLeak = verdict else {
                     return Start {
                         enforcer: none,
@@ -276,16 +264,18 @@ impl Enforcer {
         }
         let estimator = self.estimator;
         let notion = self.notion;
-        let reply = estimator.accept_by(table, header, notion, byte);
+        let asked = verifier::ask(notion);
+        let reply = estimator.accept_asked(table, header, byte, asked);
         let answer = reply.answer;
         match answer {
-            AnswerBy::Refused(refusal) => Given {
+            Answer::Refused(refusal) => Given {
                 enforcer: self,
                 answer: OfferAnswer::Refused(refusal),
             },
-            AnswerBy::Accepted(verdict) => {
+            Answer::Accepted(verdicts) => {
                 let next = reply.estimator;
                 let k = header.k;
+                let verdict = verifier::choose(notion, verdicts);
                 let w = wait(k, verdict);
                 self.take_in(k, next, w, byte, output)
             }

@@ -6,8 +6,10 @@ use native.Mathlib.Omega.{arith}
 use lib.ListN.{length, getD, take}
 use lib.Seq.{take-length}
 use Rattle.stateset.specs.Set.{In, Is}
-use Rattle.automaton.specs.Run.{Automaton, automatonOf}
-use Rattle.automaton.specs.Reaching.{Enters, Gained, Entered}
+use Rattle.automaton.specs.Run.{Automaton, automatonOf, Sound, Observable}
+use Rattle.automaton.specs.Refusals.{numberOf}
+use Rattle.automaton.specs.declared.Refusal.{Refusal}
+use Rattle.automaton.specs.Reaching.{Enters, Gained}
 use Rattle.automaton.specs.declared.Header.{Header}
 use Rattle.automaton.specs.declared.Reach.{Reach}
 use Rattle.automaton.proofs.Entering.{gained-closed}
@@ -17,9 +19,13 @@ use Rattle.verifier.specs.declared.Verdict.{Verdict}
 use Rattle.verifier.specs.declared.Verdicts.{Verdicts}
 use Rattle.verifier.specs.declared.Estimator.{Estimator}
 use Rattle.verifier.specs.Verdicts.{Steps, none, leak, stepsOf, Tells}
-use Rattle.verifier.specs.Estimators.{Grown}
-use Rattle.verifier.specs.Replies.{verdicts, Bounded, Exact, Accepting, accepted, AcceptedBy}
-use Rattle.verifier.specs.Inner.{Near, Prepared, Found, Judged, Advanced}
+use Rattle.verifier.specs.Estimators.{Limits, Grown}
+use Rattle.verifier.specs.Replies.{refused, said, Bounded, Exact, Accepting, accepted, Asks, AcceptedBy, AcceptingAsked}
+use Rattle.verifier.specs.Inner.{Near, Found, Judged}
+use Rattle.verifier.specs.declared.Reply.{Reply}
+use Rattle.verifier.specs.declared.Asked.{Asked}
+use Rattle.verifier.specs.declared.Answer.{Answer}
+use Rattle.verifier.specs.declared.Answer.the-variants as answer
 use Rattle.verifier.proofs.Growing.{grown-remembers}
 
 -- the states right after the last event
@@ -42,13 +48,13 @@ found-tells : (notion : Notion) (p : Automaton) (secret K : ℕ) (trace : List �
 found-tells notion p secret K trace s v g f =
     tells-up notion p secret (s .count) K trace (stepsOf v) (g .count-is) (f .exact trace (grown-remembers p K trace s g (s .count) (omega arith)))
 
-pub judged-exact : (t : List ℕ) (h : Header) (trace : List ℕ) (s : Estimator) (v : Verdicts) → Grown (automatonOf t h) (h .k) trace s → Judged t h s v
+pub judged-exact : (t : List ℕ) (h : Header) (trace : List ℕ) (s : Estimator) (a : Asked) (v : Verdicts) → Asks Weak a → Asks Strong a → Grown (automatonOf t h) (h .k) trace s → Judged t h s a v
     → Exact t h trace (stepsOf (v .weak)) (stepsOf (v .strong)) s
-judged-exact t h trace s v g j =
+judged-exact t h trace s a v weak strong g j =
     record {
       possible = g .possible;
-      weak = found-tells Weak _ _ _ trace s (v .weak) g (j .weak);
-      strong = found-tells Strong _ _ _ trace s (v .strong) g (j .strong);
+      weak = found-tells Weak _ _ _ trace s (v .weak) g (j Weak weak);
+      strong = found-tells Strong _ _ _ trace s (v .strong) g (j Strong strong);
       grown = g;
     }
 
@@ -57,27 +63,35 @@ pub near-gained : (p : Automaton) (from : ℕ) (silent : List ℕ) (r : Reach) (
     → ((l q : ℕ) → l < 16 → In q (getD (s .entries) l 0) → In q from) → Near p s silent (r .states)
 near-gained p from silent r s g inside = record { closed = gained-closed p from silent r g; inside = λ l q h i. g .more q (inside l q h i) }
 
--- an event that was accepted, and its verdicts
-module _ (t : List ℕ) (h : Header) (self : Estimator) (event : ℕ) (silent : List ℕ) (states : ℕ) (s : Estimator) (a : Advanced t h self event silent states s) where
-  pub advanced-prepared : (back : List ℕ) → Entered (automatonOf t h) states back → Prepared t h s silent back states
-  advanced-prepared back e = record { sound = a .sound; limits = a .limits-after; near = a .near; back-are = e }
+-- an event that was accepted, by a notion whose verdict was found
+pub accepted-one : (notion : Notion) (t : List ℕ) (h : Header) (self : Estimator) (event : ℕ) (s : Estimator) (v : Verdict) → Sound t h → Limits (h .k) self → Observable h event → Limits (h .k) s
+    → ((trace : List ℕ) → Grown (automatonOf t h) (h .k) trace self → Grown (automatonOf t h) (h .k) (trace ++ event ∷ []) s)
+    → Found notion (automatonOf t h) (h .secret) (s .count) s v → AcceptedBy notion t h self event (stepsOf v) s
+accepted-one notion t h self event s v so li ob after grows f =
+    record {
+      sound = so;
+      limits = li;
+      observable = ob;
+      limits-after = after;
+      bounded = bounded-up _ _ (stepsOf v) (after .few) (f .bounded);
+      exact = λ trace g.
+          let n = grows trace g in
+          record { possible = n .possible; tells = found-tells notion _ _ _ (trace ++ event ∷ []) s v n f; grown = n };
+    }
 
-  pub advanced-both : (v : Verdicts) → Judged t h s v → Accepting t h self event (verdicts (stepsOf (v .weak)) (stepsOf (v .strong))) s
-  advanced-both v j =
-      accepted (a .sound) (a .limits) (a .observable) (a .limits-after)
-      (bounded-up _ _ (stepsOf (v .weak)) (a .limits-after .few) (j .weak .bounded))
-      (bounded-up _ _ (stepsOf (v .strong)) (a .limits-after .few) (j .strong .bounded))
-      (λ trace g. judged-exact t h (trace ++ event ∷ []) s v (a .grown trace g) j)
+-- a refusal
+pub refused-asked : (a : Asked) (t : List ℕ) (h : Header) (self : Estimator) (event : ℕ) (refusal : Refusal) (r : Reply) → r .estimator ≡ self → r .answer ≡ answer.Refused refusal
+    → Accepting t h self event (refused (numberOf refusal)) self → AcceptingAsked a t h self event (r .answer) (r .estimator)
+refused-asked a t h self event refusal r e f x = rw (e, f) x
 
-  pub advanced-one : (notion : Notion) (v : Verdict) → Found notion (automatonOf t h) (h .secret) (s .count) s v → AcceptedBy notion t h self event (stepsOf v) s
-  advanced-one notion v f =
-      record {
-        sound = a .sound;
-        limits = a .limits;
-        observable = a .observable;
-        limits-after = a .limits-after;
-        bounded = bounded-up _ _ (stepsOf v) (a .limits-after .few) (f .bounded);
-        exact = λ trace g.
-            let n = a .grown trace g in
-            record { possible = n .possible; tells = found-tells notion _ _ _ (trace ++ event ∷ []) s v n f; grown = n };
-      }
+-- both notions make both verdicts
+pub asked-both : (t : List ℕ) (h : Header) (self : Estimator) (event : ℕ) (a : Asked) (r : Answer) (s : Estimator) → Asks Weak a → Asks Strong a
+    → AcceptingAsked a t h self event r s → Accepting t h self event (said r) s
+asked-both t h self event a (answer.Refused n) s weak strong x = x
+asked-both t h self event a (answer.Accepted v) s weak strong x =
+    let w = x Weak weak in
+    let u = x Strong strong in
+    accepted (w .sound) (w .limits) (w .observable) (w .limits-after) (w .bounded) (u .bounded)
+    (λ trace g.
+    let e = w .exact trace g in
+    record { possible = e .possible; weak = e .tells; strong = u .exact trace g .tells; grown = e .grown })

@@ -1,4 +1,6 @@
 -- What a fresh estimator and an offered event give, in the order that 01 gives below its refusal table.
+use mathlib.Core.Path.{_≡_}
+use mathlib.Core.Bool.{true}
 use mathlib.Core.List.{List, [], _∷_, _++_}
 use Prim.Native.Nat.{ℕ, _≤_}
 use Rattle.automaton.specs.Run.{automatonOf, Possible, Impossible, Observable, Sound}
@@ -11,8 +13,9 @@ use Rattle.verifier.specs.declared.Notion.the-variants.{Weak, Strong}
 use Rattle.verifier.specs.declared.Estimator.{Estimator}
 use Rattle.verifier.specs.declared.Answer.{Answer}
 use Rattle.verifier.specs.declared.Answer.the-variants as answer
-use Rattle.verifier.specs.declared.AnswerBy.{AnswerBy}
-use Rattle.verifier.specs.declared.AnswerBy.the-variants as by
+use Rattle.verifier.specs.declared.Asked.{Asked}
+use Rattle.verifier.specs.declared.Verdict.{Verdict}
+use Rattle.verifier.specs.declared.Verdicts as declared
 
 -- what an answer says: the number of a refusal, or the steps of the two verdicts
 pub data Said : Type 0 where
@@ -52,15 +55,16 @@ pub data Accepting (t : List ℕ) (h : Header) (self : Estimator) (event : ℕ) 
       → ((trace : List ℕ) → Grown (automatonOf t h) (h .k) trace self → Exact t h (trace ++ event ∷ []) weak strong s)
       → Accepting t h self event (verdicts weak strong) s
 
--- the same by one notion alone: the number of a refusal, or the steps of its verdict
-pub data SaidBy : Type 0 where
-  refusedBy : ℕ → SaidBy
-  verdict : Steps → SaidBy
+-- the notion is asked for; the verdict by it
+abbrev pub Asks : Notion → Asked → Type 0
+Asks Weak a = a .weak ≡ true
+Asks Strong a = a .strong ≡ true
 
-abbrev pub saidBy : AnswerBy → SaidBy
-saidBy (by.Refused r) = refusedBy (numberOf r)
-saidBy (by.Accepted v) = verdict (stepsOf v)
+abbrev pub chosen : Notion → declared.Verdicts → Verdict
+chosen Weak v = v .weak
+chosen Strong v = v .strong
 
+-- the same by one notion
 pub record ExactBy (notion : Notion) (t : List ℕ) (h : Header) (trace : List ℕ) (v : Steps) (s : Estimator) : Type 0 where
   pub possible : Possible (automatonOf t h) trace
   pub tells : Tells notion (automatonOf t h) (h .secret) (h .k) trace v
@@ -74,6 +78,7 @@ pub record AcceptedBy (notion : Notion) (t : List ℕ) (h : Header) (self : Esti
   pub bounded : Bounded (h .k) v
   pub exact : (trace : List ℕ) → Grown (automatonOf t h) (h .k) trace self → ExactBy notion t h (trace ++ event ∷ []) v s
 
-abbrev pub AcceptingBy : Notion → List ℕ → Header → Estimator → ℕ → SaidBy → Estimator → Type 0
-AcceptingBy notion t h self event (refusedBy n) s = Accepting t h self event (refused n) s
-AcceptingBy notion t h self event (verdict v) s = AcceptedBy notion t h self event v s
+-- an event offered, of whose verdicts only some are asked for: refusals as above, and an accepted event by each notion that is asked for
+abbrev pub AcceptingAsked : Asked → List ℕ → Header → Estimator → ℕ → Answer → Estimator → Type 0
+AcceptingAsked a t h self event (answer.Refused r) s = Accepting t h self event (refused (numberOf r)) s
+AcceptingAsked a t h self event (answer.Accepted v) s = (notion : Notion) → Asks notion a → AcceptedBy notion t h self event (stepsOf (chosen notion v)) s

@@ -3,15 +3,16 @@ use automaton::Refusal;
 ghost use mathlib.Core.Path.{_≡_};
 ghost use mathlib.Core.List.{List, [], _∷_, _++_};
 ghost use Prim.Native.Nat.{ℕ, _+_, _≤_, _<_, min};
-ghost use lib.ListN.{length, getD, replicate};
+ghost use lib.ListN.{length, getD};
 ghost use Rattle.stateset.specs.Set.{In, Is, Decided};
 ghost use Rattle.automaton.specs.Run.{Automaton, automatonOf, Possible, Sound, Observable};
 ghost use Rattle.automaton.specs.Reaching.{Enters, Arrives, Closed};
 ghost use Rattle.automaton.specs.Relation.{Sub};
 ghost use Rattle.verifier.specs.declared.Notion.the-variants as notion;
 ghost use Rattle.verifier.specs.Estimators.{Limits, Grown};
-ghost use Rattle.verifier.specs.Replies.{said, saidBy, Opening, Accepting, AcceptingBy};
-ghost use Rattle.verifier.specs.Inner.{Pushed, Next, Sampled, Prepared, Found, Judged, Advancing};
+ghost use Rattle.verifier.specs.declared.Answer.the-variants as answer;
+ghost use Rattle.verifier.specs.Replies.{said, Opening, Accepting, Asks, chosen, AcceptingAsked};
+ghost use Rattle.verifier.specs.Inner.{Pushed, Next, Sampled, Prepared, Found, Judged};
 
 // 01's "none", or "leak" with its steps.
 pub enum Verdict {
@@ -46,26 +47,10 @@ pub struct Reply {
     pub answer: Answer,
 }
 
-// The same by one notion alone.
-pub enum AnswerBy {
-    Refused(Refusal),
-    Accepted(Verdict),
-}
-
-pub struct ReplyBy {
-    pub estimator: Estimator,
-    pub answer: AnswerBy,
-}
-
-// An event was refused, or the estimator has moved on, and a look back stays within some states.
-pub enum AdvanceAnswer {
-    Refused(Refusal),
-    Within(u64),
-}
-
-pub struct Advance {
-    pub estimator: Estimator,
-    pub answer: AdvanceAnswer,
+// The notions whose verdicts are asked for.
+pub struct Asked {
+    pub weak: bool,
+    pub strong: bool,
 }
 
 // The states right after one more event, if a run is left.
@@ -120,9 +105,10 @@ fn count_after(count: u8, k: u8) -> u8
 }
 
 // The states of all entry sets.
-fn entered(entries: [u64; 16]) -> u64
-    ensures { λ r. ⌜ ((l q : ℕ) → l < 16 → In q (getD entries l 0) → In q r) ⌝ }
+fn entered(estimator: Estimator) -> u64
+    ensures { λ r. ⌜ ((l q : ℕ) → l < 16 → In q (getD (estimator .entries) l 0) → In q r) ⌝ }
 {
+    let entries = estimator.entries;
     let mut r: u64 = 0;
     for l in 0..16 {
         r |= entries[l];
@@ -236,26 +222,7 @@ fn strong_verdict(
     }
 }
 
-// The verdict by a notion.
-fn judge_by(
-    notion: Notion,
-    estimator: Estimator,
-    table: &[u64],
-    header: Header,
-    silent: &[u64],
-    back: &[u64],
-    states: u64,
-) -> Verdict
-    requires { ⌜ Prepared (now table) header estimator (now silent) (now back) states ⌝ }
-    ensures { λ r. ⌜ Found notion (automatonOf (now (table .entry)) header) (header .secret) (estimator .count) estimator r ⌝ }
-{
-    let last = estimator.count;
-    match notion {
-        Notion::Weak => weak_verdict(estimator, table, header, silent, back, states, last),
-        Notion::Strong => strong_verdict(estimator, table, header, silent, back, states, last),
-    }
-}
-
+// The verdicts by the notions that are asked for. (The other one is left out, and says nothing.)
 fn judge(
     estimator: Estimator,
     table: &[u64],
@@ -263,16 +230,49 @@ fn judge(
     silent: &[u64],
     back: &[u64],
     states: u64,
+    asked: Asked,
 ) -> Verdicts
     requires { ⌜ Prepared (now table) header estimator (now silent) (now back) states ⌝ }
-    ensures { λ r. ⌜ Judged (now (table .entry)) header estimator r ⌝ }
+    ensures { λ r. ⌜ Judged (now (table .entry)) header estimator asked r ⌝ }
 {
     let last = estimator.count;
-    let weak = weak_verdict(estimator, table, header, silent, back, states, last);
-    let strong = strong_verdict(estimator, table, header, silent, back, states, last);
+    let mut weak = Verdict::NoLeak;
+    if asked.weak {
+        weak = weak_verdict(estimator, table, header, silent, back, states, last);
+    }
+    let mut strong = Verdict::NoLeak;
+    if asked.strong {
+        strong = strong_verdict(estimator, table, header, silent, back, states, last);
+    }
     Verdicts {
         weak: weak,
         strong: strong,
+    }
+}
+
+// Asks for one notion.
+pub fn ask(notion: Notion) -> Asked
+    ensures { λ r. ⌜ Asks notion r ⌝ }
+{
+    match notion {
+        Notion::Weak => Asked {
+            weak: true,
+            strong: false,
+        },
+        Notion::Strong => Asked {
+            weak: false,
+            strong: true,
+        },
+    }
+}
+
+// The verdict by the notion.
+pub fn choose(notion: Notion, verdicts: Verdicts) -> Verdict
+    ensures { λ r. ⌜ r ≡ chosen notion verdicts ⌝ }
+{
+    match notion {
+        Notion::Weak => verdicts.weak,
+        Notion::Strong => verdicts.strong,
     }
 }
 
@@ -348,105 +348,81 @@ impl Estimator {
         }
         let estimator = Estimator::initial(header.initial);
         let mut silent = [0u64; 64];
-        let entries = estimator.entries;
-        let from = entered(entries);
+        let from = entered(estimator);
         let near = automaton::silent_rows(table, header, &mut silent, 0, from);
         let back = automaton::silent_back(&silent, near.states);
-        let verdicts = judge(estimator, table, header, &silent, &back, near.states);
+        let asked = Asked {
+            weak: true,
+            strong: true,
+        };
+        let verdicts = judge(estimator, table, header, &silent, &back, near.states, asked);
         Reply {
             estimator: estimator,
             answer: Answer::Accepted(verdicts),
         }
     }
 
-    // Accepts one event, up to the verdicts, or hands back the estimator as it was. (01: "An event on which no run is left is turned back, and the
-    // watch stays.") What is known of unobservable events is left behind, for the look back.
-    fn advance(self, table: &[u64], header: Header, event: u8, silent: &mut [u64]) -> Advance
-        requires { ⌜ now silent ≡ replicate 64 0 ⌝ }
-        ensures { λ r. ⌜ Advancing (now (table .entry)) header self event (now (silent .exit)) (r .answer) (r .estimator) ⌝ }
+    // As it was, with the reason.
+    fn refused(self, refusal: Refusal) -> Reply
+        ensures { λ r. ⌜ (r .estimator ≡ self) × (r .answer ≡ answer.Refused refusal) ⌝ }
+    {
+        Reply {
+            estimator: self,
+            answer: Answer::Refused(refusal),
+        }
+    }
+
+    // Accepts one event, or hands back the estimator as it was. (01: "An event on which no run is left is turned back, and the watch stays.") Only
+    // the verdicts that are asked for are found, the other one says nothing. What is known of unobservable events grows with the states that matter.
+    pub fn accept_asked(self, table: &[u64], header: Header, event: u8, asked: Asked) -> Reply
+        ensures { λ r. ⌜ AcceptingAsked asked (now (table .entry)) header self event (r .answer) (r .estimator) ⌝ }
     {
         if !self.sound(table, header) {
-            return Advance {
-                estimator: self,
-                answer: AdvanceAnswer::Refused(Refusal::Malformed),
-            };
+            return self.refused(Refusal::Malformed);
         }
         if !automaton::observable(header, event) {
-            return Advance {
-                estimator: self,
-                answer: AdvanceAnswer::Refused(Refusal::NotObservable),
-            };
+            return self.refused(Refusal::NotObservable);
         }
+        let mut silent = [0u64; 64];
         let newest = self.entries[0];
-        let near = automaton::silent_rows(table, header, silent, 0, newest);
+        let near = automaton::silent_rows(table, header, &mut silent, 0, newest);
         let NextEstimate::States(entry) = next_estimate(
             table,
             header,
-            silent,
+            &silent,
             near.states,
             newest,
             event,
         ) else {
-            return Advance {
-                estimator: self,
-                answer: AdvanceAnswer::Refused(Refusal::Incompatible),
-            };
+            return self.refused(Refusal::Incompatible);
         };
         let estimator = self.push(header.k, event, entry);
-        let entries = estimator.entries;
-        let from = near.states | entered(entries);
-        let reach = automaton::silent_rows(table, header, silent, near.known, from);
-        Advance {
+        let from = near.states | entered(estimator);
+        let reach = automaton::silent_rows(table, header, &mut silent, near.known, from);
+        let back = automaton::silent_back(&silent, reach.states);
+        let verdicts = judge(
+            estimator,
+            table,
+            header,
+            &silent,
+            &back,
+            reach.states,
+            asked,
+        );
+        Reply {
             estimator: estimator,
-            answer: AdvanceAnswer::Within(reach.states),
+            answer: Answer::Accepted(verdicts),
         }
     }
 
-    // Accepts one event, or hands back the estimator as it was.
+    // Accepts one event, with both verdicts.
     pub fn accept(self, table: &[u64], header: Header, event: u8) -> Reply
         ensures { λ r. ⌜ Accepting (now (table .entry)) header self event (said (r .answer)) (r .estimator) ⌝ }
     {
-        let mut silent = [0u64; 64];
-        let moved = self.advance(table, header, event, &mut silent);
-        let estimator = moved.estimator;
-        let answer = moved.answer;
-        match answer {
-            AdvanceAnswer::Refused(refusal) => Reply {
-                estimator: estimator,
-                answer: Answer::Refused(refusal),
-            },
-            AdvanceAnswer::Within(states) => {
-                let back = automaton::silent_back(&silent, states);
-                let verdicts = judge(estimator, table, header, &silent, &back, states);
-                Reply {
-                    estimator: estimator,
-                    answer: Answer::Accepted(verdicts),
-                }
-            }
-        }
-    }
-
-    // The same by one notion alone, for half of the work.
-    pub fn accept_by(self, table: &[u64], header: Header, notion: Notion, event: u8) -> ReplyBy
-        ensures { λ r. ⌜ AcceptingBy notion (now (table .entry)) header self event (saidBy (r .answer)) (r .estimator) ⌝ }
-    {
-        let mut silent = [0u64; 64];
-        let moved = self.advance(table, header, event, &mut silent);
-        let estimator = moved.estimator;
-        let answer = moved.answer;
-        match answer {
-            AdvanceAnswer::Refused(refusal) => ReplyBy {
-                estimator: estimator,
-                answer: AnswerBy::Refused(refusal),
-            },
-            AdvanceAnswer::Within(states) => {
-                let back = automaton::silent_back(&silent, states);
-                let verdict = judge_by(notion, estimator, table, header, &silent, &back, states);
-                ReplyBy {
-                    estimator: estimator,
-                    answer: AnswerBy::Accepted(verdict),
-                }
-            }
-        }
+        let asked = Asked {
+            weak: true,
+            strong: true,
+        };
+        self.accept_asked(table, header, event, asked)
     }
 }

@@ -1,10 +1,11 @@
-use mathlib.Core.Path.{_≡_, subst, ap, _∙_}
+use mathlib.Core.Path.{subst, sym}
 use Prim.Native.Nat.{ℕ}
 use denote.Ref.{now}
 use Rattle.automaton.specs.Run.{Sound}
-use Rattle.verifier.specs.declared.AnswerBy.{AnswerBy}
+use Rattle.verifier.specs.declared.Answer.{Answer}
+use Rattle.verifier.specs.declared.Verdict.{Verdict}
 use Rattle.verifier.specs.Verdicts.{stepsOf}
-use Rattle.verifier.specs.Replies.{saidBy, AcceptingBy}
+use Rattle.verifier.specs.Replies.{AcceptingAsked, AcceptedBy}
 use Rattle.enforcer.specs.Enforcers.{Limits}
 use Rattle.enforcer.specs.Inner.{waitOf, Took}
 use borrow.Author.Tests.{not-true, not-false}
@@ -32,8 +33,14 @@ returns-2 c =
     let ok = holds (c .before .before .sound .result) (not-false _ (c .before .if1 .left)) (c .before .before .sound .ensures) in
     output-too-small (ok .0) (ok .1) (c .if2 .taken)
 
-accept-by-requires : tie.Need-accept-by-requires
-accept-by-requires c κs = search needs
+ask-requires : tie.Need-ask-requires
+ask-requires c κs = search needs
+
+choose-requires : tie.Need-choose-requires
+choose-requires c κs = search needs
+
+accept-asked-requires : tie.Need-accept-asked-requires
+accept-asked-requires c κs = search needs
 
 enum-known-answer : tie.Need-enum-known-answer
 enum-known-answer c = search needs
@@ -42,23 +49,24 @@ enum-known-answer-2 : tie.Need-enum-known-answer-2
 enum-known-answer-2 c = search needs
 
 wait-requires : tie.Need-wait-requires
-wait-requires c κs = ok (c .before .before .before .before .before .before .before) .0 .back
+wait-requires c κs = ok (c .before .before .before .before .before .before .before .before .before) .0 .back
 
 take-in-requires : tie.Need-take-in-requires
 take-in-requires c κs =
-    let e2 = c .before .before .before .before .before .before .before .before in
+    let e2 = c .before .before .before .before .before .before .before .before .before .before in
     let good = ok (e2 .before) in
     (good .0 .back, good .1 .few, e2 .if2 .left)
 
 returns-3 : tie.Need-returns-3
 returns-3 c =
-    let e2 = c .before .before .before .before .before in
+    let called = c .before .before .before in
+    let e2 = called .before .before .before in
     let good = ok (e2 .before) in
     let a = e2 .before .before .before .before .before .args in
-    let called = c .before .before .before .accept-by in
-    refused-outcome (now (a .table)) (a .header) (a .self) (a .byte) (now (a .output)) (numberOf (c .before .answer .given .0 .0)) (called .result .estimator)
+    refused-outcome (now (a .table)) (a .header) (a .self) (a .byte) (now (a .output)) (numberOf (c .before .answer .given .0 .0)) (called .accept-asked .result .estimator)
     (good .0) (good .1) (e2 .if2 .left)
-    (subst (λ (x : AnswerBy). AcceptingBy (a .self .notion) (now (a .table)) (a .header) (a .self .estimator) (a .byte) (saidBy x) (called .result .estimator)) (c .before .answer .given .1) (called .ensures))
+    (subst (λ (x : Answer). AcceptingAsked (called .before .ask .result) (now (a .table)) (a .header) (a .self .estimator) (a .byte) x (called .accept-asked .result .estimator))
+    (c .before .answer .given .1) (called .accept-asked .ensures))
 
 same-length : tie.Need-same-length
 same-length c = search needs
@@ -66,18 +74,20 @@ same-length c = search needs
 returns-4 : tie.Need-returns-4
 returns-4 c =
     let after-wait = c .before .before .before .before in
-    let after-answer = after-wait .before .before .before in
-    let after-accept = after-answer .before .before in
-    let e2 = after-accept .before .before in
+    let chose = after-wait .before in
+    let after-answer = chose .before .before .before in
+    let called = after-answer .before .before in
+    let e2 = called .before .before .before in
     let good = ok (e2 .before) in
     let a = e2 .before .before .before .before .before .args in
-    let called = after-accept .accept-by in
     let taken = c .before .before .take-in in
-    let v = after-answer .answer2 .given .0 .0 in
-    taken-outcome (now (a .table)) (a .header) (a .self) (a .byte) (now (a .output)) v (called .result .estimator) (taken .result .answer) (taken .result .enforcer) (taken .last .1 .1 .1 .1 .1 .0)
-    (good .0) (good .1) (e2 .if2 .left)
-    (subst (λ (x : AnswerBy). AcceptingBy (a .self .notion) (now (a .table)) (a .header) (a .self .estimator) (a .byte) (saidBy x) (called .result .estimator)) (after-answer .answer2 .given .1) (called .ensures))
-    (subst (λ (n : ℕ). Took (a .header .k) (a .self) (called .result .estimator) n (a .byte) (now (a .output)) (taken .result .answer) (taken .result .enforcer) (taken .last .1 .1 .1 .1 .1 .0))
+    let all = subst (λ (x : Answer). AcceptingAsked (called .before .ask .result) (now (a .table)) (a .header) (a .self .estimator) (a .byte) x (called .accept-asked .result .estimator))
+    (after-answer .answer2 .given .1) (called .accept-asked .ensures) in
+    taken-outcome (now (a .table)) (a .header) (a .self) (a .byte) (now (a .output)) (chose .choose .result) (called .accept-asked .result .estimator) (taken .result .answer) (taken .result .enforcer)
+    (taken .last .1 .1 .1 .1 .1 .0) (good .0) (good .1) (e2 .if2 .left)
+    (subst (λ (v : Verdict). AcceptedBy (a .self .notion) (now (a .table)) (a .header) (a .self .estimator) (a .byte) (stepsOf v) (called .accept-asked .result .estimator))
+    (sym (chose .choose .ensures)) (all (a .self .notion) (called .before .ask .ensures)))
+    (subst (λ (n : ℕ). Took (a .header .k) (a .self) (called .accept-asked .result .estimator) n (a .byte) (now (a .output)) (taken .result .answer) (taken .result .enforcer) (taken .last .1 .1 .1 .1 .1 .0))
     (after-wait .wait .ensures) (taken .ensures))
 
 pub offer-spec : {M : Type 1} → statement M
@@ -87,9 +97,11 @@ offer-spec =
     sound-requires
     returns
     returns-2
-    accept-by-requires
+    ask-requires
+    accept-asked-requires
     enum-known-answer
     enum-known-answer-2
+    choose-requires
     wait-requires
     take-in-requires
     returns-3

@@ -1,7 +1,7 @@
 ghost use mathlib.Core.Path.{_≡_};
 ghost use mathlib.Core.List.{List, [], _∷_, _++_};
 ghost use Prim.Native.Nat.{ℕ, _+_, _*_, _<_, _≤_};
-ghost use lib.ListN.{length, getD, take, drop};
+ghost use lib.ListN.{length, getD, take, drop, replicate};
 ghost use Rattle.stateset.specs.Set.{In, Is, Decided};
 ghost use Rattle.automaton.specs.Run.{Automaton, automatonOf, Observable, Sound};
 ghost use Rattle.automaton.specs.Refusals.{numberOf};
@@ -161,11 +161,10 @@ fn transpose(rows: &[u64]) -> [u64; 64]
 }
 
 // The relation the other way round, from the first `few` states alone: a bit at a time, which is fast where they are few.
-fn transpose_few(rows: &[u64], few: usize) -> [u64; 64]
-    requires { ⌜ (length (now rows) ≡ 64) × (few ≤ 64) ⌝ }
-    ensures { λ r. ⌜ Rows r (λ q p. Row (now (rows .entry)) p q × (p < few)) ⌝ }
+fn transpose_few(rows: &[u64], few: usize, out: &mut [u64])
+    requires { ⌜ (length (now rows) ≡ 64) × (few ≤ 64) × (now out ≡ replicate 64 0) ⌝ }
+    ensures { λ _. ⌜ Rows (now (out .exit)) (λ q p. Row (now (rows .entry)) p q × (p < few)) ⌝ }
 {
-    let mut out = [0u64; 64];
     for p in 0..few {
         let mut todo = rows[p];
         while todo != 0 {
@@ -174,7 +173,17 @@ fn transpose_few(rows: &[u64], few: usize) -> [u64; 64]
             todo &= todo - 1;
         }
     }
-    out
+}
+
+fn copy(from: &[u64], to: &mut [u64])
+    requires { ⌜ (length (now from) ≡ 64) × (length (now to) ≡ 64) ⌝ }
+    ensures { λ _. ⌜ now (to .exit) ≡ now (from .entry) ⌝ }
+{
+    let mut i: usize = 0;
+    while i < 64 {
+        to[i] = from[i];
+        i += 1;
+    }
 }
 
 // Where the relation leads from the states of a set.
@@ -296,14 +305,16 @@ pub fn backward_reach(
     closure(back, allowed, into)
 }
 
-// The unobservable events the other way round, from states of the set.
-pub fn silent_back(silent: &[u64], states: u64) -> [u64; 64]
-    requires { ⌜ length (now silent) ≡ 64 ⌝ }
-    ensures { λ r. ⌜ ((p : Automaton) → Closed p states (now (silent .entry)) → Entered p states r) ⌝ }
+// The unobservable events the other way round, from states of the set. (To a lent slice: an array that is handed back would be copied.)
+pub fn silent_back(silent: &[u64], states: u64, back: &mut [u64])
+    requires { ⌜ (length (now silent) ≡ 64) × (now back ≡ replicate 64 0) ⌝ }
+    ensures { λ _. ⌜ ((p : Automaton) → Closed p states (now (silent .entry)) → Entered p states (now (back .exit))) ⌝ }
 {
     let few = stateset::bound(states);
     if few <= 16 {
-        return transpose_few(silent, few);
+        transpose_few(silent, few, back);
+        return;
     }
-    transpose(silent)
+    let all = transpose(silent);
+    copy(&all, back);
 }

@@ -350,7 +350,8 @@ impl Estimator {
         let mut silent = [0u64; 64];
         let from = entered(estimator);
         let near = automaton::silent_rows(table, header, &mut silent, 0, from);
-        let back = automaton::silent_back(&silent, near.states);
+        let mut back = [0u64; 64];
+        automaton::silent_back(&silent, near.states, &mut back);
         let asked = Asked {
             weak: true,
             strong: true,
@@ -399,7 +400,8 @@ impl Estimator {
         let estimator = self.push(header.k, event, entry);
         let from = near.states | entered(estimator);
         let reach = automaton::silent_rows(table, header, &mut silent, near.known, from);
-        let back = automaton::silent_back(&silent, reach.states);
+        let mut back = [0u64; 64];
+        automaton::silent_back(&silent, reach.states, &mut back);
         let verdicts = judge(
             estimator,
             table,

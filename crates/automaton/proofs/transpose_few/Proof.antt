@@ -1,7 +1,10 @@
 -- `automaton::transpose_few` meets its contract. Both loops have the invariant `Turning`. Assumes nothing.
-use Prim.Native.Nat.{_-_, _^_, _≤_, _<_}
+use mathlib.Core.Path.{_≡_, sym, subst, ap, _∙_}
+use mathlib.Core.List.{List}
+use Prim.Native.Nat.{ℕ, _-_, _^_, _≤_, _<_}
 use native.Mathlib.Omega.{arith}
-use lib.ListN.{getD}
+use denote.Ref.{now}
+use lib.ListN.{getD, length}
 use lib.Bits.{bitAnd}
 use lib.Count.{trailingZeros}
 use Rattle.stateset.proofs.Bits.{Taken, taken}
@@ -26,7 +29,7 @@ pick : (c : tie.In-loop2 Inv-loop2 μ-loop2 Inv-loop μ-loop)
 pick c = taken (c .before .loop2 .todo) (omega arith) (c .before .loop2 .inv .0)
 
 loop-holds : tie.Need-loop-holds Inv-loop2 μ-loop2 Inv-loop μ-loop
-loop-holds c = (omega arith, turning-start _)
+loop-holds c = (omega arith, subst (λ (l : List ℕ). Turning (now (c .args .rows)) l 0 (getD (now (c .args .rows)) 0 0)) (sym (c .pre .2)) (turning-start _))
 
 mul-todo : tie.Need-mul-todo Inv-loop2 μ-loop2 Inv-loop μ-loop
 mul-todo c = omega arith
@@ -46,20 +49,20 @@ shl-out c = omega arith
 mul-out : tie.Need-mul-out Inv-loop2 μ-loop2 Inv-loop μ-loop
 mul-out c = omega (arith, pick c .small)
 
-array-read-out : tie.Need-array-read-out Inv-loop2 μ-loop2 Inv-loop μ-loop
-array-read-out c = pick c .small
+slice-read-out : tie.Need-slice-read-out Inv-loop2 μ-loop2 Inv-loop μ-loop
+slice-read-out c = omega (arith, pick (c .before) .small, c .before .before .loop2 .inv .1 .size)
 
-array-write-out : tie.Need-array-write-out Inv-loop2 μ-loop2 Inv-loop μ-loop
-array-write-out c = pick c .small
+slice-write-out : tie.Need-slice-write-out Inv-loop2 μ-loop2 Inv-loop μ-loop
+slice-write-out c = omega (arith, pick (c .before) .small, c .before .before .loop2 .inv .1 .size)
 
 sub-todo : tie.Need-sub-todo Inv-loop2 μ-loop2 Inv-loop μ-loop
 sub-todo c = omega arith
 
 loop2-less : tie.Need-loop2-less Inv-loop2 μ-loop2 Inv-loop μ-loop
-loop2-less c = pick c .less
+loop2-less c = pick (c .before) .less
 
 loop2-again : tie.Need-loop2-again Inv-loop2 μ-loop2 Inv-loop μ-loop
-loop2-again c = (omega (arith, pick c .less), turning-turn _ _ _ _ _ _ (omega arith) (pick c) (c .before .loop2 .inv .1))
+loop2-again c = (omega (arith, pick (c .before) .less), turning-turn _ _ _ _ _ _ (omega arith) (pick (c .before)) (c .before .before .loop2 .inv .1))
 
 add-p : tie.Need-add-p Inv-loop2 μ-loop2 Inv-loop μ-loop
 add-p c = omega arith
@@ -69,6 +72,9 @@ loop-less c = omega arith
 
 loop-again : tie.Need-loop-again Inv-loop2 μ-loop2 Inv-loop μ-loop
 loop-again c = (omega arith, turning-next _ _ _ _ (c .loop2-test .left) (c .before .loop2 .inv .1))
+
+same-length : tie.Need-same-length Inv-loop2 μ-loop2 Inv-loop μ-loop
+same-length c = c .before .loop .inv .1 .size ∙ sym (ap length (c .before .before .pre .2))
 
 returns : tie.Need-returns Inv-loop2 μ-loop2 Inv-loop μ-loop
 returns c = turning-end _ _ _ _ (omega arith) (c .before .loop .inv .1)
@@ -88,12 +94,13 @@ transpose-few-spec =
     cast-q
     shl-out
     mul-out
-    array-read-out
-    array-write-out
+    slice-read-out
+    slice-write-out
     sub-todo
     loop2-less
     loop2-again
     add-p
     loop-less
     loop-again
+    same-length
     returns)

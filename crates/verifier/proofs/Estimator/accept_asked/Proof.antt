@@ -106,6 +106,9 @@ silent-rows-requires-2 c κs =
 slice-aggregate-silent-back : tie.Need-slice-aggregate-silent-back
 slice-aggregate-silent-back c = search needs
 
+slice-aggregate-silent-back-2 : tie.Need-slice-aggregate-silent-back-2
+slice-aggregate-silent-back-2 c = search needs
+
 silent-back-requires : tie.Need-silent-back-requires
 silent-back-requires c κs = search needs
 
@@ -117,18 +120,18 @@ slice-aggregate-judge-2 c = search needs
 
 judge-requires : tie.Need-judge-requires
 judge-requires c κs =
-    let r = c .before .before .before .before .before in
+    let r = c .before .before .before .before .before .before .before in
     let f = r .before .before .before in
     let n = f .before .before .before .before .before .before .before .before in
     let e = n .before .before .before in
     let a = e .before .before .before .before .before .args in
     let near : Near (automatonOf (now (a .table)) (a .header)) _ _ (r .silent-rows2 .result .states) = near-gained _ _ _ _ _ (r .silent-rows2 .ensures)
     (λ l q h i. or-r q (n .silent-rows .result .states) (f .entered .result) (f .entered .ensures l q h i)) in
-    record { sound = ok (e .before .before) .0; limits = f .before .push .ensures .0; near = near; back-are = c .before .before .silent-back .ensures _ (near .closed) }
+    record { sound = ok (e .before .before) .0; limits = f .before .push .ensures .0; near = near; back-are = c .before .before .before .silent-back .ensures _ (near .closed) }
 
 returns-4 : tie.Need-returns-4
 returns-4 c = λ notion asks.
-    let pushed = c .before .before .before .before .before .before .before .before .before .before in
+    let pushed = c .before .before .before .before .before .before .before .before .before .before .before .before in
     let k = pushed .before in
     let e = k .before .before .before .before .before .before .before .before .before in
     let o = ok (e .before .before) in
@@ -162,6 +165,7 @@ accept-asked-spec =
     slice-aggregate-silent-rows-2
     silent-rows-requires-2
     slice-aggregate-silent-back
+    slice-aggregate-silent-back-2
     silent-back-requires
     slice-aggregate-judge
     slice-aggregate-judge-2

@@ -16,7 +16,8 @@ use Rattle.bitfields.proofs.Parsing.{on-done, demand-done, same-done, field-lt}
 use Rattle.encoding.specs.Transitions.{Transition, sameTransition, listed}
 use Rattle.encoding.specs.Encoding.{Encoding, encoding, ending, front, transition, transitions}
 use Rattle.encoding.specs.Table.{oneIf, wordOf, Holds}
-use Rattle.encoding.specs.Decoding.{noHeader}
+use Rattle.encoding.specs.Decoding.{Decoding, accept, noHeader}
+use Rattle.encoding.proofs.Ended.{encoding-in}
 
 -- numbers that a table of 64 states and 32 events has a place for
 pub record Placed (t : Transition) : Type 0 where
@@ -105,6 +106,12 @@ transitions-are bs after {d} e x t = (
   (λ y. listed-exactly (d .transitions) after x t (record { from = y .from-small; event = y .event-small; to = y .to-small }) .0 y),
   (λ y. listed-exactly (d .transitions) after x t (encoding-placed bs e t y) .1 y),
 )
+
+-- what was decoded is an automaton
+pub decoded-sound : (bytes table : List ℕ) (h : Header) (t : List ℕ) → Decoding bytes table h accept t → run.Sound t h
+decoded-sound bytes table h t (Decoding.accepted size e next is after holds) =
+    let small = encoding-in bytes is in
+    record { words = holds .size; back = omega (arith, small .0 .fixed .k); start = omega (arith, small .0 .fixed .initial) }
 
 -- what a refused call hands back is no automaton's header, on any table
 pub no-header : (table : List ℕ) → run.Sound table noHeader → ⊥

@@ -27,41 +27,41 @@ use Rattle.gateway.proofs.Sizes.{decoded-header-back, grown-estimator-b
 use Rattle.gateway.proofs.Numbered.{not-zero}
 use Rattle.gateway.proofs.Feeding.{keeps-estimator, accept-calls, keeps-enforcer, offer-calls}
 
--- what `headerAt header` is below: after a decode that answered 0 the header's bytes hold the header of the description, and the table its transitions
-pub saved-header : (description table before t header : List ℕ) → Decode description table before 0 t header → Decoding description table (headerAt header) accept t
-saved-header description table before t header (Decode.refused size x) = absurd (not-zero description table x refl)
-saved-header description table before t header (Decode.accepted size {h = h} x) =
-    subst (λ (y : Header). Decoding description table y accept t) (sym (decoded-header-back description table h t x)) x
+-- what `headerAt header` is below: after a decode that answered 0 the header's bytes hold the header that was encoded, and the table its transitions
+pub saved-header : (encoding table before t header : List ℕ) → Decode encoding table before 0 t header → Decoding encoding table (headerAt header) accept t
+saved-header encoding table before t header (Decode.refused size x) = absurd (not-zero encoding table x refl)
+saved-header encoding table before t header (Decode.accepted size {h = h} x) =
+    subst (λ (y : Header). Decoding encoding table y accept t) (sym (decoded-header-back encoding table h t x)) x
 
 -- what the empty trace tells
 abbrev Opens : List ℕ → List ℕ → Notion → Steps → Type 0
 Opens header t notion v = Tells notion (automatonOf t (headerAt header)) (headerAt header .secret) (headerAt header .k) [] v
 
-saved-length : (description table before t header : List ℕ) → Decode description table before 0 t header → length header ≡ 14
-saved-length description table before t header (Decode.refused size x) = absurd (not-zero description table x refl)
-saved-length description table before t header (Decode.accepted size {h = h} x) = header-length h
+saved-length : (encoding table before t header : List ℕ) → Decode encoding table before 0 t header → length header ≡ 14
+saved-length encoding table before t header (Decode.refused size x) = absurd (not-zero encoding table x refl)
+saved-length encoding table before t header (Decode.accepted size {h = h} x) = header-length h
 
-saved-sound : (description table before t header : List ℕ) → Decode description table before 0 t header → Sound t (headerAt header)
-saved-sound description table before t header x = decoded-sound description table (headerAt header) t (saved-header description table before t header x)
+saved-sound : (encoding table before t header : List ℕ) → Decode encoding table before 0 t header → Sound t (headerAt header)
+saved-sound encoding table before t header x = decoded-sound encoding table (headerAt header) t (saved-header encoding table before t header x)
 
 -- with it, and slices of their lengths, a fresh estimator is never refused
-pub saved-fresh : (description table before t header estimator lent : List ℕ) (answer : ℕ) (s told : List ℕ) → Decode description table before 0 t header
+pub saved-fresh : (encoding table before t header estimator lent : List ℕ) (answer : ℕ) (s told : List ℕ) → Decode encoding table before 0 t header
     → length estimator ≡ 144 → length lent ≡ 2 → Fresh t header estimator lent answer s told → answer ≡ 0
-saved-fresh description table before t header estimator lent answer s told x e l (Fresh.size bad) =
-    absurd (bad (record { header-size = saved-length description table before t header x; estimator-size = e; verdicts-size = l }))
-saved-fresh description table before t header estimator lent answer s told x e l (Fresh.refused _ (Opening.malformed bad out)) =
-    absurd (bad (saved-sound description table before t header x))
-saved-fresh description table before t header estimator lent answer s told x e l (Fresh.accepted _ opening) = refl
+saved-fresh encoding table before t header estimator lent answer s told x e l (Fresh.size bad) =
+    absurd (bad (record { header-size = saved-length encoding table before t header x; estimator-size = e; verdicts-size = l }))
+saved-fresh encoding table before t header estimator lent answer s told x e l (Fresh.refused _ (Opening.malformed bad out)) =
+    absurd (bad (saved-sound encoding table before t header x))
+saved-fresh encoding table before t header estimator lent answer s told x e l (Fresh.accepted _ opening) = refl
 
 -- and a start by 8 only, where the empty trace leaks already
-pub saved-start : (description table before t header : List ℕ) (notion : ℕ) (enforcer : List ℕ) (answer : ℕ) (s : List ℕ) → Decode description table before 0 t header
+pub saved-start : (encoding table before t header : List ℕ) (notion : ℕ) (enforcer : List ℕ) (answer : ℕ) (s : List ℕ) → Decode encoding table before 0 t header
     → notion ≤ 1 → length enforcer ≡ 178 → Start t header notion enforcer answer s → (answer ≡ 0) ⊎ ((answer ≡ 8) × Opens header t (notionAt notion) (leak 0))
-saved-start description table before t header notion enforcer answer s x known e (Start.size bad) =
-    absurd (bad (record { header-size = saved-length description table before t header x; notion-known = known; enforcer-size = e }))
-saved-start description table before t header notion enforcer answer s x known e (Start.refused _ (Starting.malformed bad out)) =
-    absurd (bad (saved-sound description table before t header x))
-saved-start description table before t header notion enforcer answer s x known e (Start.refused _ (Starting.initial-leak so tells out)) = inr (refl, tells)
-saved-start description table before t header notion enforcer answer s x known e (Start.started _ starting) = inl refl
+saved-start encoding table before t header notion enforcer answer s x known e (Start.size bad) =
+    absurd (bad (record { header-size = saved-length encoding table before t header x; notion-known = known; enforcer-size = e }))
+saved-start encoding table before t header notion enforcer answer s x known e (Start.refused _ (Starting.malformed bad out)) =
+    absurd (bad (saved-sound encoding table before t header x))
+saved-start encoding table before t header notion enforcer answer s x known e (Start.refused _ (Starting.initial-leak so tells out)) = inr (refl, tells)
+saved-start encoding table before t header notion enforcer answer s x known e (Start.started _ starting) = inl refl
 
 bounded : (notion : Notion) (p : Automaton) (secret K : ℕ) (trace : List ℕ) (v : Steps) → Tells notion p secret K trace v → Bounded K v
 bounded notion p secret K trace none x = tt
@@ -82,13 +82,13 @@ saved-second-point t header before lent s told cs e (Fresh.accepted sizes {weak 
     (subst (λ (y : Estimator). verifier.Calls t h y (callsOf cs) (estimatorAt e)) back calls))
 
 -- from the bytes of an encoding to the verdicts: what was decoded, a fresh estimator on it, and any calls of accept
-pub encoded-second-point : (description table before t header estimator lent : List ℕ) (answer : ℕ) (s told : List ℕ) (cs : List AcceptCall) (e : List ℕ)
-    → Decode description table before 0 t header → length estimator ≡ 144 → length lent ≡ 2 → Fresh t header estimator lent answer s told → AcceptCalls t header s cs e
-    → (answer ≡ 0) × Decoding description table (headerAt header) accept t × verifier.Promise t (headerAt header) (weakAt told) (strongAt told) (callsOf cs) (estimatorAt e)
-encoded-second-point description table before t header estimator lent answer s told cs e x size size′ fresh f =
-    let zero-is = saved-fresh description table before t header estimator lent answer s told x size size′ fresh in (
+pub encoded-second-point : (encoding table before t header estimator lent : List ℕ) (answer : ℕ) (s told : List ℕ) (cs : List AcceptCall) (e : List ℕ)
+    → Decode encoding table before 0 t header → length estimator ≡ 144 → length lent ≡ 2 → Fresh t header estimator lent answer s told → AcceptCalls t header s cs e
+    → (answer ≡ 0) × Decoding encoding table (headerAt header) accept t × verifier.Promise t (headerAt header) (weakAt told) (strongAt told) (callsOf cs) (estimatorAt e)
+encoded-second-point encoding table before t header estimator lent answer s told cs e x size size′ fresh f =
+    let zero-is = saved-fresh encoding table before t header estimator lent answer s told x size size′ fresh in (
       zero-is,
-      saved-header description table before t header x,
+      saved-header encoding table before t header x,
       saved-second-point t header estimator lent s told cs e (subst (λ (n : ℕ). Fresh t header estimator lent n s told) zero-is fresh) f,
     )
 

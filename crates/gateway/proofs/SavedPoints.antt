@@ -37,6 +37,7 @@ saved-header encoding table before t header (Decode.accepted size {h = h} x) =
 abbrev Opens : List ℕ → List ℕ → Notion → Steps → Type 0
 Opens header t notion v = Tells notion (automatonOf t (headerAt header)) (headerAt header .secret) (headerAt header .k) [] v
 
+-- the header has its length, and with the table it is an automaton
 saved-length : (encoding table before t header : List ℕ) → Decode encoding table before 0 t header → length header ≡ 14
 saved-length encoding table before t header (Decode.refused size x) = absurd (not-zero encoding table x refl)
 saved-length encoding table before t header (Decode.accepted size {h = h} x) = header-length h
@@ -44,7 +45,7 @@ saved-length encoding table before t header (Decode.accepted size {h = h} x) = h
 saved-sound : (encoding table before t header : List ℕ) → Decode encoding table before 0 t header → Sound t (headerAt header)
 saved-sound encoding table before t header x = decoded-sound encoding table (headerAt header) t (saved-header encoding table before t header x)
 
--- with it, and slices of their lengths, a fresh estimator is never refused
+-- so with slices of their lengths a fresh estimator is never refused
 pub saved-fresh : (encoding table before t header estimator lent : List ℕ) (answer : ℕ) (s told : List ℕ) → Decode encoding table before 0 t header
     → length estimator ≡ 144 → length lent ≡ 2 → Fresh t header estimator lent answer s told → answer ≡ 0
 saved-fresh encoding table before t header estimator lent answer s told x e l (Fresh.size bad) =
@@ -53,7 +54,7 @@ saved-fresh encoding table before t header estimator lent answer s told x e l (F
     absurd (bad (saved-sound encoding table before t header x))
 saved-fresh encoding table before t header estimator lent answer s told x e l (Fresh.accepted _ opening) = refl
 
--- and a start by 8 only, where the empty trace leaks already
+-- and a start is refused by 8 only, where the empty trace leaks already
 pub saved-start : (encoding table before t header : List ℕ) (notion : ℕ) (enforcer : List ℕ) (answer : ℕ) (s : List ℕ) → Decode encoding table before 0 t header
     → notion ≤ 1 → length enforcer ≡ 178 → Start t header notion enforcer answer s → (answer ≡ 0) ⊎ ((answer ≡ 8) × Opens header t (notionAt notion) (leak 0))
 saved-start encoding table before t header notion enforcer answer s x known e (Start.size bad) =

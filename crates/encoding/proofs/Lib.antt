@@ -2,6 +2,6 @@
 pub mod Ended
 pub mod Stored
 pub mod Promise
--- Theorems about the definitions: one decoding only, and what a decoded table means. (01's starred descriptions are rows of the table in `examples`.)
+-- Theorems about the definitions: one decoding only, and what a decoded table means. (01's starred encodings are rows of the table in `examples`.)
 pub mod Only
 pub mod Listing

@@ -13,7 +13,7 @@ use Rattle.enforcer.specs.Enforcers.{Grown}
 use Rattle.enforcer.specs.Offerings.{Said, refused, started, Starting, Offering}
 use Rattle.enforcer.specs.Offers.{Offer, Offered, Offers, acceptedOf, releasedCount, releasedOf, TurnedBack, ByTable, Promise}
 use Rattle.enforcer.specs.declared.Enforcer.{Enforcer}
-use Rattle.enforcer.proofs.SafeLaws.{safe-laws, safe-shown, not-safe-unsafe}
+use Rattle.enforcer.proofs.SafeLaws.{safe-laws, safe-by-runs, not-safe-unsafe}
 use Rattle.automaton.proofs.Traces.{prefix-possible}
 use Rattle.published.specs.Source.{Enforced}
 use Rattle.enforcer.proofs.SourceSafe.{safe-published, enforced}
@@ -65,9 +65,9 @@ module _ (notion : Notion) (t : List ℕ) (h : Header) (sound : Sound t h) where
         accepted = y .0;
         prefix = k .prefix;
         safe = rw (k .prefix) (k .safe);
-        shown =
+        by-runs =
             let x = told (releasedCount os) (k .within) in
-            rw (k .prefix) (safe-shown notion (automatonOf t h) (h .secret) (h .k) (take (releasedCount os) (acceptedOf os)) (x .0) (x .1) (length (acceptedOf os))
+            rw (k .prefix) (safe-by-runs notion (automatonOf t h) (h .secret) (h .k) (take (releasedCount os) (acceptedOf os)) (x .0) (x .1) (length (acceptedOf os))
             (omega (arith, k .within, length-take-le (releasedCount os) (acceptedOf os) (k .within))) (k .safe));
         longest = k .longest;
         unsafe = λ r more within.
@@ -75,13 +75,11 @@ module _ (notion : Notion) (t : List ℕ) (h : Header) (sound : Sound t h) where
             not-safe-unsafe notion (automatonOf t h) (h .secret) (h .k) (take r (acceptedOf os)) (x .0) (x .1) (length (acceptedOf os))
             (omega (arith, length-take-le r (acceptedOf os) within)) (k .longest r more within);
         published =
-            let x = told (releasedCount os) (k .within) in
             rw (k .prefix) (safe-published notion (automatonOf t h) (h .secret) (h .k) (acceptedOf os) (take (releasedCount os) (acceptedOf os))
-            (omega (arith, k .within, length-take-le (releasedCount os) (acceptedOf os) (k .within))) (observed-trace (releasedCount os) (k .within)) (x .0) (x .1) .0 (k .safe));
+            (omega (arith, k .within, length-take-le (releasedCount os) (acceptedOf os) (k .within))) (observed-trace (releasedCount os) (k .within)) .0 (k .safe));
         published-longest = λ r more within out.
-            let x = told r within in
             k .longest r more within (safe-published notion (automatonOf t h) (h .secret) (h .k) (acceptedOf os) (take r (acceptedOf os))
-            (omega (arith, length-take-le r (acceptedOf os) within)) (observed-trace r within) (x .0) (x .1) .1 out);
+            (omega (arith, length-take-le r (acceptedOf os) within)) (observed-trace r within) .1 out);
         in-time = k .in-time;
         balance = k .balance;
         grown = y .1;

@@ -7,7 +7,7 @@ use Rattle.automaton.specs.Run.{automatonOf, Possible, Impossible, Observable}
 use Rattle.automaton.specs.declared.Header.{Header}
 use Rattle.verifier.specs.declared.Notion.{Notion}
 use Rattle.published.specs.Source.{SafeToOutput}
-use Rattle.enforcer.specs.SafePrefix.{Safe, Shown, Unsafe}
+use Rattle.enforcer.specs.SafePrefix.{Safe, SafeByRuns, Unsafe}
 use Rattle.enforcer.specs.Enforcers.{Grown}
 use Rattle.enforcer.specs.Offerings.{Said, refused, released, Offering}
 use Rattle.enforcer.specs.declared.Enforcer.{Enforcer}
@@ -81,9 +81,9 @@ pub record Promise (notion : Notion) (t : List ℕ) (h : Header) (os : List Offe
   pub accepted : Each (λ trace o. ByTable t h trace o (o .says)) [] os
   -- the events released so far are a prefix of the accepted ones, in their order
   pub prefix : releasedOf os ≡ take (releasedCount os) (acceptedOf os)
-  -- nobody who reads only the released events can be sure of a secret state at most K accepted events back: in 01's words, and by shown runs
+  -- nobody who reads only the released events can be sure of a secret state at most K accepted events back: in 01's words, and by runs in hand
   pub safe : Safe notion (automatonOf t h) (h .secret) (h .k) (releasedOf os) (length (acceptedOf os))
-  pub shown : Shown notion (automatonOf t h) (h .secret) (h .k) (releasedOf os) (length (acceptedOf os))
+  pub by-runs : SafeByRuns notion (automatonOf t h) (h .secret) (h .k) (releasedOf os) (length (acceptedOf os))
   -- every longer prefix would have made somebody sure: it is not safe in 01's words, and somebody is sure
   pub longest : (r : ℕ) → releasedCount os < r → r ≤ length (acceptedOf os)
       → Safe notion (automatonOf t h) (h .secret) (h .k) (take r (acceptedOf os)) (length (acceptedOf os)) → ⊥

@@ -13,9 +13,9 @@ use Rattle.encoding.specs.Transitions.{Transition}
 use Rattle.verifier.specs.declared.Notion.{Notion}
 use Rattle.verifier.specs.declared.Notion.the-variants.{Weak, Strong}
 use Rattle.verifier.specs.Verdicts.{Steps, none, leak, Sure, Clear, Tells}
-use Rattle.enforcer.specs.SafePrefix.{Excused, Safe, Shown, Unsafe}
+use Rattle.enforcer.specs.SafePrefix.{Excused, Safe, SafeByRuns, Unsafe}
 use Rattle.enforcer.specs.Queues.{Longest}
-use Rattle.enforcer.proofs.SafeLaws.{shown-safe, unsafe-not-safe}
+use Rattle.enforcer.proofs.SafeLaws.{by-runs-safe, unsafe-not-safe}
 use Rattle.examples.specs.Meaning.{TableOf}
 use Rattle.examples.proofs.Booleans.{every}
 use Rattle.examples.proofs.Checks.{Check, map, both, either, by, le?, where-le, all-below, some-below, Below}
@@ -72,10 +72,10 @@ module _ (ts : List Transition) (h : Header) (range : T (every inRange ts)) wher
           map (λ f x. record { within = f .0; reached = f .1 .0; sure = f .1 .1 .0 x; least = λ m less. f .1 .1 .1 m less x })
           (both (le? l K) (both (le? l (length trace)) (both (sure? notion trace (length trace - l)) (all-below (λ m. clear? notion trace (length trace - m)) l))))
 
-      abbrev shown? : (notion : Notion) (first : List ℕ) (n : ℕ) → Check (For ts (λ t. Shown notion (automatonOf t h) secret K first n))
-      shown? Weak first n =
+      abbrev by-runs? : (notion : Notion) (first : List ℕ) (n : ℕ) → Check (For ts (λ t. SafeByRuns notion (automatonOf t h) secret K first n))
+      by-runs? Weak first n =
           map (λ f x j low near. f j (omega arith) near x) (all-below (λ j. where-le n (j + K) (clear? Weak first j)) (suc (length first)))
-      shown? Strong first n =
+      by-runs? Strong first n =
           map (λ f x. ⊎-elim (λ old. inl old) (λ c. inr (excused (M x) secret K first n (c x))) f)
           (either (le? (suc (length first + K)) n) (clear? Strong first (n - K)))
 
@@ -91,8 +91,8 @@ module _ (ts : List Transition) (h : Header) (range : T (every inRange ts)) wher
       longest? notion trace r =
           map (λ f x. record {
             within = f .0;
-            safe = shown-safe notion (M x) secret K (take r trace) (length trace) (f .1 .0 x);
+            safe = by-runs-safe notion (M x) secret K (take r trace) (length trace) (f .1 .0 x);
             longest = λ s above short. unsafe-not-safe notion (M x) secret K (take s trace) (length trace) (f .1 .1 s (omega arith) above x);
           })
-          (both (le? r (length trace)) (both (shown? notion (take r trace) (length trace))
+          (both (le? r (length trace)) (both (by-runs? notion (take r trace) (length trace))
           (all-below (λ s. where-le (suc r) s (unsafe? notion (take s trace) (length trace))) (suc (length trace)))))

@@ -1,14 +1,14 @@
 -- Laws of numbers as bytes, the least significant first. Assumes nothing.
 use Prim.Native.Nat.{ℕ, zero, suc, _+_, _*_, _/_, _%_, _^_, _-_, _≤_, _<_}
 use mathlib.Core.Path.{_≡_, refl, ap, sym, _∙_}
-use mathlib.Core.List.{List, [], _∷_, _++_}
+use mathlib.Core.List.{List, [], _∷_}
 use native.Mathlib.Omega.{arith}
-use native.Mathlib.Nat.{lt-of-lt-of-le, add-zero}
+use native.Mathlib.Nat.{lt-of-lt-of-le}
 use native.Mathlib.Numerals.{add-one}
 use lib.Pow.{pow-mono, pow-add}
 use lib.ListN.{length, getD, take, drop, set, length-set, length-drop}
 use lib.Seq.{sets, ext-getD, length-take-le, getD-take, getD-drop, drop-cons}
-use Rattle.enforcer.proofs.Arrays.{filled-more}
+use Rattle.automaton.proofs.Filled.{filled, sets-append}
 use Rattle.gateway.specs.Layout.{numberAt, bytesOf, wordsAt, wordsBytes, bytesAt}
 
 -- one byte more, from below
@@ -58,11 +58,6 @@ unfolding bytesOf
 bytes-length zero number = refl
 bytes-length (suc n) number = ap suc (bytes-length n (number / 256))
 
--- two texts one behind the other
-pub sets-append : (xs ys d : List ℕ) (at : ℕ) → sets (sets d at xs) (at + length xs) ys ≡ sets d at (xs ++ ys)
-sets-append [] ys d at = rw (add-zero at)
-sets-append (x ∷ xs) ys d at = let e : at + suc (length xs) ≡ suc at + length xs = omega arith in rw e (sets-append xs ys (set d at x) (suc at))
-
 -- ---- copies out of the bytes, element by element
 
 -- the first i places of an array are filled
@@ -75,7 +70,7 @@ fill-start f size r e = record { size-is = e; first = λ k h. absurd (omega arit
 
 pub fill-turn : (f : ℕ → ℕ) (size i : ℕ) (r : List ℕ) (v : ℕ) → i < size → v ≡ f i → Filled f size i r → Filled f size (i + 1) (set r i v)
 fill-turn f size i r v h e x =
-    record { size-is = length-set r i v ∙ x .size-is; first = filled-more f r i v (omega (arith, x .size-is)) e (x .first) }
+    record { size-is = length-set r i v ∙ x .size-is; first = filled (λ k y. y ≡ f k) r i v (omega (arith, x .size-is)) (x .first) e }
 
 pub fill-end : (f : ℕ → ℕ) (size i : ℕ) (r t : List ℕ) → size ≤ i → Filled f size i r → length t ≡ size → ((k : ℕ) → k < size → getD t k 0 ≡ f k) → r ≡ t
 fill-end f size i r t h x l same = ext-getD 0 r t (x .size-is ∙ sym l) (λ k less. x .first k (omega (arith, x .size-is)) ∙ sym (same k (omega (arith, x .size-is))))

@@ -28,9 +28,9 @@ use Rattle.gateway.specs.Interface.{Decode, Fresh, Accept, Start, Offer,
 use Rattle.gateway.proofs.Saved.{whole}
 
 -- a refusal leaves the lent memory
-kept-table : (description table : List ℕ) {h : Header} {n : ℕ} {after : List ℕ} → Decoding description table h (decoding.refuse n) after → after ≡ table
-kept-table description table (Decoding.malformed bad) = refl
-kept-table description table (Decoding.refused size n e) = refl
+kept-table : (encoding table : List ℕ) {h : Header} {n : ℕ} {after : List ℕ} → Decoding encoding table h (decoding.refuse n) after → after ≡ table
+kept-table encoding table (Decoding.malformed bad) = refl
+kept-table encoding table (Decoding.refused size n e) = refl
 
 kept-output : (t : List ℕ) (h : Header) (s : Enforcer) (event : ℕ) (output : List ℕ) {n : ℕ} {after : Enforcer} {out : List ℕ}
     → Offering t h s event output (offering.refused n) after out → out ≡ output
@@ -39,18 +39,18 @@ kept-output t h s event output (Offering.output-too-small so li few) = refl
 kept-output t h s event output (Offering.not-observable so li wide never) = refl
 kept-output t h s event output (Offering.incompatible so li wide ob none) = refl
 
-module _ (description table header after : List ℕ) (h : Header) (answer : decoded.Answer) (size : length header ≡ 14)
-    (did : Decoding description table h (answerMeans answer) after) where
-  pub decode-refused : (r : Refusal) (n : ℕ) → answer ≡ decoded.the-variants.Refused r → n ≡ numberOf r → Decode description table header n after header
+module _ (encoding table header after : List ℕ) (h : Header) (answer : decoded.Answer) (size : length header ≡ 14)
+    (did : Decoding encoding table h (answerMeans answer) after) where
+  pub decode-refused : (r : Refusal) (n : ℕ) → answer ≡ decoded.the-variants.Refused r → n ≡ numberOf r → Decode encoding table header n after header
   decode-refused r n is number =
-      let x = subst (λ (y : decoded.Answer). Decoding description table h (answerMeans y) after) is did in
-      let kept = kept-table description table x in
+      let x = subst (λ (y : decoded.Answer). Decoding encoding table h (answerMeans y) after) is did in
+      let kept = kept-table encoding table x in
       rw (number, kept) (Decode.refused size (rw kept at x))
 
-  pub decode-accepted : (left : List ℕ) → answer ≡ decoded.the-variants.Accepted → left ≡ headerBytes h → Decode description table header 0 after left
+  pub decode-accepted : (left : List ℕ) → answer ≡ decoded.the-variants.Accepted → left ≡ headerBytes h → Decode encoding table header 0 after left
   decode-accepted left is wrote =
-      subst (λ (x : List ℕ). Decode description table header 0 after x) (sym wrote)
-      (Decode.accepted size (subst (λ (x : decoded.Answer). Decoding description table h (answerMeans x) after) is did))
+      subst (λ (x : List ℕ). Decode encoding table header 0 after x) (sym wrote)
+      (Decode.accepted size (subst (λ (x : decoded.Answer). Decoding encoding table h (answerMeans x) after) is did))
 
 -- the verdicts that were written
 abbrev verdictBytes : Verdicts → List ℕ

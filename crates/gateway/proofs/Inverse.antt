@@ -73,6 +73,9 @@ header-back h x =
     ∙ number-back (h .initial ∷ h .k ∷ bytesOf 8 (h .secret)) [] 4 (h .observable) 10 (x .observable) (omega (arith, bytes-length 8 (h .secret))) in
     λ i. record { initial = h .initial; k = h .k; secret = s i; observable = o i }
 
+pub header-length : (h : Header) → length (headerBytes h) ≡ 14
+header-length h = omega (arith, length-append (bytesOf 8 (h .secret)) (bytesOf 4 (h .observable)), bytes-length 8 (h .secret), bytes-length 4 (h .observable))
+
 -- an estimator as the code has it: the arrays have their sizes, and the state sets are words
 pub record EstimatorSized (s : Estimator) : Type 0 where
   pub events : length (s .events) ≡ 15

@@ -1,4 +1,4 @@
--- Decoding refuses by no number 0, so that the answer 0 says that the description was accepted. Assumes nothing.
+-- Decoding refuses by no number 0, so that the answer 0 says that the encoding was accepted. Assumes nothing.
 use Prim.Native.Nat.{ℕ, zero, suc, _+_, _-_}
 use mathlib.Core.Path.{_≡_, subst}
 use mathlib.Core.Bool.{Bool, true, false, cond, _&&_}
@@ -83,6 +83,6 @@ encoding-numbered bits at =
     both (transitions (f .fixed .topstate) (f .fixed .topevent) (f .fixed .count) bits n1) _ (transitions-numbered (f .fixed .topstate) (f .fixed .topevent) (f .fixed .count) bits n1) λ ts n2.
     both (ending bits n2) _ (ending-numbered bits n2) λ u n3. tt
 
-pub not-zero : (description table : List ℕ) {h : Header} {n : ℕ} {after : List ℕ} → Decoding description table h (refuse n) after → n ≡ 0 → ⊥
-not-zero description table (Decoding.malformed bad) = λ e. absurd (omega arith)
-not-zero description table (Decoding.refused size n e) = subst (λ (x : Parsed Encoding). Numbered x) e (encoding-numbered (bitsOf description) 0)
+pub not-zero : (bytes table : List ℕ) {h : Header} {n : ℕ} {after : List ℕ} → Decoding bytes table h (refuse n) after → n ≡ 0 → ⊥
+not-zero bytes table (Decoding.malformed bad) = λ e. absurd (omega arith)
+not-zero bytes table (Decoding.refused size n e) = subst (λ (x : Parsed Encoding). Numbered x) e (encoding-numbered (bitsOf bytes) 0)

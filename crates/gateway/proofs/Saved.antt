@@ -5,10 +5,11 @@ use mathlib.Core.List.{List, [], _∷_, _++_, append-nil}
 use native.Mathlib.Omega.{arith}
 use lib.ListN.{length, take, drop, set, length-append}
 use lib.Seq.{sets, sets-eq}
+use Rattle.automaton.proofs.Filled.{sets-append}
 use Rattle.verifier.specs.declared.Notion.{Notion}
 use Rattle.verifier.specs.declared.Notion.the-variants.{Weak, Strong}
 use Rattle.gateway.specs.Layout.{bytesOf, wordsBytes, notionAt}
-use Rattle.gateway.proofs.Bytes.{bytes-length, sets-append, drop-all}
+use Rattle.gateway.proofs.Bytes.{bytes-length, drop-all}
 
 pub words-bytes-length : (ws : List ℕ) → length (wordsBytes ws) ≡ 8 * length ws
 unfolding wordsBytes

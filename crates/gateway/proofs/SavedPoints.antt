@@ -1,10 +1,13 @@
 -- The mission's second and third points for a gateway that keeps bytes. Assumes nothing.
-use Prim.Native.Nat.{ℕ}
-use mathlib.Core.Path.{refl, sym, subst}
+use Prim.Native.Nat.{ℕ, _≤_}
+use mathlib.Core.Path.{_≡_, refl, sym, subst}
 use mathlib.Core.List.{List, []}
-use Rattle.automaton.specs.Run.{Automaton, automatonOf}
+use mathlib.Core.Logic.{_⊎_, inl, inr}
+use lib.ListN.{length}
+use Rattle.automaton.specs.Run.{Automaton, automatonOf, Sound}
 use Rattle.automaton.specs.declared.Header.{Header}
 use Rattle.encoding.specs.Decoding.{Decoding, accept}
+use Rattle.encoding.proofs.Listing.{decoded-sound}
 use Rattle.verifier.specs.declared.Notion.{Notion}
 use Rattle.verifier.specs.declared.Notion.the-variants.{Weak, Strong}
 use Rattle.verifier.specs.declared.Estimator.{Estimator}
@@ -19,16 +22,47 @@ use Rattle.enforcer.proofs.ThirdPoint.{third-point}
 use Rattle.gateway.specs.Layout.{headerAt, estimatorAt, notionAt, enforcerAt}
 use Rattle.gateway.specs.Interface.{Decode, Fresh, Start}
 use Rattle.gateway.specs.Feeds.{AcceptCall, AcceptCalls, weakAt, strongAt, callsOf, OfferCall, OfferCalls, offersOf}
-use Rattle.gateway.proofs.Inverse.{verdict-back}
+use Rattle.gateway.proofs.Inverse.{header-length, verdict-back}
 use Rattle.gateway.proofs.Sizes.{decoded-header-back, grown-estimator-back, grown-enforcer-back}
 use Rattle.gateway.proofs.Numbered.{not-zero}
 use Rattle.gateway.proofs.Feeding.{keeps-estimator, accept-calls, keeps-enforcer, offer-calls}
 
--- what `headerAt header` is below: after a decode that answered 0 the header's bytes hold the header of the description, and the table its transitions
-pub saved-header : (description table before t header : List ℕ) → Decode description table before 0 t header → Decoding description table (headerAt header) accept t
-saved-header description table before t header (Decode.refused size x) = absurd (not-zero description table x refl)
-saved-header description table before t header (Decode.accepted size {h = h} x) =
-    subst (λ (y : Header). Decoding description table y accept t) (sym (decoded-header-back description table h t x)) x
+-- what `headerAt header` is below: after a decode that answered 0 the header's bytes hold the header that was encoded, and the table its transitions
+pub saved-header : (encoding table before t header : List ℕ) → Decode encoding table before 0 t header → Decoding encoding table (headerAt header) accept t
+saved-header encoding table before t header (Decode.refused size x) = absurd (not-zero encoding table x refl)
+saved-header encoding table before t header (Decode.accepted size {h = h} x) =
+    subst (λ (y : Header). Decoding encoding table y accept t) (sym (decoded-header-back encoding table h t x)) x
+
+-- what the empty trace tells
+abbrev Opens : List ℕ → List ℕ → Notion → Steps → Type 0
+Opens header t notion v = Tells notion (automatonOf t (headerAt header)) (headerAt header .secret) (headerAt header .k) [] v
+
+-- the header has its length, and with the table it is an automaton
+saved-length : (encoding table before t header : List ℕ) → Decode encoding table before 0 t header → length header ≡ 14
+saved-length encoding table before t header (Decode.refused size x) = absurd (not-zero encoding table x refl)
+saved-length encoding table before t header (Decode.accepted size {h = h} x) = header-length h
+
+saved-sound : (encoding table before t header : List ℕ) → Decode encoding table before 0 t header → Sound t (headerAt header)
+saved-sound encoding table before t header x = decoded-sound encoding table (headerAt header) t (saved-header encoding table before t header x)
+
+-- so with slices of their lengths a fresh estimator is never refused
+pub saved-fresh : (encoding table before t header estimator lent : List ℕ) (answer : ℕ) (s told : List ℕ) → Decode encoding table before 0 t header
+    → length estimator ≡ 144 → length lent ≡ 2 → Fresh t header estimator lent answer s told → answer ≡ 0
+saved-fresh encoding table before t header estimator lent answer s told x e l (Fresh.size bad) =
+    absurd (bad (record { header-size = saved-length encoding table before t header x; estimator-size = e; verdicts-size = l }))
+saved-fresh encoding table before t header estimator lent answer s told x e l (Fresh.refused _ (Opening.malformed bad out)) =
+    absurd (bad (saved-sound encoding table before t header x))
+saved-fresh encoding table before t header estimator lent answer s told x e l (Fresh.accepted _ opening) = refl
+
+-- and a start is refused by 8 only, where the empty trace leaks already
+pub saved-start : (encoding table before t header : List ℕ) (notion : ℕ) (enforcer : List ℕ) (answer : ℕ) (s : List ℕ) → Decode encoding table before 0 t header
+    → notion ≤ 1 → length enforcer ≡ 178 → Start t header notion enforcer answer s → (answer ≡ 0) ⊎ ((answer ≡ 8) × Opens header t (notionAt notion) (leak 0))
+saved-start encoding table before t header notion enforcer answer s x known e (Start.size bad) =
+    absurd (bad (record { header-size = saved-length encoding table before t header x; notion-known = known; enforcer-size = e }))
+saved-start encoding table before t header notion enforcer answer s x known e (Start.refused _ (Starting.malformed bad out)) =
+    absurd (bad (saved-sound encoding table before t header x))
+saved-start encoding table before t header notion enforcer answer s x known e (Start.refused _ (Starting.initial-leak so tells out)) = inr (refl, tells)
+saved-start encoding table before t header notion enforcer answer s x known e (Start.started _ starting) = inl refl
 
 bounded : (notion : Notion) (p : Automaton) (secret K : ℕ) (trace : List ℕ) (v : Steps) → Tells notion p secret K trace v → Bounded K v
 bounded notion p secret K trace none x = tt
@@ -47,6 +81,17 @@ saved-second-point t header before lent s told cs e (Fresh.accepted sizes {weak 
       verdict-back (h .k) w (so .back) (bounded Strong p (h .secret) (h .k) [] w (exact .strong)),
     ) (second-point t h v w x (callsOf cs) (estimatorAt e) (Opening.opened so li exact)
     (subst (λ (y : Estimator). verifier.Calls t h y (callsOf cs) (estimatorAt e)) back calls))
+
+-- from the bytes of an encoding to the verdicts: what was decoded, a fresh estimator on it, and any calls of accept
+pub encoded-second-point : (encoding table before t header estimator lent : List ℕ) (answer : ℕ) (s told : List ℕ) (cs : List AcceptCall) (e : List ℕ)
+    → Decode encoding table before 0 t header → length estimator ≡ 144 → length lent ≡ 2 → Fresh t header estimator lent answer s told → AcceptCalls t header s cs e
+    → (answer ≡ 0) × Decoding encoding table (headerAt header) accept t × verifier.Promise t (headerAt header) (weakAt told) (strongAt told) (callsOf cs) (estimatorAt e)
+encoded-second-point encoding table before t header estimator lent answer s told cs e x size size′ fresh f =
+    let zero-is = saved-fresh encoding table before t header estimator lent answer s told x size size′ fresh in (
+      zero-is,
+      saved-header encoding table before t header x,
+      saved-second-point t header estimator lent s told cs e (subst (λ (n : ℕ). Fresh t header estimator lent n s told) zero-is fresh) f,
+    )
 
 -- THE THIRD POINT: a start that answered 0, and any calls of offer on the bytes that the call before left
 pub saved-third-point : (t header : List ℕ) (notion : ℕ) (before s : List ℕ) (cs : List OfferCall) (e : List ℕ) → Start t header notion before 0 s → OfferCalls t header s cs e

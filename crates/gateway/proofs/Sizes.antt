@@ -1,4 +1,4 @@
--- The states that the crates below hand back, and the header of an accepted description, fit their bytes, and so read back. Assumes nothing.
+-- The states that the crates below hand back, and the header of an accepted encoding, fit their bytes, and so read back. Assumes nothing.
 use Prim.Native.Nat.{ℕ, suc, _+_, _^_, _<_}
 use mathlib.Core.Path.{_≡_, subst}
 use mathlib.Core.List.{List, [], _∷_}
@@ -64,10 +64,10 @@ encoding-secret bs {d} {n} e =
     let x : Encoding = record { front = f; transitions = ts } in
     subst (λ (y : Encoding). y .front .secret < 2 ^ 64) (same-done r3 .0) (front-secret bs x e1)
 
--- the header of an accepted description
-pub header-sized : (description table : List ℕ) (h : Header) (after : List ℕ) → Decoding description table h accept after → HeaderSized h
-header-sized description table h after (Decoding.accepted size e next is after′ holds) =
-    record { secret = encoding-secret description is; observable = encoding-in description is .0 .observable }
+-- the header of an accepted encoding
+pub header-sized : (bytes table : List ℕ) (h : Header) (after : List ℕ) → Decoding bytes table h accept after → HeaderSized h
+header-sized bytes table h after (Decoding.accepted size e next is after′ holds) =
+    record { secret = encoding-secret bytes is; observable = encoding-in bytes is .0 .observable }
 
-pub decoded-header-back : (description table : List ℕ) (h : Header) (after : List ℕ) → Decoding description table h accept after → headerAt (headerBytes h) ≡ h
-decoded-header-back description table h after x = header-back h (header-sized description table h after x)
+pub decoded-header-back : (bytes table : List ℕ) (h : Header) (after : List ℕ) → Decoding bytes table h accept after → headerAt (headerBytes h) ≡ h
+decoded-header-back bytes table h after x = header-back h (header-sized bytes table h after x)

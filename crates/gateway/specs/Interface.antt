@@ -16,10 +16,10 @@ use Rattle.enforcer.specs.declared.Enforcer.{Enforcer}
 use Rattle.gateway.specs.Layout.{headerAt, headerBytes, estimatorAt, estimatorBytes, notionAt, enforcerAt, enforcerBytes, verdictByte}
 
 -- decode: the answer, the table after and the header's bytes after
-pub data Decode (description table header : List ℕ) : ℕ → List ℕ → List ℕ → Type 0 where
-  size : (length header ≡ 14 → ⊥) → Decode description table header 9 table header
-  refused : length header ≡ 14 → {h : Header} {n : ℕ} → Decoding description table h (refuse n) table → Decode description table header n table header
-  accepted : length header ≡ 14 → {h : Header} {after : List ℕ} → Decoding description table h accept after → Decode description table header 0 after (headerBytes h)
+pub data Decode (encoding table header : List ℕ) : ℕ → List ℕ → List ℕ → Type 0 where
+  size : (length header ≡ 14 → ⊥) → Decode encoding table header 9 table header
+  refused : length header ≡ 14 → {h : Header} {n : ℕ} → Decoding encoding table h (refuse n) table → Decode encoding table header n table header
+  accepted : length header ≡ 14 → {h : Header} {after : List ℕ} → Decoding encoding table h accept after → Decode encoding table header 0 after (headerBytes h)
 
 -- the slices of a call of the verifier have the lengths of their layouts
 pub record VerifierSizes (header estimator verdicts : List ℕ) : Type 0 where

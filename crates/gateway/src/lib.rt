@@ -251,15 +251,15 @@ fn write_enforcer(bytes: &mut [u8], enforcer: Enforcer)
     store16(bytes, 162, waits);
 }
 
-// Decodes a description: the table, and the header's 14 bytes.
+// Decodes an encoding: the table, and the header's 14 bytes.
 #[no_mangle]
-pub extern "C" fn opacity_decode(description: &[u8], table: &mut [u64], header: &mut [u8]) -> u8
-    ensures { λ r. ⌜ Decode (now (description .entry)) (now (table .entry)) (now (header .entry)) r (now (table .exit)) (now (header .exit)) ⌝ }
+pub extern "C" fn opacity_decode(encoding: &[u8], table: &mut [u64], header: &mut [u8]) -> u8
+    ensures { λ r. ⌜ Decode (now (encoding .entry)) (now (table .entry)) (now (header .entry)) r (now (table .exit)) (now (header .exit)) ⌝ }
 {
     if header.len() != 14 {
         return 9;
     }
-    let decoded = encoding::decode(description, table);
+    let decoded = encoding::decode(encoding, table);
     let answer = decoded.answer;
     match answer {
         Decoded::Refused(refusal) => automaton::number(refusal),

@@ -19,6 +19,7 @@ use Rattle.verifier.specs.Replies.{Accepting}
 use Rattle.verifier.specs.Calls.{Right}
 use Rattle.verifier.proofs.Exactness.{exactly}
 use Rattle.verifier.proofs.Growing.{grown-limits}
+use Rattle.encoding.proofs.Listing.{decoded-sound}
 use Rattle.enforcer.specs.declared.Enforcer.{Enforcer}
 use Rattle.enforcer.specs.Enforcers as enforcers
 use Rattle.enforcer.specs.Offerings as enforcer
@@ -31,7 +32,6 @@ use Rattle.monitor.specs.Opening.{started, encodingOf, Opening, opened}
 use Rattle.monitor.specs.LogText as log
 use Rattle.monitor.specs.LogText.{Released, Prints, Promise}
 use Rattle.monitor.specs.declared.Monitor.{Monitor}
-use Rattle.monitor.proofs.Openings.{decoded-sound}
 
 -- a refused event's line depends on the number alone
 refused-as : (b : ℕ) (r q : Refusal) → numberOf q ≡ numberOf r → refusedLine b r ≡ refusedLine b q

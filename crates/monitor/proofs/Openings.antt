@@ -10,19 +10,12 @@ use Rattle.verifier.specs.declared.Estimator.{Estimator}
 use Rattle.verifier.specs.Replies as verifier
 use lib.ListN.{length, take, drop}
 use Rattle.encoding.specs.Decoding.{Outcome, accept, Decoding}
-use Rattle.encoding.proofs.Ended.{encoding-in}
 use Rattle.enforcer.specs.declared.Enforcer.{Enforcer}
 use Rattle.enforcer.specs.Offerings as enforcer
 use Rattle.enforcer.specs.Offerings.{Starting}
 use Rattle.monitor.specs.Stepping.{Balanced}
 use Rattle.monitor.specs.Opening.{Said, refused, started, frontSize, Decodes, Opening, opened, Begun, leaks, begun}
 use Rattle.monitor.specs.declared.Monitor.{Monitor}
-
--- what was decoded is an automaton
-pub decoded-sound : (bytes table : List ℕ) (h : Header) (t : List ℕ) → Decoding bytes table h accept t → Sound t h
-decoded-sound bytes table h t (Decoding.accepted size e next is after holds) =
-    let small = encoding-in bytes is in
-    record { words = holds .size; back = omega (arith, small .0 .fixed .k); start = omega (arith, small .0 .fixed .initial) }
 
 pub not-begun : (t : List ℕ) (h : Header) (events n : ℕ) (e : Enforcer) (t′ : List ℕ) (h′ : Header) (m : Monitor) → Sound t h
     → Starting t h Weak (enforcer.not-started n) e → (Balanced m → ⊥) → Begun t h events (refused n) t′ h′ m

@@ -1,23 +1,17 @@
 -- Laws of writing: two texts one behind the other, lists of fields, and the answers of the public functions.
-use Prim.Native.Nat.{ℕ, suc, _+_, _-_, _≤_, _<_}
-use native.Mathlib.Nat.{add-zero, add-suc, suc-add}
+use Prim.Native.Nat.{ℕ, _+_, _-_, _≤_, _<_}
 use native.Mathlib.Numerals.{add-one}
 use native.Mathlib.Omega.{arith}
 use mathlib.Core.Path.{_≡_, refl, sym, ap, _∙_, subst}
 use mathlib.Core.List.{List, [], _∷_, _++_, append-assoc, append-nil, map}
-use lib.ListN.{length, set, take, drop, getD, length-append}
+use lib.ListN.{length, take, drop, getD, length-append}
 use lib.Seq.{sets, take-suc, take-all}
+use Rattle.automaton.proofs.Filled.{sets-append}
 use Rattle.report.specs.Text.{decimal, led, line, events}
 use Rattle.report.specs.Writing.{Wrote, Written, written}
 use Rattle.report.specs.declared.Line.the-variants.{Next}
 
--- two rows of stores, the second behind the first, are one
-pub sets-append : (xs ys d : List ℕ) (at : ℕ) → sets (sets d at xs) (at + length xs) ys ≡ sets d at (xs ++ ys)
-sets-append [] ys d at = ap (λ (k : ℕ). sets d k ys) (add-zero at)
-sets-append (x ∷ xs) ys d at =
-    ap (λ (k : ℕ). sets (sets (set d at x) (suc at) xs) k ys) (add-suc at (length xs) ∙ sym (suc-add at (length xs)))
-    ∙ sets-append xs ys (set d at x) (suc at)
-
+-- two texts, one behind the other
 pub then : {m n at next next′ : ℕ} {d d′ d″ xs ys : List ℕ} → Wrote m d at xs d′ next → Wrote n d′ next ys d″ next′ → Wrote (m + n) d at (xs ++ ys) d″ next′
 then {m} {n} {at} {next} {next′} {d} {d′} {d″} {xs} {ys} p q = record {
   bytes = q .bytes ∙ ap (λ (l : List ℕ). sets l next ys) (p .bytes) ∙ ap (λ (k : ℕ). sets (sets d at xs) k ys) (p .place) ∙ sets-append xs ys d at;

@@ -4,7 +4,8 @@ use native.Mathlib.Omega.{arith}
 use borrow.Author.Needs.{needs}
 use lib.ListN.{length, getD}
 use lib.Seq.{getD-set-same}
-use Rattle.enforcer.proofs.Arrays.{filled-more, filled-kept}
+use Rattle.automaton.proofs.Filled.{filled}
+use Rattle.enforcer.proofs.Arrays.{filled-kept}
 use Rattle.enforcer.proofs.joined.Statement.{statement}
 use Rattle.enforcer.proofs.joined.Tie as tie
 
@@ -35,7 +36,7 @@ loop-again c =
       omega arith,
       search needs,
       search needs,
-      filled-more (λ k. getD (c .before .before .args .t1) k 0) (l .r) (l .i) _ (search needs) refl (l .inv .3),
+      filled (λ k x. x ≡ getD (c .before .before .args .t1) k 0) (l .r) (l .i) _ (search needs) (l .inv .3) refl,
     )
 
 array-write-r-2 : tie.Need-array-write-r-2 Inv-loop μ-loop

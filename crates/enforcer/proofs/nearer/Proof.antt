@@ -4,7 +4,8 @@ use native.Mathlib.Omega.{arith}
 use borrow.Author.Needs.{needs}
 use lib.ListN.{length, getD}
 use lib.Seq.{getD-set-same}
-use Rattle.enforcer.proofs.Arrays.{filled-more, filled-kept}
+use Rattle.automaton.proofs.Filled.{filled}
+use Rattle.enforcer.proofs.Arrays.{filled-kept}
 use Rattle.enforcer.proofs.nearer.Statement.{statement}
 use Rattle.enforcer.proofs.nearer.Tie as tie
 
@@ -38,7 +39,7 @@ loop-again c =
       omega arith,
       search needs,
       search needs,
-      filled-more (λ k. getD (c .before .before .before .args .t1) k 0 - 1) (l .r) (l .i) _ (search needs) (c .one-less .ensures) (l .inv .3),
+      filled (λ k x. x ≡ getD (c .before .before .before .args .t1) k 0 - 1) (l .r) (l .i) _ (search needs) (l .inv .3) (c .one-less .ensures),
     )
 
 array-write-r-2 : tie.Need-array-write-r-2 Inv-loop μ-loop

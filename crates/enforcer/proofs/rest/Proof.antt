@@ -5,7 +5,8 @@ use native.Mathlib.Omega.{arith}
 use borrow.Author.Needs.{needs}
 use lib.ListN.{length, getD}
 use Rattle.enforcer.specs.Enforcers.{Padded}
-use Rattle.enforcer.proofs.Arrays.{filled-more, padded-zeros, padded-more}
+use Rattle.automaton.proofs.Filled.{filled}
+use Rattle.enforcer.proofs.Arrays.{padded-zeros, padded-more}
 use Rattle.enforcer.proofs.rest.Statement.{statement}
 use Rattle.enforcer.proofs.rest.Tie as tie
 
@@ -47,7 +48,7 @@ loop-again c =
       search needs,
       search needs,
       padded-more 16 (l .r) (l .i) _ (l .inv .3),
-      filled-more (λ k. getD (a .t1) (a .from + k) 0) (l .r) (l .i) _ (search needs) refl (l .inv .4),
+      filled (λ k x. x ≡ getD (a .t1) (a .from + k) 0) (l .r) (l .i) _ (search needs) (l .inv .4) refl,
     )
 
 returns : tie.Need-returns Inv-loop μ-loop

@@ -6,8 +6,9 @@ use denote.Ref.{now}
 use lib.ListN.{take, drop, replicate}
 use Rattle.encoding.specs.declared.Answer
 use Rattle.encoding.specs.Decoding.{answerMeans, Decoding}
+use Rattle.encoding.proofs.Listing.{decoded-sound}
 use Rattle.monitor.specs.Opening.{said, encodingOf, Decodes, Opening, not-decoded, empty-log}
-use Rattle.monitor.proofs.Openings.{decoded-sound, decodes, opens}
+use Rattle.monitor.proofs.Openings.{decodes, opens}
 use borrow.Author.Needs.{needs}
 use Rattle.monitor.proofs.open.Statement.{statement}
 use Rattle.monitor.proofs.open.Tie as tie

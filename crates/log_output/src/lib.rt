@@ -6,7 +6,12 @@ use monitor::Monitor;
 use monitor::OpenAnswer;
 use report::Line;
 ghost use Prim.Native.Nat.{_≤_};
+ghost use mathlib.Core.Path.{_≡_};
+ghost use mathlib.Core.Bool.{true};
 ghost use lib.ListN.{length};
+ghost use Rattle.stateset.specs.Set.{Decided};
+ghost use Rattle.log_output.specs.declared.Status.the-variants as case;
+ghost use Rattle.log_output.specs.Progressing.{Usable, Roomy, Parted, Followed};
 
 pub enum Status {
     // More event bytes may follow.
@@ -39,7 +44,9 @@ struct Part {
     taken: usize,
 }
 
-pub fn going(status: Status) -> bool {
+pub fn going(status: Status) -> bool
+    ensures { λ r. ⌜ Decided r (status ≡ case.Going) ⌝ }
+{
     match status {
         Status::Going => true,
         Status::Ended => false,
@@ -48,7 +55,9 @@ pub fn going(status: Status) -> bool {
     }
 }
 
-pub fn with_status(progress: Progress, status: Status) -> Progress {
+pub fn with_status(progress: Progress, status: Status) -> Progress
+    ensures { λ r. ⌜ r ≡ record { monitor = progress .monitor; at = progress .at; status = status } ⌝ }
+{
     let monitor = progress.monitor;
     Progress {
         monitor: monitor,
@@ -58,7 +67,9 @@ pub fn with_status(progress: Progress, status: Status) -> Progress {
 }
 
 // Writes out the first bytes of the output.
-fn flush(out: &[u8], n: usize) -> bool {
+fn flush(out: &[u8], n: usize) -> bool
+    ensures { λ r. ⌜ (r ≡ true → n ≤ length (now (out .entry))) ⌝ }
+{
     if out.len() < n {
         return false;
     }
@@ -66,7 +77,9 @@ fn flush(out: &[u8], n: usize) -> bool {
 }
 
 // Writes the output out, if the next line might not fit into what is left of it.
-fn with_room(progress: Progress, out: &[u8]) -> Progress {
+fn with_room(progress: Progress, out: &[u8]) -> Progress
+    ensures { λ r. ⌜ Roomy progress (now (out .entry)) r ⌝ }
+{
     let at = progress.at;
     if at <= out.len() {
         if report::LINE <= out.len() - at {
@@ -84,6 +97,7 @@ fn with_room(progress: Progress, out: &[u8]) -> Progress {
 // The event bytes for which the output has room.
 fn advance(progress: Progress, table: &[u64], header: Header, events: &[u8], out: &mut [u8]) -> Part
     ensures { λ r. ⌜ r .taken ≤ length (now (events .entry)) ⌝ }
+    ensures { λ r. ⌜ Parted (now (table .entry)) header progress (now (events .entry)) (now (out .entry)) r (now (out .exit)) ⌝ }
 {
     let monitor = progress.monitor;
     let at = progress.at;
@@ -113,7 +127,9 @@ pub fn follow(
     header: Header,
     events: &[u8],
     out: &mut [u8],
-) -> Progress {
+) -> Progress
+    ensures { λ r. ⌜ (Usable (now (table .entry)) header progress (now (out .entry)) → Followed (now (table .entry)) header progress (now (events .entry)) (now (out .entry)) r (now (out .exit))) ⌝ }
+{
     let mut now = progress;
     let mut i: usize = 0;
     while i < events.len() {

@@ -83,14 +83,21 @@ front-opens {first} {input} f {says} {t} {h} {m} =
           (λ o. subst (λ (x : List ℕ). Opening x says t h m) (sym same) o),
         )
 
--- what stands in an output where a text was written
-slice-sets : (text out : List ℕ) (at : ℕ) → at + length text ≤ length out → slice at (at + length text) (sets out at text) ≡ text
-slice-sets text out at l =
+-- what stands in an output up to the end of a text that was written
+take-sets : (text out : List ℕ) (at : ℕ) → at + length text ≤ length out → take (at + length text) (sets out at text) ≡ take at out ++ text
+take-sets text out at l =
     let size : length (take at out) ≡ at = length-take-le at out (omega arith) in
-    let here : take (at + length text) (sets out at text) ≡ take at out ++ text =
     ap (take (at + length text)) (sets-eq text out at l)
-    ∙ take-at (take at out ++ text) (drop (at + length text) out) (at + length text) (omega (arith, length-append (take at out) text)) in
-    ap (drop at) here ∙ drop-at (take at out) text at size
+    ∙ take-at (take at out ++ text) (drop (at + length text) out) (at + length text) (omega (arith, length-append (take at out) text))
+
+pub take-is : (text out : List ℕ) (at : ℕ) → (text ≡ []) ⊎ (at + length text ≤ length out) → take (at + length text) (sets out at text) ≡ take at out ++ text
+take-is [] out at h = ap (λ (k : ℕ). take k out) (add-zero at) ∙ sym (append-nil (take at out))
+take-is (x ∷ l) out at (inl e) = let z : _≡_ {A = ℕ} 0 1 = cc in absurd (omega arith)
+take-is (x ∷ l) out at (inr h) = take-sets (x ∷ l) out at h
+
+-- and from its start on
+slice-sets : (text out : List ℕ) (at : ℕ) → at + length text ≤ length out → slice at (at + length text) (sets out at text) ≡ text
+slice-sets text out at l = ap (drop at) (take-sets text out at l) ∙ drop-at (take at out) text at (length-take-le at out (omega arith))
 
 slice-is : (text out : List ℕ) (at : ℕ) → (text ≡ []) ⊎ (at + length text ≤ length out) → slice at (at + length text) (sets out at text) ≡ text
 slice-is [] out at h = ap (λ (k : ℕ). slice at k out) (add-zero at) ∙ slice-empty at out
@@ -104,15 +111,15 @@ no-lines : {t : List ℕ} {h : Header} {m e : Monitor} {text : List ℕ} → Lin
 no-lines done = refl
 
 -- what one call of `advance` does
-record Called (t : List ℕ) (h : Header) (m : Monitor) (events out : List ℕ) (at : ℕ) (says : Said) (e : Monitor) (out′ : List ℕ) : Type 0 where
-  within : Within t h e
-  among : takenBy says ≤ length events
-  lines : Lines t h m (take (takenBy says) events) (writtenBy says at out′) e
-  few : e .offered ≤ 4294967295
+pub record Called (t : List ℕ) (h : Header) (m : Monitor) (events out : List ℕ) (at : ℕ) (says : Said) (e : Monitor) (out′ : List ℕ) : Type 0 where
+  pub within : Within t h e
+  pub among : takenBy says ≤ length events
+  pub lines : Lines t h m (take (takenBy says) events) (writtenBy says at out′) e
+  pub few : e .offered ≤ 4294967295
   -- with room for a line it takes none only where a log may have no more
-  stop : takenBy says ≡ 0 → 0 < length events → at + 256 ≤ length out → e .offered ≡ 4294967295
+  pub stop : takenBy says ≡ 0 → 0 < length events → at + 256 ≤ length out → e .offered ≡ 4294967295
 
-called : (t : List ℕ) (h : Header) (m : Monitor) (events out : List ℕ) (at : ℕ) (says : Said) (e : Monitor) (out′ : List ℕ) → Within t h m
+pub called : (t : List ℕ) (h : Header) (m : Monitor) (events out : List ℕ) (at : ℕ) (says : Said) (e : Monitor) (out′ : List ℕ) → Within t h m
     → Advancing t h m events out at says e out′ → Called t h m events out at says e out′
 called t h m events out at says e out′ w (Advancing.malformed bad) = absurd (bad w)
 called t h m events out at says e out′ w (Advancing.advanced {n = n} {text = text} b among lines after inside few stop) = record {
@@ -194,18 +201,29 @@ refuses (Opening.not-decoded le d out) = log.not-decoded le d
 refuses (Opening.empty-log e d out) = log.empty-log e d
 refuses (Opening.initial-leak {t′ = t′} {h′ = h′} {e = s} l d start out) = log.initial-leak l d (secret-open t′ h′ s start)
 
-monitors : {input t text : List ℕ} {h : Header} {m e : Monitor} {n : ℕ} → Opening input (opening.started n) t h m → Follows t h m (drop n input) text e
+-- the lines of all events that a log may have, and the last line
+pub lines-output : {input t bytes rest text : List ℕ} {h : Header} {m e : Monitor} {n : ℕ} → Opening input (opening.started n) t h m → bytes ++ rest ≡ drop n input
+    → Lines t h m bytes text e → e .offered ≤ 4294967295 → (rest ≡ []) ⊎ (e .offered ≡ 4294967295)
     → Output input (text ++ endLine (e .accepted) (e .released) (e .enforcer .count))
-monitors {input} {t} {text} {h} {m} {e} (Opening.opened l d fresh) f =
-    let so = decoded-sound (encodingOf input) (d .before) h t (d .decoding) in
-    let y = fed (fresh-within t h m so fresh) (omega (arith, fresh .offered)) f in
-    let counted : length (y .bytes) ≡ e .offered = omega (arith, lines-count (y .lines), fresh .offered) in
-    let all-of : y .bytes ≡ eventsOf input = fed-events (y .splits) (omega (arith, y .few)) (subst (λ (k : ℕ). (y .rest ≡ []) ⊎ (k ≡ 4294967295)) (sym counted) (y .stop)) in
-    let x = log-promise input (frontSize input) t h m (y .bytes) text e (Opening.opened l d fresh) (y .lines) in
+lines-output {input} {t} {bytes} {rest} {text} {h} {m} {e} (Opening.opened l d fresh) splits lines few stop =
+    let counted : length bytes ≡ e .offered = omega (arith, lines-count lines, fresh .offered) in
+    let all-of : bytes ≡ eventsOf input = fed-events splits (omega arith) (subst (λ (k : ℕ). (rest ≡ []) ⊎ (k ≡ 4294967295)) (sym counted) stop) in
+    let x = log-promise input (frontSize input) t h m bytes text e (Opening.opened l d fresh) lines in
     let pending : length (x .trace) - e .released ≡ e .enforcer .count = omega (arith, x .pending) in
     subst (Output input) (λ i. text ++ endLine (sym (x .accepted) i) (e .released) (pending i))
     (log.ended record { event = l; decodes = d; closed = no-secret (automatonOf t h) (h .secret) (h .k) (m .enforcer) (fresh .enforcer) }
     (subst (λ (bs : List ℕ). Prints t h [] 0 bs text (x .trace) (e .released)) all-of (x .prints)))
+
+-- a log that has started is within its limits, and no event byte is counted yet
+pub started-usable : {input t : List ℕ} {h : Header} {m : Monitor} {n : ℕ} → Opening input (opening.started n) t h m → Within t h m × (m .offered ≡ 0)
+started-usable {input} {t} {h} {m} (Opening.opened l d fresh) = (fresh-within t h m (decoded-sound (encodingOf input) (d .before) h t (d .decoding)) fresh, fresh .offered)
+
+monitors : {input t text : List ℕ} {h : Header} {m e : Monitor} {n : ℕ} → Opening input (opening.started n) t h m → Follows t h m (drop n input) text e
+    → Output input (text ++ endLine (e .accepted) (e .released) (e .enforcer .count))
+monitors o f =
+    let s = started-usable o in
+    let y = fed (s .0) (omega (arith, s .1)) f in
+    lines-output o (y .splits) (y .lines) (y .few) (y .stop)
 
 -- the calls for an input write its output
 pub log-output : (input text : List ℕ) → Runs input text → Output input text

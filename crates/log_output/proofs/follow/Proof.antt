@@ -1,15 +1,20 @@
 use borrow.Author.Needs.{needs}
+use borrow.Author.Tests.{not-true, not-false}
 use native.Mathlib.Omega.{arith}
 use Prim.Native.Nat.{ℕ, _≤_, _+_, _-_}
-use mathlib.Core.Path.{_≡_, _∙_}
+use mathlib.Core.Path.{_≡_, refl, _∙_}
 use mathlib.Core.List.{List}
-use denote.Ref.{now}
+use denote.Ref.{now as value}
 use lib.ListN.{length, take, drop, length-take}
+use Rattle.stateset.proofs.Decides.{holds, fails}
+use Rattle.log_output.specs.Progressing.{Usable}
+use Rattle.log_output.proofs.Keeping.{Along, along-start, along-next, along-closed, along-all, along-full}
 use Rattle.log_output.proofs.follow.Statement.{statement}
 use Rattle.log_output.proofs.follow.Tie as tie
 
 abbrev Inv-loop : tie.InvT-loop
-Inv-loop table header events out₀ now₀ i₀ out now i = (i ≤ length events) × (length out ≡ length out₀)
+Inv-loop table header events out₀ now₀ i₀ out now i =
+    (i ≤ length events) × (length out ≡ length out₀) × (Usable table header now₀ out₀ → Along table header now₀ events out₀ i now out)
 
 abbrev μ-loop : tie.MeasureT-loop
 μ-loop table header events out₀ now₀ i₀ out now i = length events - i
@@ -18,11 +23,13 @@ abbrev μ-loop : tie.MeasureT-loop
 part-within : (l : List ℕ) (i n : ℕ) → i ≤ length l → n ≤ length (take (length l - i) (drop i l)) → i + n ≤ length l
 part-within l i n h k = omega (arith, length-take (length l - i) (drop i l))
 
-behind : (x : tie.Else2 Inv-loop μ-loop) → x .before .before .before .before .before .before .before .before .before .before .before .before .loop .i + x .before .before .before .before .advance .result .taken ≤ length (now (x .before .before .before .before .before .before .before .before .before .before .before .before .before .before .before .before .args .events))
-behind x = part-within (now (x .before .before .before .before .before .before .before .before .before .before .before .before .before .before .before .before .args .events)) (x .before .before .before .before .before .before .before .before .before .before .before .before .loop .i) (x .before .before .before .before .advance .result .taken) (x .before .before .before .before .before .before .before .before .before .before .before .before .loop .inv .0) (x .before .before .before .before .advance .ensures)
+behind : (x : tie.Else2 Inv-loop μ-loop) → x .before .before .before .before .before .before .before .before .before .before .before .before .loop .i + x .before .before .before .before .advance .result .taken ≤ length (value (x .before .before .before .before .before .before .before .before .before .before .before .before .before .before .before .before .args .events))
+behind x = part-within (value (x .before .before .before .before .before .before .before .before .before .before .before .before .before .before .before .before .args .events)) (x .before .before .before .before .before .before .before .before .before .before .before .before .loop .i) (x .before .before .before .before .advance .result .taken) (x .before .before .before .before .before .before .before .before .before .before .before .before .loop .inv .0) (x .before .before .before .before .advance .ensures .0)
 
 loop-holds : tie.Need-loop-holds Inv-loop μ-loop
-loop-holds c = search needs
+loop-holds c =
+    let a = c .before .before .before .args in
+    (omega arith, refl, along-start (value (a .table)) (a .header) (a .progress) (value (a .events)) (value (a .out)))
 
 with-room-requires : tie.Need-with-room-requires Inv-loop μ-loop
 with-room-requires c κs = search needs
@@ -34,7 +41,11 @@ same-length : tie.Need-same-length Inv-loop μ-loop
 same-length c = search needs
 
 returns : tie.Need-returns Inv-loop μ-loop
-returns c = search needs
+returns c =
+    let a = c .before .before .before .before .before .before .before .before .before .args in
+    let l = c .before .before .before .before .before .loop in
+    λ u. along-closed (value (a .table)) (a .header) (a .progress) (value (a .events)) (value (a .out)) (l .inv .2 u) (l .inv .0) (c .before .before .with-room .ensures)
+    (fails (c .before .going .result) (not-true _ (c .if1 .taken)) (c .before .going .ensures))
 
 sub-advance : tie.Need-sub-advance Inv-loop μ-loop
 sub-advance c = search needs
@@ -55,7 +66,12 @@ same-length-2 : tie.Need-same-length-2 Inv-loop μ-loop
 same-length-2 c = c .before .before .before .before .before .advance .kept .1 .1 .1 .1 .0 ∙ c .before .before .before .before .before .before .before .before .before .before .before .before .before .loop .inv .1
 
 returns-2 : tie.Need-returns-2 Inv-loop μ-loop
-returns-2 c = search needs
+returns-2 c =
+    let a = c .before .before .before .before .before .before .before .before .before .before .before .before .before .before .before .before .before .args in
+    let l = c .before .before .before .before .before .before .before .before .before .before .before .before .before .loop in
+    λ u. along-full (value (a .table)) (a .header) (a .progress) (value (a .events)) (value (a .out)) (l .inv .2 u) (c .before .before .before .before .before .before .before .before .before .before .with-room .ensures)
+    (holds (c .before .before .before .before .before .before .before .before .before .going .result) (not-false _ (c .before .before .before .before .before .before .before .before .if1 .left)) (c .before .before .before .before .before .before .before .before .before .going .ensures)) (c .before .before .before .before .before .before .before .before .before .before .before .before .loop-test .taken)
+    (c .before .before .before .before .before .advance .ensures .1) (c .before .if2 .taken) (c .with-status .ensures)
 
 add-i : tie.Need-add-i Inv-loop μ-loop
 add-i c = omega (arith, behind c, c .before .before .before .before .before .before .before .before .before .before .before .before .before .before .before .before .good)
@@ -64,13 +80,23 @@ loop-less : tie.Need-loop-less Inv-loop μ-loop
 loop-less c = omega (arith, behind c, c .if2 .left)
 
 loop-again : tie.Need-loop-again Inv-loop μ-loop
-loop-again c = (behind c, c .before .before .before .before .advance .kept .1 .1 .1 .1 .0 ∙ c .before .before .before .before .before .before .before .before .before .before .before .before .loop .inv .1)
+loop-again c =
+    let a = c .before .before .before .before .before .before .before .before .before .before .before .before .before .before .before .before .args in
+    let l = c .before .before .before .before .before .before .before .before .before .before .before .before .loop in
+    (
+      behind c,
+      c .before .before .before .before .advance .kept .1 .1 .1 .1 .0 ∙ l .inv .1,
+      λ u. along-next (value (a .table)) (a .header) (a .progress) (value (a .events)) (value (a .out)) (l .inv .2 u) (c .before .before .before .before .before .before .before .before .before .with-room .ensures)
+      (holds (c .before .before .before .before .before .before .before .before .going .result) (not-false _ (c .before .before .before .before .before .before .before .if1 .left)) (c .before .before .before .before .before .before .before .before .going .ensures)) (l .inv .0) (c .before .before .before .before .advance .ensures .1),
+    )
 
 same-length-3 : tie.Need-same-length-3 Inv-loop μ-loop
 same-length-3 c = search needs
 
 returns-3 : tie.Need-returns-3 Inv-loop μ-loop
-returns-3 c = search needs
+returns-3 c =
+    let a = c .before .before .before .before .before .args in
+    λ u. along-all (value (a .table)) (a .header) (a .progress) (value (a .events)) (value (a .out)) (c .before .loop .inv .2 u) (omega (arith, c .before .loop .inv .0))
 
 pub follow-spec : {M : Type 1} → statement M
 follow-spec =

@@ -1,0 +1,2 @@
+-- What the contracts of `log_output` cite.
+pub mod Progressing

@@ -5,18 +5,20 @@ use mathlib.Core.Logic.{_⊎_, inl, inr}
 use Prim.Native.Nat.{ℕ, _+_, _-_, _≤_, _<_}
 use native.Mathlib.Omega.{arith}
 use lib.ListN.{length, take, drop, length-take, length-drop}
-use lib.Seq.{sets, take-take, take-add, length-sets}
+use lib.Seq.{sets, take-all, take-take, take-add, length-sets}
 use Rattle.automaton.specs.declared.Header.{Header}
 use Rattle.monitor.specs.Stepping.{Lines, done}
+use Rattle.monitor.specs.Opening.{started, Opening}
 use Rattle.monitor.specs.Advancing.{Advancing, taken}
 use Rattle.monitor.specs.declared.Monitor.{Monitor}
 use Rattle.monitor.proofs.Following.{lines-append}
-use Rattle.monitor.proofs.LogOutput.{take-is, called}
+use Rattle.monitor.proofs.LogOutput.{take-is, called, started-usable}
 use Rattle.log_output.specs.declared.Status.{Status}
 use Rattle.log_output.specs.declared.Status.the-variants.{Going, Ended, Failed, Closed}
 use Rattle.log_output.specs.declared.Progress.{Progress}
 use Rattle.log_output.specs.declared.Part.{Part}
 use Rattle.log_output.specs.Progressing.{Usable, Roomy, free, emptied, closed, Parted, none, some, Far, Stopped, Followed}
+use Rattle.log_output.specs.Whole.{begun}
 
 pub not-going : {s : Status} (other : Status) → s ≡ other → (other ≡ Going → ⊥) → s ≡ Going → ⊥
 not-going other e not g = not (sym e ∙ g)
@@ -131,3 +133,11 @@ module _ (t : List ℕ) (h : Header) (p : Progress) (events out : List ℕ) wher
         far = record { text = far .text; lines = far .lines; within = far .within; few = far .few; gone = far .gone; kept = far .kept; inside = far .inside };
         stop = full;
       }
+
+-- the events among the first bytes of a log
+pub begins : (log out : List ℕ) (n : ℕ) {t : List ℕ} {h : Header} {m : Monitor} {r : Progress} {out′ : List ℕ} → Opening log (started n) t h m → 256 ≤ length out
+    → (Usable t h (begun m) out → Followed t h (begun m) (take (length log - n) (drop n log)) out r out′) → Followed t h (begun m) (drop n log) out r out′
+begins log out n {t} {h} {m} {r} {out′} o room f =
+    let s = started-usable o in
+    subst (λ (l : List ℕ). Followed t h (begun m) l out r out′) (take-all (length log - n) (drop n log) (omega (arith, length-drop n log)))
+    (f record { going = refl; within = s .0; few = omega (arith, s .1); inside = omega arith; room = room })

@@ -12,6 +12,7 @@ ghost use lib.ListN.{length};
 ghost use Rattle.stateset.specs.Set.{Decided};
 ghost use Rattle.log_output.specs.declared.Status.the-variants as case;
 ghost use Rattle.log_output.specs.Progressing.{Usable, Roomy, Parted, Followed};
+ghost use Rattle.log_output.specs.Whole.{RefusalLine, EndLine, Begins, Finished};
 
 pub enum Status {
     // More event bytes may follow.
@@ -157,13 +158,17 @@ fn place(line: Line) -> usize {
 }
 
 // The one line of a refused log.
-fn refuse(refusal: Refusal, out: &mut [u8]) {
+fn refuse(refusal: Refusal, out: &mut [u8])
+    ensures { λ _. ⌜ RefusalLine refusal (now (out .entry)) (now (out .exit)) ⌝ }
+{
     let next = place(report::refused_log(out, 0, refusal));
     flush(out, next);
 }
 
 // Opens a log by its first bytes, as `monitor::open` takes them, and follows the events among them.
-pub fn start(log: &[u8], out: &mut [u8]) -> Monitored {
+pub fn start(log: &[u8], out: &mut [u8]) -> Monitored
+    ensures { λ r. ⌜ Begins (now (log .entry)) (now (out .entry)) r (now (out .exit)) ⌝ }
+{
     let opened = monitor::open(log);
     let table = opened.table;
     let header = opened.header;
@@ -198,7 +203,9 @@ pub fn start(log: &[u8], out: &mut [u8]) -> Monitored {
     }
 }
 
-fn write_end(progress: Progress, out: &mut [u8]) {
+fn write_end(progress: Progress, out: &mut [u8])
+    ensures { λ _. ⌜ EndLine progress (now (out .entry)) (now (out .exit)) ⌝ }
+{
     let last = with_room(progress, out);
     let monitor = last.monitor;
     let next = place(monitor.end(out, last.at));
@@ -206,7 +213,9 @@ fn write_end(progress: Progress, out: &mut [u8]) {
 }
 
 // The last line, and all that is not written out yet.
-pub fn finish(progress: Progress, out: &mut [u8]) {
+pub fn finish(progress: Progress, out: &mut [u8])
+    ensures { λ _. ⌜ Finished (progress .status) progress (now (out .entry)) (now (out .exit)) ⌝ }
+{
     let status = progress.status;
     match status {
         Status::Going => write_end(progress, out),

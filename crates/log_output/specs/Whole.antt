@@ -1,9 +1,10 @@
 -- How a log begins and ends on an output, and what all of it has printed.
 use mathlib.Core.Path.{_≡_}
-use mathlib.Core.List.{List, _++_}
+use mathlib.Core.List.{List, [], _++_}
 use Prim.Native.Nat.{ℕ, _≤_}
 use lib.ListN.{length, take, drop}
 use Rattle.automaton.specs.Refusals.{numberOf}
+use Rattle.automaton.specs.declared.Header.{Header}
 use Rattle.automaton.specs.declared.Refusal.{Refusal}
 use Rattle.report.specs.declared.Line.{Line}
 use Rattle.report.specs.Text.{refusedLog, endLine}
@@ -15,7 +16,7 @@ use Rattle.log_output.specs.declared.Status.{Status}
 use Rattle.log_output.specs.declared.Status.the-variants.{Going, Ended, Failed, Closed}
 use Rattle.log_output.specs.declared.Progress.{Progress}
 use Rattle.log_output.specs.declared.Monitored.{Monitored}
-use Rattle.log_output.specs.Progressing.{Roomy, Followed}
+use Rattle.log_output.specs.Progressing.{Usable, Roomy, Followed}
 
 -- the one line of a refused log, at the front of the output
 pub record RefusalLine (r : Refusal) (out out′ : List ℕ) : Type 0 where
@@ -46,6 +47,13 @@ Finished Going p out out′ = EndLine p out out′
 Finished Ended p out out′ = EndLine p out out′
 Finished Failed p out out′ = out′ ≡ out
 Finished Closed p out out′ = out′ ≡ out
+
+-- the reads of a log behind its first bytes, each given to `follow` while the log goes on, all on one output
+pub data Reads (t : List ℕ) (h : Header) : Progress → (out bytes : List ℕ) → Progress → List ℕ → Type 0 where
+  done : {p : Progress} {out : List ℕ} → Reads t h p out [] p out
+  stopped : {p : Progress} {out bytes : List ℕ} → (p .status ≡ Going → ⊥) → Reads t h p out bytes p out
+  read : {p q r : Progress} {out out₁ out₂ bytes later : List ℕ} → p .status ≡ Going → 256 ≤ length out → (Usable t h p out → Followed t h p bytes out q out₁)
+      → Reads t h q out₁ later r out₂ → Reads t h p out (bytes ++ later) r out₂
 
 -- the output of an input by the definitions: lines that are written out, and then the first bytes of what stands in `out`
 pub record Printed (input out : List ℕ) : Type 0 where

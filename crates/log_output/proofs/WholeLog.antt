@@ -12,7 +12,7 @@ use Rattle.automaton.specs.declared.Refusal.{Refusal}
 use Rattle.report.specs.Text.{refusedLog, endLine}
 use Rattle.report.specs.Writing.{roomFor, Written, no-room, written}
 use Rattle.report.specs.declared.Line.{Line}
-use Rattle.monitor.specs.Stepping.{Lines}
+use Rattle.monitor.specs.Stepping.{Lines, placeOf}
 use Rattle.monitor.specs.Opening.{refused, started, Opening}
 use Rattle.monitor.specs.Log.{Output}
 use Rattle.monitor.specs.Running as running
@@ -25,7 +25,7 @@ use Rattle.log_output.specs.declared.Status.{Status}
 use Rattle.log_output.specs.declared.Status.the-variants.{Going, Ended, Failed, Closed}
 use Rattle.log_output.specs.declared.Progress.{Progress}
 use Rattle.log_output.specs.Progressing.{Usable, Roomy, free, emptied, closed, Far, Stopped, Followed}
-use Rattle.log_output.specs.Whole.{RefusalLine, EndLine, begun, Reads, done, stopped, read, Printed}
+use Rattle.log_output.specs.Whole.{RefusalLine, EndLine, begun, Reads, done, stopped, read, HasPrinted}
 
 module _ (t : List ℕ) (h : Header) (p : Progress) (out : List ℕ) where
   stopped-more : (s : Status) (xs ys : List ℕ) (e : Monitor) (n : ℕ) → Stopped s e n ys → Stopped s e (length xs + n) (xs ++ ys)
@@ -117,16 +117,15 @@ last {r = r} {out = out} gone kept room not (emptied l) =
 last gone kept room not closed = absurd (not refl)
 
 print-last : {input out out′ : List ℕ} {at : ℕ} {line : Line} (gone text end : List ℕ) → gone ++ take at out ≡ text → at + 256 ≤ length out → Output input (text ++ end)
-    → Written (roomFor 0) out at end line out′ → Printed input out′
+    → Written (roomFor 0) out at end line out′ → HasPrinted input out′ (placeOf line 0)
 print-last gone text end kept room o (no-room full) = absurd (full (omega arith))
 print-last {input} {out} {at = at} gone text end kept room o (written space fit) = record {
   gone = gone;
-  at = at + length end;
   output = subst (Output input) (sym (ap (λ (l : List ℕ). gone ++ l) (take-is end out at (inr (omega arith))) ∙ sym (append-assoc gone (take at out) end) ∙ ap (λ (l : List ℕ). l ++ end) kept)) o;
 }
 
 print-end : {input t out out₁ out₂ : List ℕ} {h : Header} {m : Monitor} {n : ℕ} {r : Progress} → Opening input (started n) t h m
-    → Followed t h (begun m) (drop n input) out r out₁ → 256 ≤ length out₁ → (e : EndLine r out₁ out₂) → (e .last .status ≡ Closed → ⊥) → Printed input out₂
+    → Followed t h (begun m) (drop n input) out r out₁ → 256 ≤ length out₁ → (e : EndLine r out₁ out₂) → (e .last .status ≡ Closed → ⊥) → HasPrinted input out₂ (placeOf (e .line) 0)
 print-end {input} {t} {out} {out₁} {out₂} {h} {m} {n} {r} o f room e not =
     let x = last (f .far .gone) (f .far .kept) room not (e .roomy) in
     let all-lines = lines-output o (take-append-drop (f .bytes) (drop n input)) (f .far .lines) (f .far .few) (why (r .status) (drop n input) (r .monitor) (f .bytes) (x .open-still) (f .stop)) in
@@ -136,7 +135,7 @@ print-end {input} {t} {out} {out₁} {out₂} {h} {m} {n} {r} o f room e not =
 -- a log that has started: unless the output takes no more, what it has printed is the output of its input
 pub monitored-log : {first input t out out₁ out₂ out₃ : List ℕ} {h : Header} {m : Monitor} {n : ℕ} {q r : Progress} (f : Front first input)
     → Opening first (started n) t h m → Followed t h (begun m) (drop n first) out q out₁ → Reads t h q out₁ (f .later) r out₂ → 256 ≤ length out₂
-    → (e : EndLine r out₂ out₃) → (e .last .status ≡ Closed → ⊥) → Printed input out₃
+    → (e : EndLine r out₂ out₃) → (e .last .status ≡ Closed → ⊥) → HasPrinted input out₃ (placeOf (e .line) 0)
 monitored-log {first} {input} {t} {out} {out₁} {out₂} {out₃} {h} {m} {n} {q} {r} f o a reads room e not =
     let events : drop n first ++ f .later ≡ drop n input = sym (drop-append-le n first (f .later) (omega (arith, started-within o))) ∙ ap (drop n) (f .splits) in
     print-end (front-opens f .0 o)
@@ -144,13 +143,12 @@ monitored-log {first} {input} {t} {out} {out₁} {out₂} {out₃} {h} {m} {n} {
 
 -- a refused log: so is its one line
 pub refused-log : {first input t out out′ : List ℕ} {h : Header} {m : Monitor} (r : Refusal) → Front first input → Opening first (refused (numberOf r)) t h m
-    → 256 ≤ length out → RefusalLine r out out′ → Printed input out′
+    → 256 ≤ length out → (l : RefusalLine r out out′) → HasPrinted input out′ (placeOf (l .line) 0)
 refused-log {input = input} {out = out} {out′ = out′} r f o room l = go out′ (l .line) (l .put)
   where
-    go : (after : List ℕ) (line : Line) → Written (roomFor 0) out 0 (refusedLog r) line after → Printed input after
+    go : (after : List ℕ) (line : Line) → Written (roomFor 0) out 0 (refusedLog r) line after → HasPrinted input after (placeOf line 0)
     go after line (no-room full) = absurd (full (omega arith))
     go after line (written space fit) = record {
       gone = [];
-      at = 0 + length (refusedLog r);
       output = log-output input (take (0 + length (refusedLog r)) (sets out 0 (refusedLog r))) (running.refused {out = out} {at = 0} r f o (written space fit));
     }

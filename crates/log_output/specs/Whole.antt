@@ -55,8 +55,7 @@ pub data Reads (t : List ℕ) (h : Header) : Progress → (out bytes : List ℕ)
   read : {p q r : Progress} {out out₁ out₂ bytes later : List ℕ} → p .status ≡ Going → 256 ≤ length out → (Usable t h p out → Followed t h p bytes out q out₁)
       → Reads t h q out₁ later r out₂ → Reads t h p out (bytes ++ later) r out₂
 
--- the output of an input by the definitions: lines that are written out, and then the first bytes of what stands in `out`
-pub record Printed (input out : List ℕ) : Type 0 where
+-- all that a log has printed, lines that are written out and then the first `at` bytes of `out`, is the output of its input by the definitions
+pub record HasPrinted (input out : List ℕ) (at : ℕ) : Type 0 where
   pub gone : List ℕ
-  pub at : ℕ
   pub output : Output input (gone ++ take at out)

@@ -10,6 +10,7 @@ ghost use mathlib.Core.Path.{_≡_};
 ghost use mathlib.Core.Bool.{true};
 ghost use lib.ListN.{length};
 ghost use Rattle.stateset.specs.Set.{Decided};
+ghost use Rattle.monitor.specs.Stepping.{placeOf};
 ghost use Rattle.log_output.specs.declared.Status.the-variants as case;
 ghost use Rattle.log_output.specs.Progressing.{Usable, Roomy, Parted, Followed};
 ghost use Rattle.log_output.specs.Whole.{RefusalLine, EndLine, Begins, Finished};
@@ -150,7 +151,10 @@ pub fn follow(
     now
 }
 
-fn place(line: Line) -> usize {
+// How much of the output is to be written out, when its last line is there.
+fn place(line: Line) -> usize
+    ensures { λ r. ⌜ r ≡ placeOf line 0 ⌝ }
+{
     match line {
         Line::Next(next) => next,
         Line::NoRoom => 0,

@@ -71,14 +71,12 @@ front-opens {first} {input} f {says} {t} {h} {m} =
   where
     go : (later : List ℕ) → (frontSize first < length first) ⊎ (later ≡ []) → Opening first says t h m ↔ Opening (first ++ later) says t h m
     go later (inl l) =
-        let more : frontSize (first ++ later) < length (first ++ later) = omega (arith, size-kept first later l, length-append first later) in
-        (
+        let more : frontSize (first ++ later) < length (first ++ later) = omega (arith, size-kept first later l, length-append first later) in (
           (λ o. opens-as first (first ++ later) (size-kept first later l) (encoding-kept first later l) l more o),
           (λ o. opens-as (first ++ later) first (sym (size-kept first later l)) (sym (encoding-kept first later l)) more l o),
         )
     go later (inr e) =
-        let same : first ≡ first ++ later = sym (ap (λ (l : List ℕ). first ++ l) e ∙ append-nil first) in
-        (
+        let same : first ≡ first ++ later = sym (ap (λ (l : List ℕ). first ++ l) e ∙ append-nil first) in (
           (λ o. subst (λ (x : List ℕ). Opening x says t h m) same o),
           (λ o. subst (λ (x : List ℕ). Opening x says t h m) (sym same) o),
         )

@@ -24,7 +24,7 @@ use Rattle.monitor.proofs.LogOutput.{take-is, front-opens, lines-output, log-ou
 use Rattle.log_output.specs.declared.Status.{Status}
 use Rattle.log_output.specs.declared.Status.the-variants.{Going, Ended, Failed, Closed}
 use Rattle.log_output.specs.declared.Progress.{Progress}
-use Rattle.log_output.specs.Progressing.{Usable, Roomy, free, emptied, closed, Far, Stopped, Followed}
+use Rattle.log_output.specs.Progressing.{Usable, Roomy, free, emptied, closed, Stopped, Followed}
 use Rattle.log_output.specs.Whole.{RefusalLine, EndLine, begun, Reads, done, stopped, read, HasPrinted}
 
 module _ (t : List ℕ) (h : Header) (p : Progress) (out : List ℕ) where

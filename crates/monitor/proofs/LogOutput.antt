@@ -9,7 +9,6 @@ use native.Mathlib.Decide.{decLt}
 use lib.ListN.{length, getD, take, drop, length-append, length-drop, take-append-drop, List·getD-append}
 use lib.Seq.{sets, sets-eq, length-sets, slice, slice-empty, take-at, drop-at, take-all, take-nil, take-append-le, drop-append-le, length-take-le}
 use Rattle.automaton.specs.Run.{Automaton, automatonOf, Sound}
-use Rattle.automaton.specs.Refusals.{numberOf}
 use Rattle.automaton.specs.declared.Header.{Header}
 use Rattle.encoding.specs.Decoding.{Outcome, Decoding}
 use Rattle.verifier.specs.declared.Notion.the-variants.{Weak}

@@ -5,8 +5,6 @@ use Prim.Native.Nat.{ℕ, _+_, _-_, _<_}
 use native.Mathlib.Omega.{arith}
 use native.Mathlib.Decide.{decLt}
 use lib.ListN.{length, take, drop}
-use Rattle.automaton.specs.Run.{automatonOf, Observable, Possible, Impossible}
-use Rattle.automaton.specs.Refusals.{numberOf}
 use Rattle.automaton.specs.declared.Header.{Header}
 use Rattle.encoding.specs.Decoding.{Outcome, accept, refuse, Decoding}
 use Rattle.encoding.proofs.Only.{Same, one-decoding}

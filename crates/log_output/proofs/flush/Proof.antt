@@ -1,6 +1,5 @@
 use borrow.Author.Needs.{needs}
 use mathlib.Core.Bool.{false≢true}
-use native.Mathlib.Omega.{arith}
 use Rattle.log_output.proofs.flush.Statement.{statement}
 use Rattle.log_output.proofs.flush.Tie as tie
 

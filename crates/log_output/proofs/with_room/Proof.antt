@@ -1,10 +1,9 @@
 use borrow.Author.Needs.{needs}
-use borrow.Author.Tests.{not-true, not-false}
+use borrow.Author.Tests.{not-false}
 use mathlib.Core.Path.{sym, subst}
 use native.Mathlib.Omega.{arith}
 use denote.Ref.{now}
 use Rattle.log_output.specs.Progressing.{Roomy, free, emptied, closed}
-use Rattle.log_output.specs.declared.Progress.{Progress}
 use Rattle.log_output.proofs.with_room.Statement.{statement}
 use Rattle.log_output.proofs.with_room.Tie as tie
 

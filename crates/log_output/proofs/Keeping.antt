@@ -1,11 +1,11 @@
--- No line is lost: of the lines so far each is written out or stands in the output. Assumes nothing.
+-- The lines so far: the last ones stand in the output, and the others were written out before. Assumes nothing.
 use mathlib.Core.Path.{_≡_, refl, sym, ap, subst, _∙_}
 use mathlib.Core.List.{List, [], _++_, append-assoc, append-nil}
 use mathlib.Core.Logic.{_⊎_, inl, inr}
 use Prim.Native.Nat.{ℕ, _+_, _-_, _≤_, _<_}
 use native.Mathlib.Omega.{arith}
-use lib.ListN.{length, take, drop, length-take, length-drop}
-use lib.Seq.{sets, take-all, take-take, take-add, length-sets}
+use lib.ListN.{length, take, drop, length-append, length-take, length-drop}
+use lib.Seq.{sets, take-all, take-take, take-add, length-take-le, length-sets}
 use Rattle.automaton.specs.declared.Header.{Header}
 use Rattle.monitor.specs.Stepping.{Lines, done}
 use Rattle.monitor.specs.Opening.{started, Opening}
@@ -34,7 +34,7 @@ closed-not e = let z : _≡_ {A = ℕ} 0 1 = cc in absurd (omega arith)
 
 pub room-some : {p q : Progress} {out : List ℕ} → Roomy p out q → q .status ≡ Going → 256 ≤ length out → q .at + 256 ≤ length out
 room-some (free h) g l = h
-room-some (emptied h) g l = omega arith
+room-some (emptied full h) g l = omega arith
 room-some closed g l = absurd (closed-not g)
 
 part-going : {t : List ℕ} {h : Header} {p : Progress} {events out out′ : List ℕ} {part : Part} → p .status ≡ Going → Parted t h p events out part out′
@@ -57,21 +57,24 @@ module _ (t : List ℕ) (h : Header) (p : Progress) (events out : List ℕ) wher
   along-start u = record {
     going = u .going;
     room = u .room;
-    far = record { text = []; lines = done; within = u .within; few = u .few; gone = []; kept = sym (append-nil (take (p .at) out)); inside = u .inside };
+    far = record { text = []; lines = done; within = u .within; few = u .few; gone = []; kept = sym (append-nil (take (p .at) out)); whole = λ l. refl; inside = u .inside; size = refl };
   }
 
   far-room : {i : ℕ} {r q : Progress} {out′ : List ℕ} → Far t h p events out i r out′ → Roomy r out′ q → Far t h p events out i q out′
   far-room f (free l) = f
-  far-room {r = r} {out′ = out′} f (emptied l) = record {
+  far-room {r = r} {out′ = out′} f (emptied full l) = record {
     text = f .text;
     lines = f .lines;
     within = f .within;
     few = f .few;
     gone = f .gone ++ take (r .at) out′;
     kept = append-nil (f .gone ++ take (r .at) out′) ∙ f .kept;
+    whole = λ fits. absurd (full (omega (arith, ap length (f .kept), length-append (f .gone) (take (r .at) out′), length-take-le (r .at) out′ l, f .size)));
     inside = omega arith;
+    size = f .size;
   }
-  far-room f closed = record { text = f .text; lines = f .lines; within = f .within; few = f .few; gone = f .gone; kept = f .kept; inside = f .inside }
+  far-room f closed =
+      record { text = f .text; lines = f .lines; within = f .within; few = f .few; gone = f .gone; kept = f .kept; whole = f .whole; inside = f .inside; size = f .size }
 
   -- a call of `advance` on the events behind the first i
   far-part : {i : ℕ} {q : Progress} {part : Part} {out₁ out₂ : List ℕ} → Far t h p events out i q out₁ → i ≤ length events
@@ -89,7 +92,9 @@ module _ (t : List ℕ) (h : Header) (p : Progress) (events out : List ℕ) wher
         gone = f .gone;
         kept = ap (λ (x : List ℕ). f .gone ++ x) (take-is text out₁ (q .at) inside) ∙ sym (append-assoc (f .gone) (take (q .at) out₁) text)
             ∙ ap (λ (x : List ℕ). x ++ text) (f .kept) ∙ append-assoc (take (p .at) out) (f .text) text;
+        whole = λ fits. f .whole (omega (arith, length-append (take (p .at) out) (f .text), length-append (take (p .at) out) (f .text ++ text), length-append (f .text) text));
         inside = within-out text (f .inside) inside;
+        size = length-sets out₁ (q .at) text ∙ f .size;
       }
     where
       within-out : (l : List ℕ) → q .at ≤ length out₁ → (l ≡ []) ⊎ (q .at + length l ≤ length out₁) → q .at + length l ≤ length (sets out₁ (q .at) l)
@@ -103,7 +108,7 @@ module _ (t : List ℕ) (h : Header) (p : Progress) (events out : List ℕ) wher
   -- the three ways out of the loop
   pub along-closed : {i : ℕ} {r q : Progress} {out′ : List ℕ} → Along i r out′ → i ≤ length events → Roomy r out′ q → (q .status ≡ Going → ⊥) → Followed t h p events out q out′
   along-closed {i} a l (free x) not = absurd (not (a .going))
-  along-closed {i} a l (emptied x) not = absurd (not (a .going))
+  along-closed {i} a l (emptied full x) not = absurd (not (a .going))
   along-closed {i} a l closed not = record { bytes = i; among = l; far = far-room (a .far) closed; stop = tt }
 
   pub along-all : {i : ℕ} {r : Progress} {out′ : List ℕ} → Along i r out′ → i ≡ length events → Followed t h p events out r out′
@@ -130,7 +135,7 @@ module _ (t : List ℕ) (h : Header) (p : Progress) (events out : List ℕ) wher
       subst (λ (s : Progress). Followed t h p events out s out₂) (sym is) record {
         bytes = i + part .taken;
         among = omega arith;
-        far = record { text = far .text; lines = far .lines; within = far .within; few = far .few; gone = far .gone; kept = far .kept; inside = far .inside };
+        far = record { text = far .text; lines = far .lines; within = far .within; few = far .few; gone = far .gone; kept = far .kept; whole = far .whole; inside = far .inside; size = far .size };
         stop = full;
       }
 

@@ -5,7 +5,7 @@ use mathlib.Core.Logic.{_⊎_, inl, inr}
 use Prim.Native.Nat.{ℕ, _+_, _≤_}
 use native.Mathlib.Omega.{arith}
 use lib.ListN.{length, take, drop, length-append, take-append-drop}
-use lib.Seq.{sets, take-length, drop-length, take-append-le, take-append-add, drop-append-le}
+use lib.Seq.{sets, length-sets, length-take-le, take-length, drop-length, take-append-le, take-append-add, drop-append-le}
 use Rattle.automaton.specs.Refusals.{numberOf}
 use Rattle.automaton.specs.declared.Header.{Header}
 use Rattle.automaton.specs.declared.Refusal.{Refusal}
@@ -57,7 +57,12 @@ module _ (t : List ℕ) (h : Header) (p : Progress) (out : List ℕ) where
           gone = f .gone ++ f′ .gone;
           kept = append-assoc (f .gone) (f′ .gone) (take (r .at) out₂) ∙ ap (λ (l : List ℕ). f .gone ++ l) (f′ .kept) ∙ sym (append-assoc (f .gone) (take (q .at) out₁) (f′ .text))
               ∙ ap (λ (l : List ℕ). l ++ f′ .text) (f .kept) ∙ append-assoc (take (p .at) out) (f .text) (f′ .text);
+          whole = λ fits.
+              let one : f .gone ≡ [] = f .whole (omega (arith, length-append (take (p .at) out) (f .text), length-append (take (p .at) out) (f .text ++ f′ .text), length-append (f .text) (f′ .text))) in
+              let two : f′ .gone ≡ [] = f′ .whole (omega (arith, f .size, ap length (f .kept), length-append (f .gone) (take (q .at) out₁), length-append (take (q .at) out₁) (f′ .text), length-append (take (p .at) out) (f .text), length-append (take (p .at) out) (f .text ++ f′ .text), length-append (f .text) (f′ .text))) in
+              λ i. one i ++ two i;
           inside = f′ .inside;
+          size = f′ .size ∙ f .size;
         };
         stop = stopped-more (r .status) xs ys (r .monitor) (b .bytes) (b .stop);
       }
@@ -82,7 +87,9 @@ module _ (t : List ℕ) (h : Header) (p : Progress) (out : List ℕ) where
           few = f .few;
           gone = f .gone;
           kept = f .kept;
+          whole = f .whole;
           inside = f .inside;
+          size = f .size;
         };
         stop = stopped-still (q .status) xs ys (q .monitor) (a .bytes) not (a .stop);
       }
@@ -106,30 +113,42 @@ why Closed bytes e n not x = absurd (not refl)
 record Last (r : Progress) (out text : List ℕ) (q : Progress) : Type 0 where
   gone : List ℕ
   kept : gone ++ take (q .at) out ≡ text
+  whole : length text + 256 ≤ length out → gone ≡ []
   room : q .at + 256 ≤ length out
   monitor : q .monitor ≡ r .monitor
   open-still : r .status ≡ Closed → ⊥
 
-last : {r q : Progress} {out text : List ℕ} (gone : List ℕ) → gone ++ take (r .at) out ≡ text → 256 ≤ length out → (q .status ≡ Closed → ⊥) → Roomy r out q → Last r out text q
-last gone kept room not (free l) = record { gone = gone; kept = kept; room = l; monitor = refl; open-still = not }
-last {r = r} {out = out} gone kept room not (emptied l) =
-    record { gone = gone ++ take (r .at) out; kept = append-nil (gone ++ take (r .at) out) ∙ kept; room = omega arith; monitor = refl; open-still = not }
-last gone kept room not closed = absurd (not refl)
-
-print-last : {input out out′ : List ℕ} {at : ℕ} {line : Line} (gone text end : List ℕ) → gone ++ take at out ≡ text → at + 256 ≤ length out → Output input (text ++ end)
-    → Written (roomFor 0) out at end line out′ → HasPrinted input out′ (placeOf line 0)
-print-last gone text end kept room o (no-room full) = absurd (full (omega arith))
-print-last {input} {out} {at = at} gone text end kept room o (written space fit) = record {
-  gone = gone;
-  output = subst (Output input) (sym (ap (λ (l : List ℕ). gone ++ l) (take-is end out at (inr (omega arith))) ∙ sym (append-assoc gone (take at out) end) ∙ ap (λ (l : List ℕ). l ++ end) kept)) o;
+last : {r q : Progress} {out text : List ℕ} (gone : List ℕ) → gone ++ take (r .at) out ≡ text → (length text + 256 ≤ length out → gone ≡ []) → 256 ≤ length out
+    → (q .status ≡ Closed → ⊥) → Roomy r out q → Last r out text q
+last gone kept whole room not (free l) = record { gone = gone; kept = kept; whole = whole; room = l; monitor = refl; open-still = not }
+last {r = r} {out = out} gone kept whole room not (emptied full l) = record {
+  gone = gone ++ take (r .at) out;
+  kept = append-nil (gone ++ take (r .at) out) ∙ kept;
+  whole = λ fits. absurd (full (omega (arith, ap length kept, length-append gone (take (r .at) out), length-take-le (r .at) out l)));
+  room = omega arith;
+  monitor = refl;
+  open-still = not;
 }
+last gone kept whole room not closed = absurd (not refl)
+
+print-last : {input out out′ : List ℕ} {at : ℕ} {line : Line} (gone text end : List ℕ) → gone ++ take at out ≡ text → (length text + 256 ≤ length out → gone ≡ [])
+    → at + 256 ≤ length out → Output input (text ++ end) → Written (roomFor 0) out at end line out′ → HasPrinted input out′ (placeOf line 0)
+print-last gone text end kept whole room o (no-room full) = absurd (full (omega arith))
+print-last {input} {out} {at = at} gone text end kept whole room o (written space fit) =
+    let all-of : gone ++ take (at + length end) (sets out at end) ≡ text ++ end =
+    ap (λ (l : List ℕ). gone ++ l) (take-is end out at (inr (omega arith))) ∙ sym (append-assoc gone (take at out) end) ∙ ap (λ (l : List ℕ). l ++ end) kept in
+    record {
+      gone = gone;
+      output = subst (Output input) (sym all-of) o;
+      whole = λ fits. whole (omega (arith, ap length all-of, length-append text end, length-sets out at end));
+    }
 
 print-end : {input t out out₁ out₂ : List ℕ} {h : Header} {m : Monitor} {n : ℕ} {r : Progress} → Opening input (started n) t h m
     → Followed t h (begun m) (drop n input) out r out₁ → 256 ≤ length out₁ → (e : EndLine r out₁ out₂) → (e .last .status ≡ Closed → ⊥) → HasPrinted input out₂ (placeOf (e .line) 0)
 print-end {input} {t} {out} {out₁} {out₂} {h} {m} {n} {r} o f room e not =
-    let x = last (f .far .gone) (f .far .kept) room not (e .roomy) in
+    let x = last (f .far .gone) (f .far .kept) (λ fits. f .far .whole (omega (arith, f .far .size))) room not (e .roomy) in
     let all-lines = lines-output o (take-append-drop (f .bytes) (drop n input)) (f .far .lines) (f .far .few) (why (r .status) (drop n input) (r .monitor) (f .bytes) (x .open-still) (f .stop)) in
-    print-last (x .gone) (f .far .text) (endLine (e .last .monitor .accepted) (e .last .monitor .released) (e .last .monitor .enforcer .count)) (x .kept) (x .room)
+    print-last (x .gone) (f .far .text) (endLine (e .last .monitor .accepted) (e .last .monitor .released) (e .last .monitor .enforcer .count)) (x .kept) (x .whole) (x .room)
     (subst (λ (k : Monitor). Output input (f .far .text ++ endLine (k .accepted) (k .released) (k .enforcer .count))) (sym (x .monitor)) all-lines) (e .put)
 
 -- a log that has started: unless the output takes no more, what it has printed is the output of its input
@@ -151,4 +170,5 @@ refused-log {input = input} {out = out} {out′ = out′} r f o room l = go out�
     go after line (written space fit) = record {
       gone = [];
       output = log-output input (take (0 + length (refusedLog r)) (sets out 0 (refusedLog r))) (running.refused {out = out} {at = 0} r f o (written space fit));
+      whole = λ fits. refl;
     }

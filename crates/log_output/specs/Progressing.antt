@@ -1,7 +1,7 @@
 -- What following a log leaves: its monitor, and its lines. Some are written out, and the last ones stand at the front of the output. (No contract
 -- speaks of what a system call writes: that a written out line is out is tested.)
 use mathlib.Core.Path.{_≡_}
-use mathlib.Core.List.{List, _++_}
+use mathlib.Core.List.{List, [], _++_}
 use Prim.Native.Nat.{ℕ, _+_, _≤_}
 use lib.ListN.{length, take}
 use Rattle.automaton.specs.declared.Header.{Header}
@@ -21,10 +21,10 @@ pub record Usable (t : List ℕ) (h : Header) (p : Progress) (out : List ℕ) : 
   pub inside : p .at ≤ length out
   pub room : 256 ≤ length out
 
--- room for a line: there is some, or the output was written out, or it could not be
+-- room for a line: there is some, or else the output was written out, or it could not be
 pub data Roomy (p : Progress) (out : List ℕ) : Progress → Type 0 where
   free : p .at + 256 ≤ length out → Roomy p out p
-  emptied : p .at ≤ length out → Roomy p out (record { monitor = p .monitor; at = 0; status = p .status })
+  emptied : (p .at + 256 ≤ length out → ⊥) → p .at ≤ length out → Roomy p out (record { monitor = p .monitor; at = 0; status = p .status })
   closed : Roomy p out (record { monitor = p .monitor; at = p .at; status = Closed })
 
 -- one call of `Monitor::advance`
@@ -34,7 +34,7 @@ pub data Parted (t : List ℕ) (h : Header) (p : Progress) (events out : List �
   some : {n next : ℕ} {e : Monitor} {out′ : List ℕ} → Advancing t h (p .monitor) events out (p .at) (taken n next) e out′
       → Parted t h p events out (record { progress = record { monitor = e; at = next; status = Going }; taken = n }) out′
 
--- the lines of so many event bytes: those that are written out and those that stand in the output
+-- the lines of so many event bytes: those that are written out, none while there is room for all, and those that stand in the output
 pub record Far (t : List ℕ) (h : Header) (p : Progress) (events out : List ℕ) (bytes : ℕ) (r : Progress) (out′ : List ℕ) : Type 0 where
   pub text : List ℕ
   pub lines : Lines t h (p .monitor) (take bytes events) text (r .monitor)
@@ -42,7 +42,9 @@ pub record Far (t : List ℕ) (h : Header) (p : Progress) (events out : List ℕ
   pub few : r .monitor .offered ≤ 4294967295
   pub gone : List ℕ
   pub kept : gone ++ take (r .at) out′ ≡ take (p .at) out ++ text
+  pub whole : length (take (p .at) out ++ text) + 256 ≤ length out → gone ≡ []
   pub inside : r .at ≤ length out′
+  pub size : length out′ ≡ length out
 
 -- why no more of them are followed: there are no more, a log may have no more, or the output takes no more
 abbrev pub Stopped : Status → Monitor → ℕ → List ℕ → Type 0

@@ -1,7 +1,7 @@
 -- How a log begins and ends on an output, and what all of it has printed.
 use mathlib.Core.Path.{_≡_}
 use mathlib.Core.List.{List, [], _++_}
-use Prim.Native.Nat.{ℕ, _≤_}
+use Prim.Native.Nat.{ℕ, _+_, _≤_}
 use lib.ListN.{length, take, drop}
 use Rattle.automaton.specs.Refusals.{numberOf}
 use Rattle.automaton.specs.declared.Header.{Header}
@@ -55,7 +55,9 @@ pub data Reads (t : List ℕ) (h : Header) : Progress → (out bytes : List ℕ)
   read : {p q r : Progress} {out out₁ out₂ bytes later : List ℕ} → p .status ≡ Going → 256 ≤ length out → (Usable t h p out → Followed t h p bytes out q out₁)
       → Reads t h q out₁ later r out₂ → Reads t h p out (bytes ++ later) r out₂
 
--- all that a log has printed, lines that are written out and then the first `at` bytes of `out`, is the output of its input by the definitions
+-- all that a log has printed, lines that are written out and then the first `at` bytes of `out`, is the output of its input by the definitions. Where
+-- there is room for all of it none was written out before
 pub record HasPrinted (input out : List ℕ) (at : ℕ) : Type 0 where
   pub gone : List ℕ
   pub output : Output input (gone ++ take at out)
+  pub whole : length (gone ++ take at out) + 256 ≤ length out → gone ≡ []

@@ -1,11 +1,18 @@
 use borrow.Author.Needs.{needs}
 use borrow.Author.Tests.{not-false}
 use mathlib.Core.Path.{sym, subst}
+use mathlib.Core.Logic.{_⊎_, inl, inr, ⊎-elim}
+use Prim.Native.Nat.{ℕ, _+_, _-_, _≤_, _<_}
 use native.Mathlib.Omega.{arith}
 use denote.Ref.{now}
 use Rattle.log_output.specs.Progressing.{Roomy, free, emptied, closed}
 use Rattle.log_output.proofs.with_room.Statement.{statement}
 use Rattle.log_output.proofs.with_room.Tie as tie
+
+-- the two tests that found no room
+full : (at size : ℕ) → (size - at < 256) ⊎ (size < at) → at + 256 ≤ size → ⊥
+full at size (inl l) room = omega arith
+full at size (inr l) room = omega arith
 
 sub-if2 : tie.Need-sub-if2
 sub-if2 c = search needs
@@ -25,7 +32,7 @@ returns-2 c =
     subst (Roomy (a .progress) (now (a .out))) (sym (c .with-status .ensures)) closed
 
 returns-3 : tie.Need-returns-3
-returns-3 c = emptied (c .before .flush .ensures (not-false _ (c .if3 .left)))
+returns-3 c = emptied (λ room. full _ _ (⊎-elim (λ x. inl (x .1 .left)) (λ x. inr (x .left)) (c .before .before .if1 .came)) room) (c .before .flush .ensures (not-false _ (c .if3 .left)))
 
 pub with-room-spec : {M : Type 1} → statement M
 with-room-spec =

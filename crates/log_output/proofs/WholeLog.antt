@@ -25,7 +25,8 @@ use Rattle.log_output.specs.declared.Status.{Status}
 use Rattle.log_output.specs.declared.Status.the-variants.{Going, Ended, Failed, Closed}
 use Rattle.log_output.specs.declared.Progress.{Progress}
 use Rattle.log_output.specs.Progressing.{Usable, Roomy, free, emptied, closed, Stopped, Followed}
-use Rattle.log_output.specs.Whole.{RefusalLine, EndLine, begun, Reads, done, stopped, read, HasPrinted}
+use Rattle.log_output.specs.Whole.{RefusalLine, EndLine, begun, Reads, done, stopped, read, Ends, as-is, over, HasPrinted}
+use Rattle.log_output.proofs.Keeping.{closed-not}
 
 module _ (t : List ℕ) (h : Header) (p : Progress) (out : List ℕ) where
   stopped-more : (s : Status) (xs ys : List ℕ) (e : Monitor) (n : ℕ) → Stopped s e n ys → Stopped s e (length xs + n) (xs ++ ys)
@@ -143,22 +144,37 @@ print-last {input} {out} {at = at} gone text end kept whole room o (written spac
       whole = λ fits. whole (omega (arith, ap length all-of, length-append text end, length-sets out at end));
     }
 
-print-end : {input t out out₁ out₂ : List ℕ} {h : Header} {m : Monitor} {n : ℕ} {r : Progress} → Opening input (started n) t h m
-    → Followed t h (begun m) (drop n input) out r out₁ → 256 ≤ length out₁ → (e : EndLine r out₁ out₂) → (e .last .status ≡ Closed → ⊥) → HasPrinted input out₂ (placeOf (e .line) 0)
-print-end {input} {t} {out} {out₁} {out₂} {h} {m} {n} {r} o f room e not =
-    let x = last (f .far .gone) (f .far .kept) (λ fits. f .far .whole (omega (arith, f .far .size))) room not (e .roomy) in
-    let all-lines = lines-output o (take-append-drop (f .bytes) (drop n input)) (f .far .lines) (f .far .few) (why (r .status) (drop n input) (r .monitor) (f .bytes) (x .open-still) (f .stop)) in
+-- the end of the input changes no line
+ends-kept : {q r : Progress} {text : List ℕ} (gone out : List ℕ) → Ends q r → gone ++ take (q .at) out ≡ text → gone ++ take (r .at) out ≡ text
+ends-kept gone out as-is k = k
+ends-kept gone out (over g) k = k
+
+ends-monitor : {q r : Progress} → Ends q r → r .monitor ≡ q .monitor
+ends-monitor as-is = refl
+ends-monitor (over g) = refl
+
+ends-open : {q r : Progress} → Ends q r → (r .status ≡ Closed → ⊥) → q .status ≡ Closed → ⊥
+ends-open as-is not e = not e
+ends-open (over g) not e = closed-not (sym e ∙ g)
+
+print-end : {input t out out₁ out₂ : List ℕ} {h : Header} {m : Monitor} {n : ℕ} {q r : Progress} → Opening input (started n) t h m
+    → Followed t h (begun m) (drop n input) out q out₁ → 256 ≤ length out₁ → Ends q r → (e : EndLine r out₁ out₂) → (e .last .status ≡ Closed → ⊥)
+    → HasPrinted input out₂ (placeOf (e .line) 0)
+print-end {input} {t} {out} {out₁} {out₂} {h} {m} {n} {q} {r} o f room ends e not =
+    let x = last (f .far .gone) (ends-kept (f .far .gone) out₁ ends (f .far .kept)) (λ fits. f .far .whole (omega (arith, f .far .size))) room not (e .roomy) in
+    let stop = why (q .status) (drop n input) (q .monitor) (f .bytes) (ends-open ends (x .open-still)) (f .stop) in
+    let all-lines = lines-output o (take-append-drop (f .bytes) (drop n input)) (f .far .lines) (f .far .few) stop in
     print-last (x .gone) (f .far .text) (endLine (e .last .monitor .accepted) (e .last .monitor .released) (e .last .monitor .enforcer .count)) (x .kept) (x .whole) (x .room)
-    (subst (λ (k : Monitor). Output input (f .far .text ++ endLine (k .accepted) (k .released) (k .enforcer .count))) (sym (x .monitor)) all-lines) (e .put)
+    (subst (λ (k : Monitor). Output input (f .far .text ++ endLine (k .accepted) (k .released) (k .enforcer .count))) (sym (x .monitor ∙ ends-monitor ends)) all-lines) (e .put)
 
 -- a log that has started: unless the output takes no more, what it has printed is the output of its input
-pub monitored-log : {first input t out out₁ out₂ out₃ : List ℕ} {h : Header} {m : Monitor} {n : ℕ} {q r : Progress} (f : Front first input)
-    → Opening first (started n) t h m → Followed t h (begun m) (drop n first) out q out₁ → Reads t h q out₁ (f .later) r out₂ → 256 ≤ length out₂
-    → (e : EndLine r out₂ out₃) → (e .last .status ≡ Closed → ⊥) → HasPrinted input out₃ (placeOf (e .line) 0)
-monitored-log {first} {input} {t} {out} {out₁} {out₂} {out₃} {h} {m} {n} {q} {r} f o a reads room e not =
+pub monitored-log : {first input t out out₁ out₂ out₃ : List ℕ} {h : Header} {m : Monitor} {n : ℕ} {p q r : Progress} (f : Front first input)
+    → Opening first (started n) t h m → Followed t h (begun m) (drop n first) out p out₁ → Reads t h p out₁ (f .later) q out₂ → 256 ≤ length out₂
+    → Ends q r → (e : EndLine r out₂ out₃) → (e .last .status ≡ Closed → ⊥) → HasPrinted input out₃ (placeOf (e .line) 0)
+monitored-log {first} {input} {t} {out} {out₁} {out₂} {out₃} {h} {m} {n} {p} {q} {r} f o a reads room ends e not =
     let events : drop n first ++ f .later ≡ drop n input = sym (drop-append-le n first (f .later) (omega (arith, started-within o))) ∙ ap (drop n) (f .splits) in
     print-end (front-opens f .0 o)
-    (subst (λ (l : List ℕ). Followed t h (begun m) l out r out₂) events (followed-reads t h (begun m) out a reads)) room e not
+    (subst (λ (l : List ℕ). Followed t h (begun m) l out q out₂) events (followed-reads t h (begun m) out a reads)) room ends e not
 
 -- a refused log: so is its one line
 pub refused-log : {first input t out out′ : List ℕ} {h : Header} {m : Monitor} (r : Refusal) → Front first input → Opening first (refused (numberOf r)) t h m

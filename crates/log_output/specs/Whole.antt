@@ -55,6 +55,11 @@ pub data Reads (t : List ℕ) (h : Header) : Progress → (out bytes : List ℕ)
   read : {p q r : Progress} {out out₁ out₂ bytes later : List ℕ} → p .status ≡ Going → 256 ≤ length out → (Usable t h p out → Followed t h p bytes out q out₁)
       → Reads t h q out₁ later r out₂ → Reads t h p out (bytes ++ later) r out₂
 
+-- after the last read: the log may have no more events or is there whole, or the input has ended (`with_status`)
+pub data Ends (p : Progress) : Progress → Type 0 where
+  as-is : Ends p p
+  over : p .status ≡ Going → Ends p (record { monitor = p .monitor; at = p .at; status = Ended })
+
 -- all that a log has printed, lines that are written out and then the first `at` bytes of `out`, is the output of its input by the definitions. Where
 -- there is room for all of it none was written out before
 pub record HasPrinted (input out : List ℕ) (at : ℕ) : Type 0 where

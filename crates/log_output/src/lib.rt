@@ -6,7 +6,14 @@ use monitor::Monitor;
 use monitor::OpenAnswer;
 use report::Line;
 ghost use Prim.Native.Nat.{_≤_};
+ghost use mathlib.Core.Path.{_≡_};
+ghost use mathlib.Core.Bool.{true};
 ghost use lib.ListN.{length};
+ghost use Rattle.stateset.specs.Set.{Decided};
+ghost use Rattle.monitor.specs.Stepping.{placeOf};
+ghost use Rattle.log_output.specs.declared.Status.the-variants as case;
+ghost use Rattle.log_output.specs.Progressing.{Usable, Roomy, Parted, Followed};
+ghost use Rattle.log_output.specs.Whole.{RefusalLine, EndLine, Begins, Finished};
 
 pub enum Status {
     // More event bytes may follow.
@@ -39,7 +46,9 @@ struct Part {
     taken: usize,
 }
 
-pub fn going(status: Status) -> bool {
+pub fn going(status: Status) -> bool
+    ensures { λ r. ⌜ Decided r (status ≡ case.Going) ⌝ }
+{
     match status {
         Status::Going => true,
         Status::Ended => false,
@@ -48,7 +57,9 @@ pub fn going(status: Status) -> bool {
     }
 }
 
-pub fn with_status(progress: Progress, status: Status) -> Progress {
+pub fn with_status(progress: Progress, status: Status) -> Progress
+    ensures { λ r. ⌜ r ≡ record { monitor = progress .monitor; at = progress .at; status = status } ⌝ }
+{
     let monitor = progress.monitor;
     Progress {
         monitor: monitor,
@@ -58,7 +69,9 @@ pub fn with_status(progress: Progress, status: Status) -> Progress {
 }
 
 // Writes out the first bytes of the output.
-fn flush(out: &[u8], n: usize) -> bool {
+fn flush(out: &[u8], n: usize) -> bool
+    ensures { λ r. ⌜ (r ≡ true → n ≤ length (now (out .entry))) ⌝ }
+{
     if out.len() < n {
         return false;
     }
@@ -66,7 +79,9 @@ fn flush(out: &[u8], n: usize) -> bool {
 }
 
 // Writes the output out, if the next line might not fit into what is left of it.
-fn with_room(progress: Progress, out: &[u8]) -> Progress {
+fn with_room(progress: Progress, out: &[u8]) -> Progress
+    ensures { λ r. ⌜ Roomy progress (now (out .entry)) r ⌝ }
+{
     let at = progress.at;
     if at <= out.len() {
         if report::LINE <= out.len() - at {
@@ -84,6 +99,7 @@ fn with_room(progress: Progress, out: &[u8]) -> Progress {
 // The event bytes for which the output has room.
 fn advance(progress: Progress, table: &[u64], header: Header, events: &[u8], out: &mut [u8]) -> Part
     ensures { λ r. ⌜ r .taken ≤ length (now (events .entry)) ⌝ }
+    ensures { λ r. ⌜ Parted (now (table .entry)) header progress (now (events .entry)) (now (out .entry)) r (now (out .exit)) ⌝ }
 {
     let monitor = progress.monitor;
     let at = progress.at;
@@ -113,7 +129,9 @@ pub fn follow(
     header: Header,
     events: &[u8],
     out: &mut [u8],
-) -> Progress {
+) -> Progress
+    ensures { λ r. ⌜ (Usable (now (table .entry)) header progress (now (out .entry)) → Followed (now (table .entry)) header progress (now (events .entry)) (now (out .entry)) r (now (out .exit))) ⌝ }
+{
     let mut now = progress;
     let mut i: usize = 0;
     while i < events.len() {
@@ -133,7 +151,10 @@ pub fn follow(
     now
 }
 
-fn place(line: Line) -> usize {
+// How much of the output is to be written out, when its last line is there.
+fn place(line: Line) -> usize
+    ensures { λ r. ⌜ r ≡ placeOf line 0 ⌝ }
+{
     match line {
         Line::Next(next) => next,
         Line::NoRoom => 0,
@@ -141,13 +162,17 @@ fn place(line: Line) -> usize {
 }
 
 // The one line of a refused log.
-fn refuse(refusal: Refusal, out: &mut [u8]) {
+fn refuse(refusal: Refusal, out: &mut [u8])
+    ensures { λ _. ⌜ RefusalLine refusal (now (out .entry)) (now (out .exit)) ⌝ }
+{
     let next = place(report::refused_log(out, 0, refusal));
     flush(out, next);
 }
 
 // Opens a log by its first bytes, as `monitor::open` takes them, and follows the events among them.
-pub fn start(log: &[u8], out: &mut [u8]) -> Monitored {
+pub fn start(log: &[u8], out: &mut [u8]) -> Monitored
+    ensures { λ r. ⌜ Begins (now (log .entry)) (now (out .entry)) r (now (out .exit)) ⌝ }
+{
     let opened = monitor::open(log);
     let table = opened.table;
     let header = opened.header;
@@ -182,7 +207,9 @@ pub fn start(log: &[u8], out: &mut [u8]) -> Monitored {
     }
 }
 
-fn write_end(progress: Progress, out: &mut [u8]) {
+fn write_end(progress: Progress, out: &mut [u8])
+    ensures { λ _. ⌜ EndLine progress (now (out .entry)) (now (out .exit)) ⌝ }
+{
     let last = with_room(progress, out);
     let monitor = last.monitor;
     let next = place(monitor.end(out, last.at));
@@ -190,7 +217,9 @@ fn write_end(progress: Progress, out: &mut [u8]) {
 }
 
 // The last line, and all that is not written out yet.
-pub fn finish(progress: Progress, out: &mut [u8]) {
+pub fn finish(progress: Progress, out: &mut [u8])
+    ensures { λ _. ⌜ Finished (progress .status) progress (now (out .entry)) (now (out .exit)) ⌝ }
+{
     let status = progress.status;
     match status {
         Status::Going => write_end(progress, out),

@@ -3,3 +3,5 @@ pub mod Outcomes
 pub mod Following
 pub mod Openings
 pub mod LogPromise
+pub mod OneOutput
+pub mod LogOutput

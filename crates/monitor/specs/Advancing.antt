@@ -27,11 +27,11 @@ pub record Ready (m : Monitor) (out : List ℕ) (at : ℕ) : Type 0 where
   pub allowed : m .offered + 1 ≤ 4294967295
 
 -- event bytes: the answer, the monitor after them and the output after them, in which all their lines stand. Bytes are taken until there are no more or
--- the monitor is not ready
+-- the monitor is not ready, and no more of them than a log may have
 pub data Advancing (t : List ℕ) (h : Header) (m : Monitor) (events out : List ℕ) (at : ℕ) : Said → Monitor → List ℕ → Type 0 where
   malformed : (Within t h m → ⊥) → Advancing t h m events out at (refused 9) m out
   advanced : {n : ℕ} {text : List ℕ} {e : Monitor} → Within t h m → n ≤ length events → Lines t h m (take n events) text e → Within t h e
-      → (text ≡ []) ⊎ (at + length text ≤ length out) → (n ≡ length events) ⊎ (Ready e (sets out at text) (at + length text) → ⊥)
+      → (text ≡ []) ⊎ (at + length text ≤ length out) → e .offered ≤ 4294967295 → (n ≡ length events) ⊎ (Ready e (sets out at text) (at + length text) → ⊥)
       → Advancing t h m events out at (taken n (at + length text)) e (sets out at text)
 
 -- the first i event bytes are taken, inside `advance`
@@ -41,3 +41,4 @@ pub record Along (t : List ℕ) (h : Header) (m : Monitor) (events out : List �
   pub lines : Lines t h m (take i events) text e
   pub printed : Printed out at text next out′
   pub within : Within t h e
+  pub few : e .offered ≤ 4294967295

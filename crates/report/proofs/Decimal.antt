@@ -2,13 +2,15 @@
 use Prim.Native.Nat.{ℕ, zero, suc, _+_, _-_, _*_, _/_, _%_, _^_, _≤_, _<_}
 use native.Mathlib.Nat.{pow-suc}
 use native.Mathlib.Omega.{arith}
-use mathlib.Core.Path.{_≡_, refl, ap, _∙_}
+use native.Mathlib.Decide.{decLt}
+use mathlib.Core.Path.{_≡_, refl, sym, ap, _∙_}
 use mathlib.Core.Bool.{Bool, true, false, cond}
 use mathlib.Core.List.{List, [], _∷_, _++_, foldl-append}
 use lib.Dec.{ltb}
-use lib.ListN.{length, length-append}
-use borrow.Author.Tests.{lt-ltb, le-ltb}
-use Rattle.report.specs.Text.{digits, decimal, valueOf}
+use lib.ListN.{length, getD, length-append, List·getD-append}
+use lib.Seq.{getD-at}
+use borrow.Author.Tests.{lt-ltb, le-ltb, ltb-true, ltb-false}
+use Rattle.report.specs.Text.{digits, decimal, valueOf, BaseTen}
 
 -- as many digits as are allowed
 length-digits : (most n : ℕ) → length (digits most n) ≤ most
@@ -55,6 +57,53 @@ reads-digits (suc f) n h = by-test (ltb n 10) refl (λ (s : n / 10 < 10 ^ suc f)
         foldl-append (λ (v d : ℕ). 10 * v + (d - 48)) 0 (digits (suc f) (n / 10)) ((48 + n % 10) ∷ [])
         ∙ omega (arith, rest (omega (arith, pow-suc 10 (suc f))))
 
-pub reads-back : (n : ℕ) → n < 2 ^ 32 → valueOf (decimal n) ≡ n
+reads-back : (n : ℕ) → n < 2 ^ 32 → valueOf (decimal n) ≡ n
 unfolding decimal
 reads-back n h = reads-digits 9 n (omega arith)
+
+some-digits : (f n : ℕ) → 0 < length (digits (suc f) n)
+unfolding digits
+some-digits f n = by-test (ltb n 10)
+  where
+    by-test : (b : Bool) → 0 < length (cond b ((48 + n) ∷ []) (digits f (n / 10) ++ ((48 + n % 10) ∷ [])))
+    by-test true = omega arith
+    by-test false = omega (arith, length-append (digits f (n / 10)) ((48 + n % 10) ∷ []))
+
+-- one more digit behind digits
+digit-more : (l : List ℕ) (d : ℕ) → ((i : ℕ) → i < length l → (48 ≤ getD l i 0) × (getD l i 0 ≤ 57)) → 48 ≤ d → d ≤ 57 → (i : ℕ) → i < length (l ++ (d ∷ []))
+    → (48 ≤ getD (l ++ (d ∷ [])) i 0) × (getD (l ++ (d ∷ [])) i 0 ≤ 57)
+digit-more l d all low high i h = go (decLt i (length l))
+  where
+    go : Dec (i < length l) → (48 ≤ getD (l ++ (d ∷ [])) i 0) × (getD (l ++ (d ∷ [])) i 0 ≤ 57)
+    go (yes a) = rw (List·getD-append l (d ∷ []) 0 i a) (all i a)
+    go (no a) =
+        let last : length l ≡ i = omega (arith, length-append l (d ∷ [])) in
+        rw (getD-at l d [] 0 i last) (low, high)
+
+all-digits : (f n i : ℕ) → i < length (digits f n) → (48 ≤ getD (digits f n) i 0) × (getD (digits f n) i 0 ≤ 57)
+unfolding digits
+all-digits zero n i h = absurd (omega arith)
+all-digits (suc f) n i h = by-test (ltb n 10) refl (all-digits f (n / 10)) h
+  where
+    by-test : (b : Bool) → ltb n 10 ≡ b → ((j : ℕ) → j < length (digits f (n / 10)) → (48 ≤ getD (digits f (n / 10)) j 0) × (getD (digits f (n / 10)) j 0 ≤ 57))
+        → i < length (cond b ((48 + n) ∷ []) (digits f (n / 10) ++ ((48 + n % 10) ∷ [])))
+        → (48 ≤ getD (cond b ((48 + n) ∷ []) (digits f (n / 10) ++ ((48 + n % 10) ∷ []))) i 0) × (getD (cond b ((48 + n) ∷ []) (digits f (n / 10) ++ ((48 + n % 10) ∷ []))) i 0 ≤ 57)
+    by-test true e rest l = digit-more [] (48 + n) (λ j k. absurd (omega arith)) (omega arith) (omega (arith, ltb-true n 10 e)) i l
+    by-test false e rest l = digit-more (digits f (n / 10)) (48 + n % 10) rest (omega arith) (omega arith) i l
+
+-- the first digit of a number above 9 is that of its tenth
+first-digit : (f n : ℕ) → n < 10 ^ suc f → getD (digits (suc f) n) 0 0 ≡ 48 → n ≡ 0
+unfolding digits
+first-digit zero n h e = omega (arith, rw (lt-ltb n 10) at e)
+first-digit (suc f) n h e = by-test (ltb n 10) refl (first-digit f (n / 10) (omega (arith, pow-suc 10 (suc f)))) e
+  where
+    by-test : (b : Bool) → ltb n 10 ≡ b → (getD (digits (suc f) (n / 10)) 0 0 ≡ 48 → n / 10 ≡ 0)
+        → getD (cond b ((48 + n) ∷ []) (digits (suc f) (n / 10) ++ ((48 + n % 10) ∷ []))) 0 0 ≡ 48 → n ≡ 0
+    by-test true t rest x = omega arith
+    by-test false t rest x =
+        let tenth = rest (sym (List·getD-append (digits (suc f) (n / 10)) ((48 + n % 10) ∷ []) 0 0 (some-digits f (n / 10))) ∙ x) in
+        absurd (omega (arith, tenth, ltb-false n 10 t))
+
+pub in-base-ten : (n : ℕ) → n < 2 ^ 32 → BaseTen n (decimal n)
+unfolding decimal
+in-base-ten n h = record { some = some-digits 9 n; digit = all-digits 10 n; front = first-digit 9 n (omega arith); value = reads-back n h }

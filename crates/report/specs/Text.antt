@@ -1,8 +1,10 @@
 -- The lines of the log program, as bytes.
-use Prim.Native.Nat.{ℕ, zero, suc, _+_, _*_, _-_, _/_, _%_}
+use Prim.Native.Nat.{ℕ, zero, suc, _+_, _*_, _-_, _/_, _%_, _≤_, _<_}
+use mathlib.Core.Path.{_≡_}
 use mathlib.Core.Bool.{cond}
 use mathlib.Core.List.{List, [], _∷_, _++_, map, foldl}
 use lib.Dec.{ltb}
+use lib.ListN.{length, getD}
 use Rattle.automaton.specs.declared.Refusal.{Refusal}
 use Rattle.automaton.specs.Refusals.{numberOf}
 use Rattle.verifier.specs.declared.Verdict.{Verdict}
@@ -13,13 +15,20 @@ unfoldable pub digits : (most n : ℕ) → List ℕ
 digits zero n = []
 digits (suc most) n = cond (ltb n 10) ((48 + n) ∷ []) (digits most (n / 10) ++ ((48 + n % 10) ∷ []))
 
--- n in base ten. (Ten digits hold every number below 2 ^ 32, and they read back as it: Decimal, reads-back)
+-- n in base ten. (Ten digits hold every number below 2 ^ 32, and say it: Decimal, in-base-ten)
 unfoldable pub decimal : ℕ → List ℕ
 decimal n = digits 10 n
 
 -- the number that digits say
 abbrev pub valueOf : List ℕ → ℕ
 valueOf ds = foldl (λ (v d : ℕ). 10 * v + (d - 48)) 0 ds
+
+-- 01: base ten. Digits `0` to `9`, at least one, a `0` in front for the number 0 alone, and they say the number
+pub record BaseTen (n : ℕ) (ds : List ℕ) : Type 0 where
+  pub some : 0 < length ds
+  pub digit : (i : ℕ) → i < length ds → (48 ≤ getD ds i 0) × (getD ds i 0 ≤ 57)
+  pub front : getD ds 0 0 ≡ 48 → n ≡ 0
+  pub value : valueOf ds ≡ n
 
 -- each part with the separator in front of it
 abbrev pub led : ℕ → List (List ℕ) → List ℕ

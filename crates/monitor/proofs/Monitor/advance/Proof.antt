@@ -26,7 +26,7 @@ returns c = Advancing.malformed (fails (c .before .sound .result) (not-true _ (c
 loop-holds : tie.Need-loop-holds Inv-loop μ-loop
 loop-holds c =
     let a = c .before .before .before .before .before .args in
-    along-start (value (a .table)) (a .header) (a .self) (value (a .events)) (value (a .out)) (a .at) (holds (c .before .sound .result) (not-false _ (c .if1 .left)) (c .before .sound .ensures))
+    along-start (value (a .table)) (a .header) (a .self) (value (a .events)) (value (a .out)) (a .at) (holds (c .before .sound .result) (not-false _ (c .if1 .left)) (c .before .sound .ensures)) (omega (arith, c .before .before .before .before .before .good))
 
 ready-requires : tie.Need-ready-requires Inv-loop μ-loop
 ready-requires c κs = search needs
@@ -48,7 +48,8 @@ loop-again c =
     let a = c .before .before .before .before .before .before .before .before .before .before .before .before .before .before .before .before .args in
     let l = c .before .before .before .before .before .before .before .before .before .before .loop in
     along-next (value (a .table)) (a .header) (a .self) (value (a .events)) (value (a .out)) (a .at) (l .now) (l .next) (l .i) (l .out) (c .before .before .before .step .result .monitor) (c .before .before .before .step .result .next) _
-    (l .inv) (c .before .before .before .before .before .before .before .before .before .loop-test .taken) (c .before .before .before .step .ensures)
+    (l .inv) (c .before .before .before .before .before .before .before .before .before .loop-test .taken)
+    (holds (c .before .before .before .before .before .before .before .ready .result) (not-false _ (c .before .before .before .before .before .before .if2 .left)) (c .before .before .before .before .before .before .before .ready .ensures)) (c .before .before .before .step .ensures)
 
 same-length : tie.Need-same-length Inv-loop μ-loop
 same-length c = c .before .loop .inv .printed .size

@@ -1,0 +1,3 @@
+-- What the contracts of `log_output` cite. A reviewer reads Progressing, then Whole.
+pub mod Progressing
+pub mod Whole

@@ -1,0 +1,131 @@
+-- The definitions leave no choice: an input has one output. Assumes nothing.
+use mathlib.Core.Path.{_≡_, refl, sym, ap, subst}
+use mathlib.Core.List.{List, [], _∷_, _++_}
+use Prim.Native.Nat.{ℕ, _+_, _-_, _<_}
+use native.Mathlib.Omega.{arith}
+use native.Mathlib.Decide.{decLt}
+use lib.ListN.{length, take, drop}
+use Rattle.automaton.specs.declared.Header.{Header}
+use Rattle.encoding.specs.Decoding.{Outcome, accept, refuse, Decoding}
+use Rattle.encoding.proofs.Only.{Same, one-decoding}
+use Rattle.verifier.specs.declared.Verdict.{Verdict}
+use Rattle.verifier.specs.declared.Verdict.the-variants.{NoLeak, Leak}
+use Rattle.verifier.specs.Verdicts.{Steps, stepsOf}
+use Rattle.verifier.specs.Calls.{Right}
+use Rattle.report.specs.Text.{decimal, line, acceptedLine, refusedLine, endLine}
+use Rattle.automaton.specs.declared.Refusal.the-variants.{NotObservable, Incompatible}
+use Rattle.monitor.specs.Opening.{encodingOf, Decodes}
+use Rattle.monitor.specs.LogText.{Released, Prints, none, not-observable, incompatible, accepted}
+use Rattle.monitor.specs.Log.{eventsOf, OpenSecret, Refused, truncated, not-decoded, empty-log, initial-leak, Monitored, Output, refused, ended}
+
+-- the table after decoding, which found the table b
+abbrev left : Outcome → (b t : List ℕ) → List ℕ
+left accept b t = t
+left (refuse n) b t = b
+
+-- what decoding says does not depend on the table that it finds
+on-table : (bytes a b : List ℕ) {h : Header} {o : Outcome} {t : List ℕ} → length a ≡ 2048 → length b ≡ 2048 → Decoding bytes a h o t → Decoding bytes b h o (left o b t)
+on-table bytes a b x y (Decoding.malformed bad) = absurd (bad x)
+on-table bytes a b x y (Decoding.refused size n e) = Decoding.refused y n e
+on-table bytes a b x y (Decoding.accepted size d next is after holds) = Decoding.accepted y d next is after holds
+
+one-decodes : {log t t′ : List ℕ} {h h′ : Header} {o o′ : Outcome} (d : Decodes log h o t) (d′ : Decodes log h′ o′ t′) → Same h h′ o o′ (left o (d′ .before) t) t′
+one-decodes {log} d d′ = one-decoding (encodingOf log) (d′ .before) (on-table (encodingOf log) (d .before) (d′ .before) (d .words) (d′ .words) (d .decoding)) (d′ .decoding)
+
+not-accepted : {n : ℕ} → refuse n ≡ accept → ⊥
+not-accepted e = let z : _≡_ {A = ℕ} 0 1 = cc in absurd (omega arith)
+
+one-number : {n m : ℕ} → refuse n ≡ refuse m → n ≡ m
+one-number e = cc
+
+-- a log has one refusal
+one-refusal : {input : List ℕ} {n m : ℕ} → Refused input n → Refused input m → n ≡ m
+one-refusal (truncated a) (truncated b) = refl
+one-refusal (truncated a) (not-decoded b d) = absurd (omega arith)
+one-refusal (truncated a) (empty-log b d) = absurd (omega arith)
+one-refusal (truncated a) (initial-leak b d s) = absurd (omega arith)
+one-refusal (not-decoded a d) (truncated b) = absurd (omega arith)
+one-refusal (not-decoded a d) (not-decoded b d′) = one-number (one-decodes d d′ .answer)
+one-refusal (not-decoded a d) (empty-log b d′) = absurd (not-accepted (one-decodes d d′ .answer))
+one-refusal (not-decoded a d) (initial-leak b d′ s) = absurd (not-accepted (one-decodes d d′ .answer))
+one-refusal (empty-log a d) (truncated b) = absurd (omega arith)
+one-refusal (empty-log a d) (not-decoded b d′) = absurd (not-accepted (one-decodes d′ d .answer))
+one-refusal (empty-log a d) (empty-log b d′) = refl
+one-refusal (empty-log a d) (initial-leak b d′ s) = absurd (omega arith)
+one-refusal (initial-leak a d s) (truncated b) = absurd (omega arith)
+one-refusal (initial-leak a d s) (not-decoded b d′) = absurd (not-accepted (one-decodes d′ d .answer))
+one-refusal (initial-leak a d s) (empty-log b d′) = absurd (omega arith)
+one-refusal (initial-leak a d s) (initial-leak b d′ s′) = refl
+
+-- and where it has one it is not monitored
+not-both : {input t : List ℕ} {h : Header} {n : ℕ} → Refused input n → Monitored input t h → ⊥
+not-both (truncated a) m = omega (arith, m .event)
+not-both (not-decoded a d) m = not-accepted (one-decodes d (m .decodes) .answer)
+not-both (empty-log a d) m = omega (arith, m .event)
+not-both {h = h} (initial-leak {t = t′} {h = h′} a d s) m =
+    let same = one-decodes d (m .decodes) in
+    m .closed (subst (λ (x : List ℕ). OpenSecret x h) (same .table) (subst (λ (x : Header). OpenSecret t′ x) (same .header) s))
+
+-- there is one longest safe prefix
+one-release : (t : List ℕ) (h : Header) (trace : List ℕ) (r s : ℕ) → Released t h trace r → Released t h trace s → r ≡ s
+one-release t h trace r s x y = go (decLt r s) (decLt s r)
+  where
+    go : Dec (r < s) → Dec (s < r) → r ≡ s
+    go (yes a) b = absurd (x .longest s a (y .within) (y .safe))
+    go (no a) (yes b) = absurd (y .longest r b (x .within) (x .safe))
+    go (no a) (no b) = omega arith
+
+-- steps are printed from one verdict
+one-verdict : (v w : Verdict) → stepsOf v ≡ stepsOf w → v ≡ w
+one-verdict NoLeak NoLeak e = refl
+one-verdict NoLeak (Leak l) e = let z : _≡_ {A = ℕ} 0 1 = cc in absurd (omega arith)
+one-verdict (Leak l) NoLeak e = let z : _≡_ {A = ℕ} 0 1 = cc in absurd (omega arith)
+one-verdict (Leak l) (Leak m) e = cc
+
+one-right : (t : List ℕ) (h : Header) (trace : List ℕ) (v w v′ w′ : Steps) → Right t h trace v w → Right t h trace v′ w′ → (v ≡ v′) × (w ≡ w′)
+one-right t h trace v w v′ w′ x y = (x .weak v′ .1 (y .weak v′ .0 refl), x .strong w′ .1 (y .strong w′ .0 refl))
+
+-- the same lines, and the same events accepted and released
+record Alike (text text′ after after′ : List ℕ) (r r′ : ℕ) : Type 0 where
+  text-is : text ≡ text′
+  after-is : after ≡ after′
+  released-is : r ≡ r′
+
+module _ (t : List ℕ) (h : Header) where
+  print-more : (trace : List ℕ) (r : ℕ) (bytes : List ℕ) {text text′ after after′ : List ℕ} {k k′ : ℕ} → Prints t h trace r bytes text after k → Prints t h trace r bytes text′ after′ k′
+      → Alike text text′ after after′ k k′
+  print-more trace r bytes none none = record { text-is = refl; after-is = refl; released-is = refl }
+  print-more trace r bytes (not-observable {bytes = bs} {b = b} n p) (not-observable n′ p′) =
+      let y = print-more trace r bs p p′ in
+      record { text-is = ap (λ (l : List ℕ). refusedLine b NotObservable ++ l) (y .text-is); after-is = y .after-is; released-is = y .released-is }
+  print-more trace r bytes (not-observable n p) (incompatible o i p′) = absurd (n o)
+  print-more trace r bytes (not-observable n p) (accepted v f o po ri re p′) = absurd (n o)
+  print-more trace r bytes (incompatible o i p) (not-observable n p′) = absurd (n o)
+  print-more trace r bytes (incompatible {bytes = bs} {b = b} o i p) (incompatible o′ i′ p′) =
+      let y = print-more trace r bs p p′ in
+      record { text-is = ap (λ (l : List ℕ). refusedLine b Incompatible ++ l) (y .text-is); after-is = y .after-is; released-is = y .released-is }
+  print-more trace r bytes (incompatible o i p) (accepted v f o′ po ri re p′) = absurd (i (po .run) (po .compatible))
+  print-more trace r bytes (accepted v f o po ri re p) (not-observable n p′) = absurd (n o)
+  print-more trace r bytes (accepted v f o po ri re p) (incompatible o′ i p′) = absurd (i (po .run) (po .compatible))
+  print-more trace r bytes (accepted {bytes = bs} {b = b} v f o po ri re p) (accepted {text = text′} {after = after′} {r′ = k′} v′ f′ o′ po′ ri′ re′ p′) =
+      let same : f′ ≡ f = omega (arith, one-release t h (trace ++ b ∷ []) (r + f) (r + f′) re re′) in
+      let words = one-right t h (trace ++ b ∷ []) (stepsOf (v .weak)) (stepsOf (v .strong)) (stepsOf (v′ .weak)) (stepsOf (v′ .strong)) ri ri′ in
+      let weak = one-verdict (v .weak) (v′ .weak) (words .0) in
+      let strong = one-verdict (v .strong) (v′ .strong) (words .1) in
+      let y = print-more (trace ++ b ∷ []) (r + f) bs p (subst (λ (k : ℕ). Prints t h (trace ++ b ∷ []) (r + k) bs text′ after′ k′) same p′) in
+      record {
+        text-is = λ i. acceptedLine (length trace + 1) b (weak i) (strong i) (take (sym same i) (drop r (trace ++ b ∷ []))) ++ y .text-is i;
+        after-is = y .after-is;
+        released-is = y .released-is;
+      }
+
+pub one-output : (input : List ℕ) {a b : List ℕ} → Output input a → Output input b → a ≡ b
+one-output input (refused r x) (refused q y) =
+    ap (λ (n : ℕ). line ((114 ∷ 101 ∷ 102 ∷ 117 ∷ 115 ∷ 101 ∷ 100 ∷ []) ∷ decimal n ∷ [])) (one-refusal x y)
+one-output input (refused r x) (ended m p) = absurd (not-both x m)
+one-output input (ended m p) (refused r x) = absurd (not-both x m)
+one-output input (ended {t = t} {h = h} m p) (ended {t = t′} {text = text′} {trace = trace′} {h = h′} {r = r′} m′ p′) =
+    let same = one-decodes (m′ .decodes) (m .decodes) in
+    let here = subst (λ (x : List ℕ). Prints x h [] 0 (eventsOf input) text′ trace′ r′) (same .table) (subst (λ (x : Header). Prints t′ x [] 0 (eventsOf input) text′ trace′ r′) (same .header) p′) in
+    let y = print-more t h [] 0 (eventsOf input) p here in
+    λ i. y .text-is i ++ endLine (length (y .after-is i)) (y .released-is i) (length (y .after-is i) - y .released-is i)

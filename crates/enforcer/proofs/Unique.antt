@@ -14,7 +14,7 @@ use Rattle.enforcer.specs.Enforcers.{Padded, Grown}
 use Rattle.enforcer.specs.declared.Enforcer.{Enforcer}
 
 -- there is one longest safe prefix
-one-longest : (S : List ℕ → ℕ → Type 0) (trace : List ℕ) (r s : ℕ) → Longest S trace r → Longest S trace s → r ≡ s
+pub one-longest : (S : List ℕ → ℕ → Type 0) (trace : List ℕ) (r s : ℕ) → Longest S trace r → Longest S trace s → r ≡ s
 one-longest S trace r s x y = go (decLt r s) (decLt s r)
   where
     go : Dec (r < s) → Dec (s < r) → r ≡ s

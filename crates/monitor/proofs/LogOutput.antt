@@ -33,7 +33,7 @@ use Rattle.monitor.specs.Running as running
 use Rattle.monitor.specs.Running.{Front, takenBy, writtenBy, Follows, all, stops, call, Runs}
 use Rattle.monitor.specs.declared.Monitor.{Monitor}
 use Rattle.monitor.proofs.Following.{lines-append, lines-count}
-use Rattle.monitor.proofs.Openings.{decoded-sound}
+use Rattle.encoding.proofs.Listing.{decoded-sound}
 use Rattle.monitor.proofs.LogPromise.{log-promise}
 use Rattle.monitor.proofs.OneOutput.{one-output}
 

@@ -3,7 +3,6 @@ use mathlib.Core.Path.{_≡_, refl, sym, ap, subst}
 use mathlib.Core.List.{List, [], _∷_, _++_}
 use Prim.Native.Nat.{ℕ, _+_, _-_, _<_}
 use native.Mathlib.Omega.{arith}
-use native.Mathlib.Decide.{decLt}
 use lib.ListN.{length, take, drop}
 use Rattle.automaton.specs.declared.Header.{Header}
 use Rattle.encoding.specs.Decoding.{Outcome, accept, refuse, Decoding}
@@ -12,10 +11,11 @@ use Rattle.verifier.specs.declared.Verdict.{Verdict}
 use Rattle.verifier.specs.declared.Verdict.the-variants.{NoLeak, Leak}
 use Rattle.verifier.specs.Verdicts.{Steps, stepsOf}
 use Rattle.verifier.specs.Calls.{Right}
+use Rattle.enforcer.proofs.Unique.{one-longest}
 use Rattle.report.specs.Text.{decimal, line, acceptedLine, refusedLine, endLine}
 use Rattle.automaton.specs.declared.Refusal.the-variants.{NotObservable, Incompatible}
 use Rattle.monitor.specs.Opening.{encodingOf, Decodes}
-use Rattle.monitor.specs.LogText.{Released, Prints, none, not-observable, incompatible, accepted}
+use Rattle.monitor.specs.LogText.{Prints, none, not-observable, incompatible, accepted}
 use Rattle.monitor.specs.Log.{eventsOf, OpenSecret, Refused, truncated, not-decoded, empty-log, initial-leak, Monitored, Output, refused, ended}
 
 -- the table after decoding, which found the table b
@@ -66,15 +66,6 @@ not-both {h = h} (initial-leak {t = t′} {h = h′} a d s) m =
     let same = one-decodes d (m .decodes) in
     m .closed (subst (λ (x : List ℕ). OpenSecret x h) (same .table) (subst (λ (x : Header). OpenSecret t′ x) (same .header) s))
 
--- there is one longest safe prefix
-one-release : (t : List ℕ) (h : Header) (trace : List ℕ) (r s : ℕ) → Released t h trace r → Released t h trace s → r ≡ s
-one-release t h trace r s x y = go (decLt r s) (decLt s r)
-  where
-    go : Dec (r < s) → Dec (s < r) → r ≡ s
-    go (yes a) b = absurd (x .longest s a (y .within) (y .safe))
-    go (no a) (yes b) = absurd (y .longest r b (x .within) (x .safe))
-    go (no a) (no b) = omega arith
-
 -- steps are printed from one verdict
 one-verdict : (v w : Verdict) → stepsOf v ≡ stepsOf w → v ≡ w
 one-verdict NoLeak NoLeak e = refl
@@ -108,7 +99,7 @@ module _ (t : List ℕ) (h : Header) where
   print-more trace r bytes (accepted v f o po ri re p) (not-observable n p′) = absurd (n o)
   print-more trace r bytes (accepted v f o po ri re p) (incompatible o′ i p′) = absurd (i (po .run) (po .compatible))
   print-more trace r bytes (accepted {bytes = bs} {b = b} v f o po ri re p) (accepted {text = text′} {after = after′} {r′ = k′} v′ f′ o′ po′ ri′ re′ p′) =
-      let same : f′ ≡ f = omega (arith, one-release t h (trace ++ b ∷ []) (r + f) (r + f′) re re′) in
+      let same : f′ ≡ f = omega (arith, one-longest _ (trace ++ b ∷ []) (r + f) (r + f′) re re′) in
       let words = one-right t h (trace ++ b ∷ []) (stepsOf (v .weak)) (stepsOf (v .strong)) (stepsOf (v′ .weak)) (stepsOf (v′ .strong)) ri ri′ in
       let weak = one-verdict (v .weak) (v′ .weak) (words .0) in
       let strong = one-verdict (v .strong) (v′ .strong) (words .1) in

@@ -56,6 +56,7 @@ unsafe extern "C" fn no_offer(
 pub const NOTHING: Functions = Functions { decode: no_decode, fresh: no_fresh, accept: no_accept, start: no_start, offer: no_offer };
 
 pub const WEAK: u8 = 0;
+pub const STRONG: u8 = 1;
 
 /// What a gateway lends: the table, the header, the saved states and what is written for it.
 pub struct Library {

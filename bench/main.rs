@@ -58,7 +58,9 @@ struct Compared {
     /// Events with a leak, weak and strong.
     weak: usize,
     strong: usize,
+    /// Released by the weak and by the strong enforcer.
     releases: usize,
+    strong_releases: usize,
     /// Events after which (c) was compared too.
     textbook: usize,
 }
@@ -74,6 +76,13 @@ fn compare(case: &Case, compared: &mut Compared) {
     }
     a.start(library::WEAK);
     let mut enforcer = native::Enforcer::start(automaton);
+    // A strong enforcer runs beside the weak one, where the start is no strong leak.
+    let runs_strong = opening[1] == native::NONE;
+    let mut a_strong = Library::new(automaton);
+    let mut strong_enforcer = native::Enforcer::start(automaton);
+    if runs_strong {
+        a_strong.start(library::STRONG);
+    }
     let mut c = Trajectories::<true>::new(automaton, CAP);
     c.fresh();
     let mut c_weak = Trajectories::<false>::new(automaton, CAP);
@@ -92,7 +101,14 @@ fn compare(case: &Case, compared: &mut Compared) {
             if x != y || x.is_err() != refused {
                 differ(case, "accept", i, x, y);
             }
-            let (x, y) = (a.offer(byte), enforcer.offer(automaton, byte));
+            if runs_strong {
+                let (x, y) = (a_strong.offer(byte), strong_enforcer.offer::<true>(automaton, byte));
+                if x != y || x.is_err() != refused {
+                    differ(case, "strong offer", i, x, y);
+                }
+                compared.strong_releases += x.map_or(0, |released| released.len());
+            }
+            let (x, y) = (a.offer(byte), enforcer.offer::<false>(automaton, byte));
             if x != y || x.is_err() != refused {
                 differ(case, "offer", i, x, y);
             }
@@ -172,13 +188,13 @@ fn measure_offer(automaton: &Automaton, trace: &[u8], repetitions: usize) -> [f6
         &mut || {
             let mut b = native::Enforcer::start(automaton);
             for &event in trace {
-                let _ = black_box(b.offer(black_box(automaton), black_box(event)));
+                let _ = black_box(b.offer::<false>(black_box(automaton), black_box(event)));
             }
         },
         &mut || {
             let mut b = native::Enforcer::start(automaton);
             for &event in trace {
-                let _ = black_box(b.offer_with(automaton, black_box(&mut kept), black_box(event)));
+                let _ = black_box(b.offer_with::<false>(automaton, black_box(&mut kept), black_box(event)));
             }
         },
     ])
@@ -356,11 +372,17 @@ fn main() {
     }
 
     println!("Compared event by event: verdicts, releases and refusals of (a) and (b) are the same, and the verdicts of (c) as far as it gets.");
-    println!("{:<14} {:>8} {:>10} {:>12} {:>10} {:>10} {:>12}", "automaton", "events", "weak leaks", "strong leaks", "released", "refusals", "(c) events");
+    println!(
+        "{:<14} {:>8} {:>10} {:>12} {:>10} {:>10} {:>10} {:>12}",
+        "automaton", "events", "weak leaks", "strong leaks", "released", "strongly", "refusals", "(c) events"
+    );
     let report = |name: &str, cases: &[Case]| {
         let mut all = Compared::default();
         cases.iter().for_each(|case| compare(case, &mut all));
-        println!("{name:<14} {:>8} {:>10} {:>12} {:>10} {:>10} {:>12}", all.events, all.weak, all.strong, all.releases, all.refusals, all.textbook);
+        println!(
+            "{name:<14} {:>8} {:>10} {:>12} {:>10} {:>10} {:>10} {:>12}",
+            all.events, all.weak, all.strong, all.releases, all.strong_releases, all.refusals, all.textbook
+        );
     };
     for case in cases.chunks(1) {
         report(case[0].name, case);

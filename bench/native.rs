@@ -241,7 +241,7 @@ impl Estimator {
     }
 }
 
-/// A weak enforcer: pending events in a ring, each with the number of accepted events at which its wait is over.
+/// An enforcer, weak or strong: pending events in a ring, each with the number of accepted events at which its wait is over.
 pub struct Enforcer {
     estimator: Estimator,
     accepted: u64,
@@ -257,14 +257,15 @@ impl Enforcer {
         Enforcer { estimator: Estimator::fresh(automaton), accepted: 0, first: 0, count: 0, pending: [0; 32], due: [0; 32], output: [0; 17] }
     }
 
-    pub fn offer(&mut self, automaton: &Automaton, event: u8) -> Result<&[u8], u8> {
-        self.offer_with(automaton, &mut Silent::new(automaton), event)
+    pub fn offer<const STRONG: bool>(&mut self, automaton: &Automaton, event: u8) -> Result<&[u8], u8> {
+        self.offer_with::<STRONG>(automaton, &mut Silent::new(automaton), event)
     }
 
-    pub fn offer_with(&mut self, automaton: &Automaton, silent: &mut Silent, event: u8) -> Result<&[u8], u8> {
+    pub fn offer_with<const STRONG: bool>(&mut self, automaton: &Automaton, silent: &mut Silent, event: u8) -> Result<&[u8], u8> {
         self.estimator.push(automaton, silent, event)?;
-        let [weak, _] = self.estimator.look_back::<false>(automaton, silent);
-        let wait = if weak == NONE { 0 } else { automaton.k + 1 - weak };
+        let [weak, strong] = self.estimator.look_back::<STRONG>(automaton, silent);
+        let steps = if STRONG { strong } else { weak };
+        let wait = if steps == NONE { 0 } else { automaton.k + 1 - steps };
         self.accepted += 1;
         let last = (self.first + self.count) % 32;
         self.pending[last] = event;

@@ -91,11 +91,14 @@ module _ (R : ℕ → ℕ → Type 0) (from : ℕ) where
         row y l (yes b) d = other y l (λ i. omega (arith, M .sound y i .0)) (p .old y (inl b))
         row y l (no a) (no b) = other y l (λ i. omega (arith, M .sound y i .1)) (p .old y (inr (omega arith)))
         row y l (no a) (yes b) =
-            let at : getD after y 0 ≡ getD eight (y - first) 0 = sym (ap (λ (z : ℕ). getD after z 0) (place y (omega arith))) ∙ p .new (y - first) (omega arith) in
+            let e′ = place y (omega arith) in
+            let at : getD after y 0 ≡ bitOr (getD rows y 0) (getD eight (y - first) 0) =
+            subst (λ (z : ℕ). getD after z 0 ≡ bitOr (getD rows z 0) (getD eight (y - first) 0)) e′ (p .new (y - first) (omega arith)) in
             let w = e (y - first) (omega arith) in
+            let in-mask = or-r y known mask (M .whole y (omega arith, b)) in
             rw at (record {
-              sound = λ r i. (or-r y known mask (M .whole y (omega arith, b)), subst (λ (z : ℕ). R z r) (place y (omega arith)) (w .sound r i));
-              whole = λ r m. w .whole r (subst (λ (z : ℕ). R z r) (sym (place y (omega arith))) (m .1));
+              sound = λ r i. ⊎-elim (λ j. (in-mask, x .rows-are .each y l .sound r j .1)) (λ j. (in-mask, subst (λ (z : ℕ). R z r) e′ (w .sound r j))) (in-or r (getD rows y 0) (getD eight (y - first) 0) i);
+              whole = λ r m. or-r r (getD rows y 0) (getD eight (y - first) 0) (w .whole r (subst (λ (z : ℕ). R z r) (sym e′) (m .1)));
             })
 
     pub explore-less : 2 ^ 64 - bitOr known mask < 2 ^ 64 - known

@@ -115,16 +115,18 @@ fn eight_rows(table: &[u64], events: u32, first: usize) -> [u64; 8]
     rows
 }
 
-// Puts the rows of eight states to their places, from `first` on. What comes back is all that they lead to.
+// Joins the rows of eight states to those at their places, from `first` on. What comes back is all that they lead to. (The bound is read from the
+// slice, which has 64 words: with one that is known to it the compiler would keep the eight words apart, and `eight_rows` would take one at a time.)
 fn put_rows(rows: &mut [u64], first: usize, eight: [u64; 8]) -> u64
     requires { ⌜ (length (now rows) ≡ 64) × (first ≤ 56) ⌝ }
     ensures { λ r. ⌜ Put (now (rows .entry)) first eight (now (rows .exit)) r ⌝ }
 {
+    let n = rows.len() / 8;
     let mut to: u64 = 0;
     let mut i: usize = 0;
-    while i < 8 {
+    while i < n {
         let row = eight[i];
-        rows[first + i] = row;
+        rows[first + i] |= row;
         to |= row;
         i += 1;
     }

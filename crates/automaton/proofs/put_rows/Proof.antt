@@ -1,19 +1,19 @@
 -- `automaton::put_rows` meets its contract. The invariant is `Placing`. Assumes nothing.
-use mathlib.Core.Path.{_∙_}
 use Prim.Native.Nat.{_-_}
+use mathlib.Core.Path.{_≡_}
 use native.Mathlib.Omega.{arith}
 use Rattle.automaton.proofs.Placing.{Placing, placing-start, placing-turn, placing-end}
 use Rattle.automaton.proofs.put_rows.Statement.{statement}
 use Rattle.automaton.proofs.put_rows.Tie as tie
 
 abbrev Inv-loop : tie.InvT-loop
-Inv-loop rows₀ first eight to₀ i₀ rows to i = Placing rows₀ first eight rows to i
+Inv-loop rows₀ first eight n to₀ i₀ rows to i = (n ≡ 8) × Placing rows₀ first eight rows to i
 
 abbrev μ-loop : tie.MeasureT-loop
-μ-loop rows₀ first eight to₀ i₀ rows to i = 8 - i
+μ-loop rows₀ first eight n to₀ i₀ rows to i = 8 - i
 
 loop-holds : tie.Need-loop-holds Inv-loop μ-loop
-loop-holds c = placing-start _ _ _
+loop-holds c = (omega (arith, c .pre .0), placing-start _ _ _)
 
 mul-row : tie.Need-mul-row Inv-loop μ-loop
 mul-row c = omega arith
@@ -27,8 +27,11 @@ add-rows c = omega arith
 mul-rows : tie.Need-mul-rows Inv-loop μ-loop
 mul-rows c = omega arith
 
+slice-read-rows : tie.Need-slice-read-rows Inv-loop μ-loop
+slice-read-rows c = omega (arith, c .before .before .loop .inv .1 .size, c .before .before .before .pre .0)
+
 slice-write-rows : tie.Need-slice-write-rows Inv-loop μ-loop
-slice-write-rows c = omega (arith, c .before .loop .inv .size, c .before .before .pre .0)
+slice-write-rows c = omega (arith, c .before .before .loop .inv .1 .size, c .before .before .before .pre .0)
 
 add-i : tie.Need-add-i Inv-loop μ-loop
 add-i c = omega arith
@@ -37,13 +40,15 @@ loop-less : tie.Need-loop-less Inv-loop μ-loop
 loop-less c = omega arith
 
 loop-again : tie.Need-loop-again Inv-loop μ-loop
-loop-again c = placing-turn _ _ _ _ _ _ (omega arith) (omega (arith, c .before .before .pre .0)) (c .before .loop .inv)
+loop-again c =
+    let l = c .before .before .loop in
+    (l .inv .0, placing-turn _ _ _ _ _ _ (omega arith) (omega (arith, c .before .before .before .pre .0)) (l .inv .1))
 
 same-length : tie.Need-same-length Inv-loop μ-loop
-same-length c = c .before .loop .inv .size
+same-length c = c .before .loop .inv .1 .size
 
 returns : tie.Need-returns Inv-loop μ-loop
-returns c = placing-end _ _ _ _ _ _ (omega (arith, c .before .loop .inv .few)) (c .before .loop .inv)
+returns c = placing-end _ _ _ _ _ _ (omega (arith, c .before .loop .inv .1 .few)) (c .before .loop .inv .1)
 
 pub put-rows-spec : {M : Type 1} → statement M
 put-rows-spec =
@@ -56,6 +61,7 @@ put-rows-spec =
     array-read-row
     add-rows
     mul-rows
+    slice-read-rows
     slice-write-rows
     add-i
     loop-less

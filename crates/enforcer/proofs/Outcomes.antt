@@ -12,7 +12,7 @@ use Rattle.verifier.specs.declared.Verdicts.{Verdicts}
 use Rattle.verifier.specs.declared.Estimator.{Estimator}
 use Rattle.verifier.specs.Verdicts.{stepsOf, Tells}
 use Rattle.verifier.specs.Replies as verifier
-use Rattle.verifier.specs.Replies.{Accepting, AcceptedBy}
+use Rattle.verifier.specs.Replies.{Accepting, Moved, TellsBy}
 use Rattle.enforcer.specs.Enforcers.{Limits, Grown}
 use Rattle.enforcer.specs.Offerings.{refused, said, Offering, Exact, not-observable, incompatible, accepted}
 use Rattle.verifier.specs.Replies.{chosen}
@@ -36,23 +36,23 @@ chosen-tells Weak t h trace v s x = x .weak
 chosen-tells Strong t h trace v s x = x .strong
 
 pub taken-outcome : (t : List ℕ) (h : Header) (self : Enforcer) (byte : ℕ) (output : List ℕ) (v : Verdict) (s : Estimator) (r : OfferAnswer) (after : Enforcer) (left : List ℕ)
-    → Sound t h → Limits (h .k) self → 17 ≤ length output → AcceptedBy (self .notion) t h (self .estimator) byte (stepsOf v) s
+    → Sound t h → Limits (h .k) self → 17 ≤ length output → Moved t h (self .estimator) byte s → TellsBy (self .notion) t h (self .estimator) byte (stepsOf v)
     → Took (h .k) self s (waitOf (h .k) (stepsOf v)) byte output r after left → Offering t h self byte output (said r) after left
-taken-outcome t h self byte output v s (offer.Refused r) after left so li wide acc took = absurd took
-taken-outcome t h self byte output v s (offer.Released f) after left so li wide acc took =
+taken-outcome t h self byte output v s (offer.Refused r) after left so li wide moved told took = absurd took
+taken-outcome t h self byte output v s (offer.Released f) after left so li wide moved told took =
     let enough = took .shifted .ready .enough in
     let bal = took .shifted .balance in
-    let ob = acc .observable in
+    let ob = moved .observable in
     let limits : Limits (h .k) after = record {
-      estimator = rw (took .estimator-is) (acc .limits-after);
+      estimator = rw (took .estimator-is) (moved .limits-after);
       few = omega arith;
       small = took .small (omega (arith, ob .event-small)) (li .small);
     } in
     accepted so li wide ob limits (took .shifted .balance) (took .front) (took .shifted .rest)
     (λ notion trace g.
-    let x = acc .exact trace (g .estimator) in
-    let tells : Tells notion (automatonOf t h) (h .secret) (h .k) (trace ++ byte ∷ []) (stepsOf v) = rw (← g .under) (x .tells) in
+    let n = moved .grown trace (g .estimator) in
+    let tells : Tells notion (automatonOf t h) (h .secret) (h .k) (trace ++ byte ∷ []) (stepsOf v) = rw (← g .under) (told .tells trace (g .estimator)) in
     record {
-      possible = x .possible;
-      grown = grown-next notion (automatonOf t h) (h .secret) (h .k) trace self s (stepsOf v) byte output f after left g tells took (x .possible) (x .grown) limits;
+      possible = n .possible;
+      grown = grown-next notion (automatonOf t h) (h .secret) (h .k) trace self s (stepsOf v) byte output f after left g tells took (n .possible) n limits;
     })

@@ -59,20 +59,18 @@ fn wait(k: u8, verdict: Verdict) -> u8
     k + 1 - l
 }
 
-// The first `count` of the events, and one more.
-fn joined(pending: [u8; 16], count: u8, byte: u8) -> [u8; 17]
-    requires { ⌜ count ≤ 16 ⌝ }
-    ensures { λ r. ⌜ (length pending ≡ 16) × ((i : ℕ) → i < count → getD r i 0 ≡ getD pending i 0) × (getD r count 0 ≡ byte) ⌝ }
+// Writes the first `count` of the events, and one more, to the front of the array that is lent.
+fn joined(pending: [u8; 16], count: u8, byte: u8, to: &mut [u8])
+    requires { ⌜ (count ≤ 16) × (length (now to) ≡ 17) ⌝ }
+    ensures { λ r. ⌜ (length pending ≡ 16) × ((i : ℕ) → i < count → getD (now (to .exit)) i 0 ≡ getD pending i 0) × (getD (now (to .exit)) count 0 ≡ byte) ⌝ }
 {
-    let mut r = [0u8; 17];
     let n = count as usize;
     let mut i: usize = 0;
     while i < n {
-        r[i] = pending[i];
+        to[i] = pending[i];
         i += 1;
     }
-    r[n] = byte;
-    r
+    to[n] = byte;
 }
 
 fn one_less(w: u8) -> u8
@@ -84,27 +82,25 @@ fn one_less(w: u8) -> u8
     0
 }
 
-// The first `count` of the waits, each one less, and one more.
-fn nearer(waits: [u8; 16], count: u8, wait: u8) -> [u8; 17]
-    requires { ⌜ count ≤ 16 ⌝ }
-    ensures { λ r. ⌜ ((i : ℕ) → i < count → getD r i 0 ≡ getD waits i 0 - 1) × (getD r count 0 ≡ wait) ⌝ }
+// Writes the first `count` of the waits, each one less, and one more, to the front of the array that is lent.
+fn nearer(waits: [u8; 16], count: u8, wait: u8, to: &mut [u8])
+    requires { ⌜ (count ≤ 16) × (length (now to) ≡ 17) ⌝ }
+    ensures { λ r. ⌜ ((i : ℕ) → i < count → getD (now (to .exit)) i 0 ≡ getD waits i 0 - 1) × (getD (now (to .exit)) count 0 ≡ wait) ⌝ }
 {
-    let mut r = [0u8; 17];
     let n = count as usize;
     let mut i: usize = 0;
     while i < n {
         let w = waits[i];
-        r[i] = one_less(w);
+        to[i] = one_less(w);
         i += 1;
     }
-    r[n] = wait;
-    r
+    to[n] = wait;
 }
 
 // How many of the first `n` waits are over, up to the first that is not.
-fn leading(waits: [u8; 17], n: u8) -> u8
-    requires { ⌜ n ≤ 17 ⌝ }
-    ensures { λ r. ⌜ (r ≤ n) × ((i : ℕ) → i < r → getD waits i 0 ≡ 0) × (r < n → getD waits r 0 ≡ 0 → ⊥) ⌝ }
+fn leading(waits: &[u8], n: u8) -> u8
+    requires { ⌜ n ≤ length (now waits) ⌝ }
+    ensures { λ r. ⌜ (r ≤ n) × ((i : ℕ) → i < r → getD (now (waits .entry)) i 0 ≡ 0) × (r < n → getD (now (waits .entry)) r 0 ≡ 0 → ⊥) ⌝ }
 {
     let mut i: u8 = 0;
     while i < n {
@@ -118,9 +114,9 @@ fn leading(waits: [u8; 17], n: u8) -> u8
 }
 
 // How many go: those whose waits are over, up to the first that is not; at least one where the enforcer is full.
-fn ready(soon: [u8; 17], count: u8, k: u8) -> u8
-    requires { ⌜ (k ≤ 15) × (count ≤ k + 1) ⌝ }
-    ensures { λ r. ⌜ Ready k count soon r ⌝ }
+fn ready(soon: &[u8], count: u8, k: u8) -> u8
+    requires { ⌜ (k ≤ 15) × (count ≤ k + 1) × (count < length (now soon)) ⌝ }
+    ensures { λ r. ⌜ Ready k count (now (soon .entry)) r ⌝ }
 {
     let n = leading(soon, count + 1);
     if n == 0 {
@@ -132,9 +128,9 @@ fn ready(soon: [u8; 17], count: u8, k: u8) -> u8
 }
 
 // What follows the first `from`, up to `n`; 0 behind it.
-fn rest(a: [u8; 17], from: u8, n: u8) -> [u8; 16]
-    requires { ⌜ (from ≤ n) × (n ≤ from + 16) × (n ≤ 17) ⌝ }
-    ensures { λ r. ⌜ Padded 16 (n - from) r × ((i : ℕ) → i < n - from → getD r i 0 ≡ getD a (from + i) 0) ⌝ }
+fn rest(a: &[u8], from: u8, n: u8) -> [u8; 16]
+    requires { ⌜ (from ≤ n) × (n ≤ from + 16) × (n ≤ length (now a)) ⌝ }
+    ensures { λ r. ⌜ Padded 16 (n - from) r × ((i : ℕ) → i < n - from → getD r i 0 ≡ getD (now (a .entry)) (from + i) 0) ⌝ }
 {
     let mut r = [0u8; 16];
     let f = from as usize;
@@ -148,9 +144,9 @@ fn rest(a: [u8; 17], from: u8, n: u8) -> [u8; 16]
 }
 
 // The first `n` go to the front of the output.
-fn release(a: [u8; 17], n: u8, output: &mut [u8])
-    requires { ⌜ (n ≤ 17) × (17 ≤ length (now output)) ⌝ }
-    ensures { λ r. ⌜ now (output .exit) ≡ take n a ++ drop n (now (output .entry)) ⌝ }
+fn release(a: &[u8], n: u8, output: &mut [u8])
+    requires { ⌜ (n ≤ length (now a)) × (n ≤ length (now output)) ⌝ }
+    ensures { λ r. ⌜ now (output .exit) ≡ take n (now (a .entry)) ++ drop n (now (output .entry)) ⌝ }
 {
     let m = n as usize;
     let mut i: usize = 0;
@@ -228,12 +224,14 @@ impl Enforcer {
         let notion = self.notion;
         let pending = self.pending;
         let waits = self.waits;
-        let events = joined(pending, count, byte);
-        let soon = nearer(waits, count, w);
-        let f = ready(soon, count, k);
-        release(events, f, output);
-        let pending_after = rest(events, f, count + 1);
-        let waits_after = rest(soon, f, count + 1);
+        let mut events = [0u8; 17];
+        joined(pending, count, byte, &mut events);
+        let mut soon = [0u8; 17];
+        nearer(waits, count, w, &mut soon);
+        let f = ready(&soon, count, k);
+        release(&events, f, output);
+        let pending_after = rest(&events, f, count + 1);
+        let waits_after = rest(&soon, f, count + 1);
         Given {
             enforcer: Enforcer {
                 estimator: estimator,

@@ -5,5 +5,5 @@ pub mod Entries
 pub mod Inverse
 pub mod Sizes
 pub mod Numbered
-pub mod Feeding
+pub mod SavedSteps
 pub mod SavedPoints

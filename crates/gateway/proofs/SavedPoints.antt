@@ -21,11 +21,11 @@ use Rattle.enforcer.specs.Offers as enforcer
 use Rattle.enforcer.proofs.ThirdPoint.{third-point}
 use Rattle.gateway.specs.Layout.{headerAt, estimatorAt, notionAt, enforcerAt}
 use Rattle.gateway.specs.Interface.{Decode, Fresh, Start}
-use Rattle.gateway.specs.Feeds.{AcceptCall, AcceptCalls, weakAt, strongAt, callsOf, OfferCall, OfferCalls, offersOf}
+use Rattle.gateway.specs.SavedCalls.{AcceptCall, AcceptCalls, weakAt, strongAt, callsOf, OfferCall, OfferCalls, offersOf}
 use Rattle.gateway.proofs.Inverse.{header-length, verdict-back}
 use Rattle.gateway.proofs.Sizes.{decoded-header-back, grown-estimator-back, grown-enforcer-back}
 use Rattle.gateway.proofs.Numbered.{not-zero}
-use Rattle.gateway.proofs.Feeding.{keeps-estimator, accept-calls, keeps-enforcer, offer-calls}
+use Rattle.gateway.proofs.SavedSteps.{keeps-estimator, accept-calls, keeps-enforcer, offer-calls}
 
 -- what `headerAt header` is below: after a decode that answered 0 the header's bytes hold the header that was encoded, and the table its transitions
 pub saved-header : (encoding table before t header : List ℕ) → Decode encoding table before 0 t header → Decoding encoding table (headerAt header) accept t

@@ -16,7 +16,7 @@ use Rattle.report.specs.Text.{decimal, line, acceptedLine, refusedLine, endLine
 use Rattle.automaton.specs.declared.Refusal.the-variants.{NotObservable, Incompatible}
 use Rattle.monitor.specs.Opening.{encodingOf, Decodes}
 use Rattle.monitor.specs.LogText.{Prints, none, not-observable, incompatible, accepted}
-use Rattle.monitor.specs.Log.{eventsOf, OpenSecret, Refused, truncated, not-decoded, empty-log, initial-leak, Monitored, Output, refused, ended}
+use Rattle.monitor.specs.Log.{eventsOf, InitialLeak, Refused, truncated, not-decoded, empty-log, initial-leak, Monitored, Output, refused, ended}
 
 -- the table after decoding, which found the table b
 abbrev left : Outcome → (b t : List ℕ) → List ℕ
@@ -64,7 +64,7 @@ not-both (not-decoded a d) m = not-accepted (one-decodes d (m .decodes) .answer)
 not-both (empty-log a d) m = omega (arith, m .event)
 not-both {h = h} (initial-leak {t = t′} {h = h′} a d s) m =
     let same = one-decodes d (m .decodes) in
-    m .closed (subst (λ (x : List ℕ). OpenSecret x h) (same .table) (subst (λ (x : Header). OpenSecret t′ x) (same .header) s))
+    m .closed (subst (λ (x : List ℕ). InitialLeak x h) (same .table) (subst (λ (x : Header). InitialLeak t′ x) (same .header) s))
 
 -- steps are printed from one verdict
 one-verdict : (v w : Verdict) → stepsOf v ≡ stepsOf w → v ≡ w

@@ -13,12 +13,11 @@ use Rattle.encoding.specs.Decoding.{Outcome, accept, Decoding}
 use Rattle.enforcer.specs.declared.Enforcer.{Enforcer}
 use Rattle.enforcer.specs.Offerings as enforcer
 use Rattle.enforcer.specs.Offerings.{Starting}
-use Rattle.monitor.specs.Stepping.{Balanced}
-use Rattle.monitor.specs.Opening.{Said, refused, started, frontSize, Decodes, Opening, opened, Begun, leaks, begun}
+use Rattle.monitor.specs.Opening.{Said, refused, started, frontSize, Decodes, NoMonitor, Opening, opened, Begun, leaks, begun}
 use Rattle.monitor.specs.declared.Monitor.{Monitor}
 
 pub not-begun : (t : List ℕ) (h : Header) (events n : ℕ) (e : Enforcer) (t′ : List ℕ) (h′ : Header) (m : Monitor) → Sound t h
-    → Starting t h Weak (enforcer.not-started n) e → (Balanced m → ⊥) → Begun t h events (refused n) t′ h′ m
+    → Starting t h Weak (enforcer.not-started n) e → NoMonitor h′ m → Begun t h events (refused n) t′ h′ m
 not-begun t h events n e t′ h′ m so (Starting.malformed bad out) b = absurd (bad so)
 not-begun t h events n e t′ h′ m so (Starting.initial-leak so′ tells out) b = leaks (Starting.initial-leak so′ tells out) b
 

@@ -20,21 +20,21 @@ abbrev pub eventsOf : List ℕ → List ℕ
 eventsOf input = take 4294967295 (drop (frontSize input) input)
 
 -- 01's Open secret: the empty list gives leak 0
-abbrev pub OpenSecret : List ℕ → Header → Type 0
-OpenSecret t h = LeakAt Weak (automatonOf t h) (h .secret) (h .k) [] 0
+abbrev pub InitialLeak : List ℕ → Header → Type 0
+InitialLeak t h = LeakAt Weak (automatonOf t h) (h .secret) (h .k) [] 0
 
 -- a log that is refused, in 01's order: 1, those of the encoding (01: description), 11, 8
 pub data Refused (input : List ℕ) : ℕ → Type 0 where
   truncated : length input < frontSize input → Refused input 1
   not-decoded : {n : ℕ} {t : List ℕ} {h : Header} → frontSize input ≤ length input → Decodes input h (refuse n) t → Refused input n
   empty-log : {t : List ℕ} {h : Header} → length input ≡ frontSize input → Decodes input h accept t → Refused input 11
-  initial-leak : {t : List ℕ} {h : Header} → frontSize input < length input → Decodes input h accept t → OpenSecret t h → Refused input 8
+  initial-leak : {t : List ℕ} {h : Header} → frontSize input < length input → Decodes input h accept t → InitialLeak t h → Refused input 8
 
 -- a log that is not, and its automaton
 pub record Monitored (input t : List ℕ) (h : Header) : Type 0 where
   pub event : frontSize input < length input
   pub decodes : Decodes input h accept t
-  pub closed : OpenSecret t h → ⊥
+  pub closed : InitialLeak t h → ⊥
 
 -- the output: the one line of a refused log; else a line for each event byte, in order, and last `end`, accepted, released and pending (01: freed, held)
 pub data Output (input : List ℕ) : List ℕ → Type 0 where

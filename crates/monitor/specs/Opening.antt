@@ -11,7 +11,7 @@ use Rattle.verifier.specs.Estimators as estimators
 use Rattle.encoding.specs.Decoding.{Outcome, accept, refuse, Decoding}
 use Rattle.enforcer.specs.declared.Enforcer.{Enforcer}
 use Rattle.enforcer.specs.Enforcers as enforcers
-use Rattle.enforcer.specs.Offerings.{Starting, not-started}
+use Rattle.enforcer.specs.Offerings.{Starting, not-started, Unusable}
 use Rattle.monitor.specs.Stepping.{Balanced}
 use Rattle.monitor.specs.declared.Monitor.{Monitor}
 use Rattle.monitor.specs.declared.OpenAnswer.{OpenAnswer}
@@ -47,17 +47,24 @@ pub record Decodes (log : List ℕ) (h : Header) (answer : Outcome) (t : List �
   pub words : length before ≡ 2048
   pub decoding : Decoding (encodingOf log) before h answer t
 
--- the start of a log, in the order of its refusals: 1, those of the encoding, 11, 8. A refused one hands back a monitor that takes no byte
+-- what a refused log hands back: a header, an estimator and an enforcer that are outside their limits on every automaton, and a monitor that takes no byte
+pub record NoMonitor (h : Header) (m : Monitor) : Type 0 where
+  pub header : 15 < h .k
+  pub estimator : (K : ℕ) → K ≤ 15 → estimators.Limits K (m .estimator) → ⊥
+  pub enforcer : Unusable (m .enforcer)
+  pub counts : Balanced m → ⊥
+
+-- the start of a log, in the order of its refusals: 1, those of the encoding, 11, 8
 pub data Opening (log : List ℕ) : Said → (table : List ℕ) → Header → Monitor → Type 0 where
-  truncated : {t : List ℕ} {h : Header} {m : Monitor} → length log < frontSize log → (Balanced m → ⊥) → Opening log (refused 1) t h m
-  not-decoded : {n : ℕ} {t t′ : List ℕ} {h h′ : Header} {m : Monitor} → frontSize log ≤ length log → Decodes log h′ (refuse n) t′ → (Balanced m → ⊥)
+  truncated : {t : List ℕ} {h : Header} {m : Monitor} → length log < frontSize log → NoMonitor h m → Opening log (refused 1) t h m
+  not-decoded : {n : ℕ} {t t′ : List ℕ} {h h′ : Header} {m : Monitor} → frontSize log ≤ length log → Decodes log h′ (refuse n) t′ → NoMonitor h m
       → Opening log (refused n) t h m
-  empty-log : {t t′ : List ℕ} {h h′ : Header} {m : Monitor} → length log ≡ frontSize log → Decodes log h′ accept t′ → (Balanced m → ⊥) → Opening log (refused 11) t h m
+  empty-log : {t t′ : List ℕ} {h h′ : Header} {m : Monitor} → length log ≡ frontSize log → Decodes log h′ accept t′ → NoMonitor h m → Opening log (refused 11) t h m
   initial-leak : {t t′ : List ℕ} {h h′ : Header} {m : Monitor} {e : Enforcer} → frontSize log < length log → Decodes log h′ accept t′
-      → Starting t′ h′ Weak (not-started 8) e → (Balanced m → ⊥) → Opening log (refused 8) t h m
+      → Starting t′ h′ Weak (not-started 8) e → NoMonitor h m → Opening log (refused 8) t h m
   opened : {t : List ℕ} {h : Header} {m : Monitor} → frontSize log < length log → Decodes log h accept t → Fresh t h m → Opening log (started (frontSize log)) t h m
 
 -- a start on an automaton, inside `open`
 pub data Begun (t : List ℕ) (h : Header) (events : ℕ) : Said → List ℕ → Header → Monitor → Type 0 where
-  leaks : {t′ : List ℕ} {h′ : Header} {m : Monitor} {e : Enforcer} → Starting t h Weak (not-started 8) e → (Balanced m → ⊥) → Begun t h events (refused 8) t′ h′ m
+  leaks : {t′ : List ℕ} {h′ : Header} {m : Monitor} {e : Enforcer} → Starting t h Weak (not-started 8) e → NoMonitor h′ m → Begun t h events (refused 8) t′ h′ m
   begun : {m : Monitor} → Fresh t h m → Begun t h events (started events) t h m

@@ -20,7 +20,7 @@ ghost use Rattle.verifier.specs.Verdicts.{stepsOf};
 ghost use Rattle.report.specs.Writing.{roomFor, Written};
 ghost use Rattle.report.specs.Text.{acceptedLine, refusedLine, endLine};
 ghost use Rattle.monitor.specs.Stepping.{Balanced, Within, Countable, offeredOnce, acceptedOnce, placeOf, Printed, Stepped};
-ghost use Rattle.monitor.specs.Opening.{frontSize, Opening, Begun, said as opened};
+ghost use Rattle.monitor.specs.Opening.{frontSize, NoMonitor, Opening, Begun, said as opened};
 ghost use Rattle.monitor.specs.declared.OpenAnswer.the-variants as answer;
 ghost use Rattle.monitor.specs.Advancing.{Advancing, Ready, said as advanced};
 
@@ -286,7 +286,7 @@ pub fn has_event(log: &[u8]) -> bool
 
 // What a refused log hands back: nothing in it is within its limits, and the monitor takes no byte.
 fn refused(refusal: Refusal) -> Opened
-    ensures { λ r. ⌜ (r .answer ≡ answer.Refused refusal) × (Balanced (r .monitor) → ⊥) ⌝ }
+    ensures { λ r. ⌜ (r .answer ≡ answer.Refused refusal) × NoMonitor (r .header) (r .monitor) ⌝ }
 {
     let estimator = Estimator {
         count: 255,

@@ -104,6 +104,10 @@ first-digit (suc f) n h e = by-test (ltb n 10) refl (first-digit f (n / 10) (ome
         let tenth = rest (sym (List·getD-append (digits (suc f) (n / 10)) ((48 + n % 10) ∷ []) 0 0 (some-digits f (n / 10))) ∙ x) in
         absurd (omega (arith, tenth, ltb-false n 10 t))
 
+one-zero : length (digits 10 0) ≡ 1
+unfolding digits
+one-zero = refl
+
 pub in-base-ten : (n : ℕ) → n < 2 ^ 32 → BaseTen n (decimal n)
 unfolding decimal
-in-base-ten n h = record { some = some-digits 9 n; digit = all-digits 10 n; front = first-digit 9 n (omega arith); value = reads-back n h }
+in-base-ten n h = record { some = some-digits 9 n; digit = all-digits 10 n; front = λ e. ap (λ (k : ℕ). length (digits 10 k)) (first-digit 9 n (omega arith) e) ∙ one-zero; value = reads-back n h }

@@ -23,11 +23,11 @@ decimal n = digits 10 n
 abbrev pub valueOf : List ℕ → ℕ
 valueOf ds = foldl (λ (v d : ℕ). 10 * v + (d - 48)) 0 ds
 
--- 01: base ten. Digits `0` to `9`, at least one, a `0` in front for the number 0 alone, and they say the number
+-- 01: base ten. Digits `0` to `9`, at least one, a `0` in front where it is the only one, and they say the number
 pub record BaseTen (n : ℕ) (ds : List ℕ) : Type 0 where
   pub some : 0 < length ds
   pub digit : (i : ℕ) → i < length ds → (48 ≤ getD ds i 0) × (getD ds i 0 ≤ 57)
-  pub front : getD ds 0 0 ≡ 48 → n ≡ 0
+  pub front : getD ds 0 0 ≡ 48 → length ds ≡ 1
   pub value : valueOf ds ≡ n
 
 -- each part with the separator in front of it

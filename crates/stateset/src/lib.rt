@@ -28,7 +28,7 @@ pub fn with(set: u64, state: usize) -> u64
     set | 1 << state
 }
 
-// A number above every state of the set: the highest one, and one more.
+// A number above every state of the set. (The least such number; that is not promised, since a larger one would only cost time.)
 pub fn bound(set: u64) -> usize
     ensures { λ r. ⌜ (r ≤ 64) × ((q : ℕ) → In q set → q < r) ⌝ }
 {

@@ -6,7 +6,7 @@ use native.Mathlib.Omega.{arith}
 use lib.ListN.{length, getD, take}
 use lib.Seq.{take-length}
 use Rattle.stateset.specs.Set.{In, Is}
-use Rattle.automaton.specs.Run.{Automaton, automatonOf, Sound, Observable}
+use Rattle.automaton.specs.Run.{Automaton, automatonOf}
 use Rattle.automaton.specs.Refusals.{numberOf}
 use Rattle.automaton.specs.declared.Refusal.{Refusal}
 use Rattle.automaton.specs.Reaching.{Enters, Gained}
@@ -19,8 +19,8 @@ use Rattle.verifier.specs.declared.Verdict.{Verdict}
 use Rattle.verifier.specs.declared.Verdicts.{Verdicts}
 use Rattle.verifier.specs.declared.Estimator.{Estimator}
 use Rattle.verifier.specs.Verdicts.{Steps, none, leak, stepsOf, Tells}
-use Rattle.verifier.specs.Estimators.{Limits, Grown}
-use Rattle.verifier.specs.Replies.{refused, said, Bounded, Exact, Accepting, accepted, Asks, AcceptedBy, AcceptingAsked}
+use Rattle.verifier.specs.Estimators.{Grown}
+use Rattle.verifier.specs.Replies.{refused, said, Bounded, Exact, Accepting, accepted, Asks, Moved, TellsBy, AcceptingAsked}
 use Rattle.verifier.specs.Inner.{Near, Found, Judged}
 use Rattle.verifier.specs.declared.Reply.{Reply}
 use Rattle.verifier.specs.declared.Asked.{Asked}
@@ -63,20 +63,13 @@ pub near-gained : (p : Automaton) (from : ℕ) (silent : List ℕ) (r : Reach) (
     → ((l q : ℕ) → l < 16 → In q (getD (s .entries) l 0) → In q from) → Near p s silent (r .states)
 near-gained p from silent r s g inside = record { closed = gained-closed p from silent r g; inside = λ l q h i. g .more q (inside l q h i) }
 
--- an event that was accepted, by a notion whose verdict was found
-pub accepted-one : (notion : Notion) (t : List ℕ) (h : Header) (self : Estimator) (event : ℕ) (s : Estimator) (v : Verdict) → Sound t h → Limits (h .k) self → Observable h event → Limits (h .k) s
-    → ((trace : List ℕ) → Grown (automatonOf t h) (h .k) trace self → Grown (automatonOf t h) (h .k) (trace ++ event ∷ []) s)
-    → Found notion (automatonOf t h) (h .secret) (s .count) s v → AcceptedBy notion t h self event (stepsOf v) s
-accepted-one notion t h self event s v so li ob after grows f =
+-- the verdict that was found for an estimator, as that of the event that led to it
+pub found-by : (notion : Notion) (t : List ℕ) (h : Header) (self : Estimator) (event : ℕ) (s : Estimator) (v : Verdict) → Moved t h self event s
+    → Found notion (automatonOf t h) (h .secret) (s .count) s v → TellsBy notion t h self event (stepsOf v)
+found-by notion t h self event s v m f =
     record {
-      sound = so;
-      limits = li;
-      observable = ob;
-      limits-after = after;
-      bounded = bounded-up _ _ (stepsOf v) (after .few) (f .bounded);
-      exact = λ trace g.
-          let n = grows trace g in
-          record { possible = n .possible; tells = found-tells notion _ _ _ (trace ++ event ∷ []) s v n f; grown = n };
+      bounded = bounded-up _ _ (stepsOf v) (m .limits-after .few) (f .bounded);
+      tells = λ trace g. found-tells notion _ _ _ (trace ++ event ∷ []) s v (m .grown trace g) f;
     }
 
 -- a refusal
@@ -89,9 +82,10 @@ pub asked-both : (t : List ℕ) (h : Header) (self : Estimator) (event : ℕ) (a
     → AcceptingAsked a t h self event r s → Accepting t h self event (said r) s
 asked-both t h self event a (answer.Refused n) s weak strong x = x
 asked-both t h self event a (answer.Accepted v) s weak strong x =
-    let w = x Weak weak in
-    let u = x Strong strong in
-    accepted (w .sound) (w .limits) (w .observable) (w .limits-after) (w .bounded) (u .bounded)
+    let m = x .0 in
+    let w = x .1 Weak weak in
+    let u = x .1 Strong strong in
+    accepted (m .sound) (m .limits) (m .observable) (m .limits-after) (w .bounded) (u .bounded)
     (λ trace g.
-    let e = w .exact trace g in
-    record { possible = e .possible; weak = e .tells; strong = u .exact trace g .tells; grown = e .grown })
+    let n = m .grown trace g in
+    record { possible = n .possible; weak = w .tells trace g; strong = u .tells trace g; grown = n })

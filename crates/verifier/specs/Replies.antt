@@ -64,21 +64,21 @@ abbrev pub chosen : Notion → declared.Verdicts → Verdict
 chosen Weak v = v .weak
 chosen Strong v = v .strong
 
--- the same by one notion
-pub record ExactBy (notion : Notion) (t : List ℕ) (h : Header) (trace : List ℕ) (v : Steps) (s : Estimator) : Type 0 where
-  pub possible : Possible (automatonOf t h) trace
-  pub tells : Tells notion (automatonOf t h) (h .secret) (h .k) trace v
-  pub grown : Grown (automatonOf t h) (h .k) trace s
-
-pub record AcceptedBy (notion : Notion) (t : List ℕ) (h : Header) (self : Estimator) (event : ℕ) (v : Steps) (s : Estimator) : Type 0 where
+-- an event that was accepted: the estimator after it, whatever is asked for. That it has grown says that some run is compatible (Grown.possible)
+pub record Moved (t : List ℕ) (h : Header) (self : Estimator) (event : ℕ) (s : Estimator) : Type 0 where
   pub sound : Sound t h
   pub limits : Limits (h .k) self
   pub observable : Observable h event
   pub limits-after : Limits (h .k) s
-  pub bounded : Bounded (h .k) v
-  pub exact : (trace : List ℕ) → Grown (automatonOf t h) (h .k) trace self → ExactBy notion t h (trace ++ event ∷ []) v s
+  pub grown : (trace : List ℕ) → Grown (automatonOf t h) (h .k) trace self → Grown (automatonOf t h) (h .k) (trace ++ event ∷ []) s
 
--- an event offered, of whose verdicts only some are asked for: refusals as above, and an accepted event by each notion that is asked for
+-- and its verdict by one notion
+pub record TellsBy (notion : Notion) (t : List ℕ) (h : Header) (self : Estimator) (event : ℕ) (v : Steps) : Type 0 where
+  pub bounded : Bounded (h .k) v
+  pub tells : (trace : List ℕ) → Grown (automatonOf t h) (h .k) trace self → Tells notion (automatonOf t h) (h .secret) (h .k) (trace ++ event ∷ []) v
+
+-- an event offered, of whose verdicts only some are asked for: refusals as above, and an accepted event with the verdict by each notion that is asked for
 abbrev pub AcceptingAsked : Asked → List ℕ → Header → Estimator → ℕ → Answer → Estimator → Type 0
 AcceptingAsked a t h self event (answer.Refused r) s = Accepting t h self event (refused (numberOf r)) s
-AcceptingAsked a t h self event (answer.Accepted v) s = (notion : Notion) → Asks notion a → AcceptedBy notion t h self event (stepsOf (chosen notion v)) s
+AcceptingAsked a t h self event (answer.Accepted v) s =
+    Moved t h self event s × ((notion : Notion) → Asks notion a → TellsBy notion t h self event (stepsOf (chosen notion v)))

@@ -5,7 +5,7 @@ use Rattle.automaton.specs.Run.{Sound}
 use Rattle.verifier.specs.declared.Answer.{Answer}
 use Rattle.verifier.specs.declared.Verdict.{Verdict}
 use Rattle.verifier.specs.Verdicts.{stepsOf}
-use Rattle.verifier.specs.Replies.{AcceptingAsked, AcceptedBy}
+use Rattle.verifier.specs.Replies.{AcceptingAsked, TellsBy}
 use Rattle.enforcer.specs.Enforcers.{Limits}
 use Rattle.enforcer.specs.Inner.{waitOf, Took}
 use borrow.Author.Tests.{not-true, not-false}
@@ -85,8 +85,9 @@ returns-4 c =
     (after-answer .answer2 .given .1) (called .accept-asked .ensures) in
     taken-outcome (now (a .table)) (a .header) (a .self) (a .byte) (now (a .output)) (chose .choose .result) (called .accept-asked .result .estimator) (taken .result .answer) (taken .result .enforcer)
     (taken .last .1 .1 .1 .1 .1 .0) (good .0) (good .1) (e2 .if2 .left)
-    (subst (λ (v : Verdict). AcceptedBy (a .self .notion) (now (a .table)) (a .header) (a .self .estimator) (a .byte) (stepsOf v) (called .accept-asked .result .estimator))
-    (sym (chose .choose .ensures)) (all (a .self .notion) (called .before .ask .ensures)))
+    (all .0)
+    (subst (λ (v : Verdict). TellsBy (a .self .notion) (now (a .table)) (a .header) (a .self .estimator) (a .byte) (stepsOf v))
+    (sym (chose .choose .ensures)) (all .1 (a .self .notion) (called .before .ask .ensures)))
     (subst (λ (n : ℕ). Took (a .header .k) (a .self) (called .accept-asked .result .estimator) n (a .byte) (now (a .output)) (taken .result .answer) (taken .result .enforcer) (taken .last .1 .1 .1 .1 .1 .0))
     (after-wait .wait .ensures) (taken .ensures))
 

@@ -11,9 +11,9 @@ use Rattle.automaton.specs.Run.{automatonOf, Sound, Observable}
 use Rattle.automaton.specs.declared.Refusal.the-variants as refusal
 use Rattle.automaton.proofs.Entering.{gained-closed, known-none, known-more}
 use Rattle.verifier.specs.Estimators.{Limits}
-use Rattle.verifier.specs.Replies.{Accepting, not-observable, incompatible}
+use Rattle.verifier.specs.Replies.{Accepting, not-observable, incompatible, Moved}
 use Rattle.verifier.specs.Inner.{Next, Near}
-use Rattle.verifier.proofs.Judging.{grown-entry, near-gained, accepted-one, refused-asked}
+use Rattle.verifier.proofs.Judging.{grown-entry, near-gained, found-by, refused-asked}
 use Rattle.verifier.proofs.Estimator.accept_asked.Statement.{statement}
 use Rattle.verifier.proofs.Estimator.accept_asked.Tie as tie
 
@@ -130,16 +130,23 @@ judge-requires c κs =
     record { sound = ok (e .before .before) .0; limits = f .before .push .ensures .0; near = near; back-are = c .before .before .before .silent-back .ensures _ (near .closed) }
 
 returns-4 : tie.Need-returns-4
-returns-4 c = λ notion asks.
+returns-4 c =
     let pushed = c .before .before .before .before .before .before .before .before .before .before .before .before in
     let k = pushed .before in
     let e = k .before .before .before .before .before .before .before .before .before in
+    let a = e .before .before .before .before .before .args in
     let o = ok (e .before .before) in
     let after = pushed .push .ensures in
-    accepted-one notion _ _ _ _ _ _ (o .0) (o .1) (observed e) (after .0)
-    (λ trace g.
-    let x = subst (Next _ _ _) (k .before .entry .given .1) (k .before .before .before .next-estimate .ensures) trace (grown-entry _ _ trace _ g) in
-    after .1 _ trace g (x .0) (x .1)) (c .judge .ensures notion asks)
+    let moved : Moved (now (a .table)) (a .header) (a .t1) (a .event) (pushed .push .result) = record {
+      sound = o .0;
+      limits = o .1;
+      observable = observed e;
+      limits-after = after .0;
+      grown = λ trace g.
+          let x = subst (Next _ _ _) (k .before .entry .given .1) (k .before .before .before .next-estimate .ensures) trace (grown-entry _ _ trace _ g) in
+          after .1 _ trace g (x .0) (x .1);
+    } in
+    (moved, λ notion asks. found-by notion _ _ _ _ _ _ moved (c .judge .ensures notion asks))
 
 pub accept-asked-spec : {M : Type 1} → statement M
 accept-asked-spec =

@@ -19,7 +19,7 @@ use Rattle.enforcer.specs.Offerings.{Offering}
 use Rattle.enforcer.specs.Offers.{Chain, Offers}
 use Rattle.gateway.specs.Layout.{headerAt, estimatorAt, estimatorBytes, enforcerAt, enforcerBytes, verdictByte}
 use Rattle.gateway.specs.Interface.{Accept, Offer}
-use Rattle.gateway.specs.Feeds.{AcceptCall, AcceptCalls, acceptSaid, callsOf, OfferCall, OfferCalls, offerSaid, offersOf}
+use Rattle.gateway.specs.SavedCalls.{AcceptCall, AcceptCalls, acceptSaid, callsOf, OfferCall, OfferCalls, offerSaid, offersOf}
 use Rattle.gateway.proofs.Inverse.{estimator-length, enforcer-length, notion-saved, verdict-back}
 use Rattle.gateway.proofs.Sizes.{estimator-sized, grown-estimator-back, enforcer-sized, grown-enforcer-back}
 
@@ -72,18 +72,18 @@ module _ (t header : List ℕ) (header-size : length header ≡ 14) where
       }
 
   -- one that lends another number of verdict bytes
-  torn-accept : (s : List ℕ) (event : ℕ) (lent : List ℕ) (answer : ℕ) (m told : List ℕ) → (length lent ≡ 2 → ⊥) → Accept t header event s lent answer m told → m ≡ s
-  torn-accept s event lent answer m told n (Accept.size bad) = refl
-  torn-accept s event lent answer m told n (Accept.refused sizes x) = refl
-  torn-accept s event lent answer m told n (Accept.accepted sizes x) = absurd (n (sizes .verdicts-size))
+  unsized-accept : (s : List ℕ) (event : ℕ) (lent : List ℕ) (answer : ℕ) (m told : List ℕ) → (length lent ≡ 2 → ⊥) → Accept t header event s lent answer m told → m ≡ s
+  unsized-accept s event lent answer m told n (Accept.size bad) = refl
+  unsized-accept s event lent answer m told n (Accept.refused sizes x) = refl
+  unsized-accept s event lent answer m told n (Accept.accepted sizes x) = absurd (n (sizes .verdicts-size))
 
   pub accept-calls : (s : List ℕ) (cs : List AcceptCall) (e : List ℕ) → KeepsEstimator s → AcceptCalls t header s cs e → Calls t head (estimatorAt s) (callsOf cs) (estimatorAt e)
   accept-calls s cs e k AcceptCalls.done = Calls.done
   accept-calls s cs e k (AcceptCalls.next {m = m} {c = c} {cs = rest} two a f) =
       let x = one-accept s (c .event) (c .lent) (c .answer) m (c .told) k two a in
       Calls.next (x .accepting) (accept-calls m rest e (x .keeps) f)
-  accept-calls s cs e k (AcceptCalls.torn {m = m} {c = c} n a f) =
-      let same = torn-accept s (c .event) (c .lent) (c .answer) m (c .told) n a in
+  accept-calls s cs e k (AcceptCalls.unsized {m = m} {c = c} n a f) =
+      let same = unsized-accept s (c .event) (c .lent) (c .answer) m (c .told) n a in
       subst (λ (y : List ℕ). Calls t head (estimatorAt y) (callsOf cs) (estimatorAt e)) same (accept-calls m cs e (subst KeepsEstimator (sym same) k) f)
 
   module _ (notion : Notion) where
@@ -134,16 +134,16 @@ module _ (t header : List ℕ) (header-size : length header ≡ 14) where
         }
 
     -- one that lends another number of bytes for the number of released events
-    torn-offer : (s : List ℕ) (event : ℕ) (output lent : List ℕ) (answer : ℕ) (m left released : List ℕ) → (length lent ≡ 1 → ⊥) → Offer t header event s output lent answer m left released → m ≡ s
-    torn-offer s event output lent answer m left released n (Offer.size bad) = refl
-    torn-offer s event output lent answer m left released n (Offer.refused sizes x) = refl
-    torn-offer s event output lent answer m left released n (Offer.released sizes x) = absurd (n (sizes .released-size))
+    unsized-offer : (s : List ℕ) (event : ℕ) (output lent : List ℕ) (answer : ℕ) (m left released : List ℕ) → (length lent ≡ 1 → ⊥) → Offer t header event s output lent answer m left released → m ≡ s
+    unsized-offer s event output lent answer m left released n (Offer.size bad) = refl
+    unsized-offer s event output lent answer m left released n (Offer.refused sizes x) = refl
+    unsized-offer s event output lent answer m left released n (Offer.released sizes x) = absurd (n (sizes .released-size))
 
     pub offer-calls : (s : List ℕ) (cs : List OfferCall) (e : List ℕ) → KeepsEnforcer s → OfferCalls t header s cs e → Offers t head (enforcerAt s) (offersOf cs) (enforcerAt e)
     offer-calls s cs e k OfferCalls.done = Chain.done
     offer-calls s cs e k (OfferCalls.next {m = m} {c = c} {cs = rest} one a f) =
         let x = one-offer s (c .event) (c .output) (c .lent) (c .answer) m (c .left) (c .released) k one a in
         Chain.next (x .offering) (offer-calls m rest e (x .keeps) f)
-    offer-calls s cs e k (OfferCalls.torn {m = m} {c = c} n a f) =
-        let same = torn-offer s (c .event) (c .output) (c .lent) (c .answer) m (c .left) (c .released) n a in
+    offer-calls s cs e k (OfferCalls.unsized {m = m} {c = c} n a f) =
+        let same = unsized-offer s (c .event) (c .output) (c .lent) (c .answer) m (c .left) (c .released) n a in
         subst (λ (y : List ℕ). Offers t head (enforcerAt y) (offersOf cs) (enforcerAt e)) same (offer-calls m cs e (subst KeepsEnforcer (sym same) k) f)

@@ -25,7 +25,7 @@ pub data AcceptCalls (t header : List ℕ) : List ℕ → List AcceptCall → Li
   next : {s m e : List ℕ} {c : AcceptCall} {cs : List AcceptCall} → length (c .lent) ≡ 2 → Accept t header (c .event) s (c .lent) (c .answer) m (c .told)
       → AcceptCalls t header m cs e → AcceptCalls t header s (c ∷ cs) e
   -- a call that lent another number of bytes, and so got 9, may stand between them; it is not listed
-  torn : {s m e : List ℕ} {c : AcceptCall} {cs : List AcceptCall} → (length (c .lent) ≡ 2 → ⊥) → Accept t header (c .event) s (c .lent) (c .answer) m (c .told)
+  unsized : {s m e : List ℕ} {c : AcceptCall} {cs : List AcceptCall} → (length (c .lent) ≡ 2 → ⊥) → Accept t header (c .event) s (c .lent) (c .answer) m (c .told)
       → AcceptCalls t header m cs e → AcceptCalls t header s cs e
 
 -- the verdicts that two bytes hold
@@ -60,7 +60,7 @@ pub data OfferCalls (t header : List ℕ) : List ℕ → List OfferCall → List
   next : {s m e : List ℕ} {c : OfferCall} {cs : List OfferCall} → length (c .lent) ≡ 1
       → Offer t header (c .event) s (c .output) (c .lent) (c .answer) m (c .left) (c .released) → OfferCalls t header m cs e → OfferCalls t header s (c ∷ cs) e
   -- a call that lent another number of bytes, and so got 9, may stand between them; it is not listed
-  torn : {s m e : List ℕ} {c : OfferCall} {cs : List OfferCall} → (length (c .lent) ≡ 1 → ⊥)
+  unsized : {s m e : List ℕ} {c : OfferCall} {cs : List OfferCall} → (length (c .lent) ≡ 1 → ⊥)
       → Offer t header (c .event) s (c .output) (c .lent) (c .answer) m (c .left) (c .released) → OfferCalls t header m cs e → OfferCalls t header s cs e
 
 -- what an answer says: 0 that the byte is the number of released events, and else the number of a refusal

@@ -387,14 +387,8 @@ impl Estimator {
         let mut silent = [0u64; 64];
         let newest = self.entries[0];
         let near = automaton::silent_rows(table, header, &mut silent, 0, newest);
-        let NextEstimate::States(entry) = next_estimate(
-            table,
-            header,
-            &silent,
-            near.states,
-            newest,
-            event,
-        ) else {
+        let next = next_estimate(table, header, &silent, near.states, newest, event);
+        let NextEstimate::States(entry) = next else {
             return self.refused(Refusal::Incompatible);
         };
         let estimator = self.push(header.k, event, entry);

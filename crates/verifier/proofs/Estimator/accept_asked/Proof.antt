@@ -67,8 +67,8 @@ next-estimate-requires c κs =
     let g = c .before .before .silent-rows .ensures in
     (ok (e .before .before) .0, observed e, gained-closed _ _ _ _ g, g .more)
 
-enum-known-entry : tie.Need-enum-known-entry
-enum-known-entry c = search needs
+enum-known-next : tie.Need-enum-known-next
+enum-known-next c = search needs
 
 enum-told : tie.Need-enum-told
 enum-told c = search needs
@@ -143,7 +143,7 @@ returns-4 c =
       observable = observed e;
       limits-after = after .0;
       grown = λ trace g.
-          let x = subst (Next _ _ _) (k .before .entry .given .1) (k .before .before .before .next-estimate .ensures) trace (grown-entry _ _ trace _ g) in
+          let x = subst (Next _ _ _) (k .before .next .given .1) (k .before .before .before .next-estimate .ensures) trace (grown-entry _ _ trace _ g) in
           after .1 _ trace g (x .0) (x .1);
     } in
     (moved, λ notion asks. found-by notion _ _ _ _ _ _ moved (c .judge .ensures notion asks))
@@ -163,7 +163,7 @@ accept-asked-spec =
     silent-rows-requires
     slice-aggregate-next-estimate
     next-estimate-requires
-    enum-known-entry
+    enum-known-next
     enum-told
     refused-requires-3
     returns-3

@@ -158,19 +158,19 @@ ends-open as-is not e = not e
 ends-open (over g) not e = closed-not (sym e ∙ g)
 
 print-end : {input t out out₁ out₂ : List ℕ} {h : Header} {m : Monitor} {n : ℕ} {q r : Progress} → Opening input (started n) t h m
-    → Followed t h (begun m) (drop n input) out q out₁ → 256 ≤ length out₁ → Ends q r → (e : EndLine r out₁ out₂) → (e .last .status ≡ Closed → ⊥)
-    → HasPrinted input out₂ (placeOf (e .line) 0)
+    → Followed t h (begun m) (drop n input) out q out₁ → 256 ≤ length out₁ → Ends q r → (e : EndLine r out₁ out₂) → (not : e .last .status ≡ Closed → ⊥)
+    → HasPrinted input out₂ (placeOf (e .written not .line) 0)
 print-end {input} {t} {out} {out₁} {out₂} {h} {m} {n} {q} {r} o f room ends e not =
     let x = last (f .far .gone) (ends-kept (f .far .gone) out₁ ends (f .far .kept)) (λ fits. f .far .whole (omega (arith, f .far .size))) room not (e .roomy) in
     let stop = why (q .status) (drop n input) (q .monitor) (f .bytes) (ends-open ends (x .open-still)) (f .stop) in
     let all-lines = lines-output o (take-append-drop (f .bytes) (drop n input)) (f .far .lines) (f .far .few) stop in
     print-last (x .gone) (f .far .text) (endLine (e .last .monitor .accepted) (e .last .monitor .released) (e .last .monitor .enforcer .count)) (x .kept) (x .whole) (x .room)
-    (subst (λ (k : Monitor). Output input (f .far .text ++ endLine (k .accepted) (k .released) (k .enforcer .count))) (sym (x .monitor ∙ ends-monitor ends)) all-lines) (e .put)
+    (subst (λ (k : Monitor). Output input (f .far .text ++ endLine (k .accepted) (k .released) (k .enforcer .count))) (sym (x .monitor ∙ ends-monitor ends)) all-lines) (e .written not .put)
 
 -- a log that has started: unless the output takes no more, what it has printed is the output of its input
 pub monitored-log : {first input t out out₁ out₂ out₃ : List ℕ} {h : Header} {m : Monitor} {n : ℕ} {p q r : Progress} (f : Front first input)
     → Opening first (started n) t h m → Followed t h (begun m) (drop n first) out p out₁ → Reads t h p out₁ (f .later) q out₂ → 256 ≤ length out₂
-    → Ends q r → (e : EndLine r out₂ out₃) → (e .last .status ≡ Closed → ⊥) → HasPrinted input out₃ (placeOf (e .line) 0)
+    → Ends q r → (e : EndLine r out₂ out₃) → (not : e .last .status ≡ Closed → ⊥) → HasPrinted input out₃ (placeOf (e .written not .line) 0)
 monitored-log {first} {input} {t} {out} {out₁} {out₂} {out₃} {h} {m} {n} {p} {q} {r} f o a reads room ends e not =
     let events : drop n first ++ f .later ≡ drop n input = sym (drop-append-le n first (f .later) (omega (arith, started-within o))) ∙ ap (drop n) (f .splits) in
     print-end (front-opens f .0 o)

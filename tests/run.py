@@ -15,7 +15,7 @@ from logs import encoded, output
 from runs import Automaton
 
 # the events of this one need several reads and writes
-LONG = 70000
+LONG = 600000
 WANDERING = Automaton(3, 2, 2, 0, {1}, {1, 2}, [(0, 0, 2), (0, 1, 1), (1, 2, 0), (2, 1, 3), (3, 1, 3), (3, 2, 0)])
 
 

@@ -29,14 +29,14 @@ use Rattle.log_output.specs.Whole.{RefusalLine, EndLine, begun, Reads, d
 use Rattle.log_output.proofs.Keeping.{closed-not}
 
 module _ (t : List ℕ) (h : Header) (p : Progress) (out : List ℕ) where
-  stopped-more : (s : Status) (xs ys : List ℕ) (e : Monitor) (n : ℕ) → Stopped s e n ys → Stopped s e (length xs + n) (xs ++ ys)
-  stopped-more Going xs ys e n x = omega (arith, length-append xs ys)
-  stopped-more Ended xs ys e n x = x
-  stopped-more Failed xs ys e n x = x
-  stopped-more Closed xs ys e n x = x
+  stopped-more : (s : Status) (xs ys out′ : List ℕ) (r : Progress) (n : ℕ) → Stopped s r n ys out′ → Stopped s r (length xs + n) (xs ++ ys) out′
+  stopped-more Going xs ys out′ r n x = omega (arith, length-append xs ys)
+  stopped-more Ended xs ys out′ r n x = x
+  stopped-more Failed xs ys out′ r n x = x
+  stopped-more Closed xs ys out′ r n x = x
 
-  all-taken : (s : Status) (xs : List ℕ) (e : Monitor) (n : ℕ) → s ≡ Going → Stopped s e n xs → n ≡ length xs
-  all-taken s xs e n g x = subst (λ (r : Status). Stopped r e n xs) g x
+  all-taken : (s : Status) (xs out′ : List ℕ) (r : Progress) (n : ℕ) → s ≡ Going → Stopped s r n xs out′ → n ≡ length xs
+  all-taken s xs out′ r n g x = subst (λ (k : Status). Stopped k r n xs out′) g x
 
   -- two reads are one
   followed-append : {q r : Progress} {xs ys out₁ out₂ : List ℕ} → Followed t h p xs out q out₁ → q .status ≡ Going → Followed t h q ys out₁ r out₂
@@ -44,7 +44,7 @@ module _ (t : List ℕ) (h : Header) (p : Progress) (out : List ℕ) where
   followed-append {q} {r} {xs} {ys} {out₁} {out₂} a g b =
       let f = a .far in
       let f′ = b .far in
-      let whole : take (a .bytes) xs ≡ xs = ap (λ (k : ℕ). take k xs) (all-taken (q .status) xs (q .monitor) (a .bytes) g (a .stop)) ∙ take-length xs in
+      let whole : take (a .bytes) xs ≡ xs = ap (λ (k : ℕ). take k xs) (all-taken (q .status) xs out₁ q (a .bytes) g (a .stop)) ∙ take-length xs in
       let front : take (a .bytes) xs ++ take (b .bytes) ys ≡ take (length xs + b .bytes) (xs ++ ys) =
       ap (λ (l : List ℕ). l ++ take (b .bytes) ys) whole ∙ sym (take-append-add xs ys (b .bytes)) in
       record {
@@ -65,14 +65,14 @@ module _ (t : List ℕ) (h : Header) (p : Progress) (out : List ℕ) where
           inside = f′ .inside;
           size = f′ .size ∙ f .size;
         };
-        stop = stopped-more (r .status) xs ys (r .monitor) (b .bytes) (b .stop);
+        stop = stopped-more (r .status) xs ys out₂ r (b .bytes) (b .stop);
       }
 
-  stopped-still : (s : Status) (xs ys : List ℕ) (e : Monitor) (n : ℕ) → (s ≡ Going → ⊥) → Stopped s e n xs → Stopped s e n (xs ++ ys)
-  stopped-still Going xs ys e n not x = absurd (not refl)
-  stopped-still Ended xs ys e n not x = x
-  stopped-still Failed xs ys e n not x = x
-  stopped-still Closed xs ys e n not x = x
+  stopped-still : (s : Status) (xs ys out′ : List ℕ) (r : Progress) (n : ℕ) → (s ≡ Going → ⊥) → Stopped s r n xs out′ → Stopped s r n (xs ++ ys) out′
+  stopped-still Going xs ys out′ r n not x = absurd (not refl)
+  stopped-still Ended xs ys out′ r n not x = x
+  stopped-still Failed xs ys out′ r n not x = x
+  stopped-still Closed xs ys out′ r n not x = x
 
   -- a log that does not go on takes no more
   followed-still : {q : Progress} {xs out₁ : List ℕ} (ys : List ℕ) → Followed t h p xs out q out₁ → (q .status ≡ Going → ⊥) → Followed t h p (xs ++ ys) out q out₁
@@ -92,7 +92,7 @@ module _ (t : List ℕ) (h : Header) (p : Progress) (out : List ℕ) where
           inside = f .inside;
           size = f .size;
         };
-        stop = stopped-still (q .status) xs ys (q .monitor) (a .bytes) not (a .stop);
+        stop = stopped-still (q .status) xs ys out₁ q (a .bytes) not (a .stop);
       }
 
   -- all reads are one
@@ -104,11 +104,11 @@ module _ (t : List ℕ) (h : Header) (p : Progress) (out : List ℕ) where
       subst (λ (l : List ℕ). Followed t h p l out r out₂) (append-assoc xs bytes later) (followed-reads (followed-append a g (f u)) more)
 
 -- nothing is left, or a log may have no more
-why : (s : Status) (bytes : List ℕ) (e : Monitor) (n : ℕ) → (s ≡ Closed → ⊥) → Stopped s e n bytes → (drop n bytes ≡ []) ⊎ (e .offered ≡ 4294967295)
-why Going bytes e n not x = inl (ap (λ (k : ℕ). drop k bytes) x ∙ drop-length bytes)
-why Ended bytes e n not x = inr x
-why Failed bytes e n not x = absurd x
-why Closed bytes e n not x = absurd (not refl)
+why : (s : Status) (bytes out : List ℕ) (r : Progress) (n : ℕ) → (s ≡ Closed → ⊥) → Stopped s r n bytes out → (drop n bytes ≡ []) ⊎ (r .monitor .offered ≡ 4294967295)
+why Going bytes out r n not x = inl (ap (λ (k : ℕ). drop k bytes) x ∙ drop-length bytes)
+why Ended bytes out r n not x = inr x
+why Failed bytes out r n not x = absurd x
+why Closed bytes out r n not x = absurd (not refl)
 
 -- the last line, behind all others
 record Last (r : Progress) (out text : List ℕ) (q : Progress) : Type 0 where
@@ -130,7 +130,7 @@ last {r = r} {out = out} gone kept whole room not (emptied full l) = record {
   monitor = refl;
   open-still = not;
 }
-last gone kept whole room not closed = absurd (not refl)
+last gone kept whole room not (closed full) = absurd (not refl)
 
 print-last : {input out out′ : List ℕ} {at : ℕ} {line : Line} (gone text end : List ℕ) → gone ++ take at out ≡ text → (length text + 256 ≤ length out → gone ≡ [])
     → at + 256 ≤ length out → Output input (text ++ end) → Written (roomFor 0) out at end line out′ → HasPrinted input out′ (placeOf line 0)
@@ -158,19 +158,19 @@ ends-open as-is not e = not e
 ends-open (over g) not e = closed-not (sym e ∙ g)
 
 print-end : {input t out out₁ out₂ : List ℕ} {h : Header} {m : Monitor} {n : ℕ} {q r : Progress} → Opening input (started n) t h m
-    → Followed t h (begun m) (drop n input) out q out₁ → 256 ≤ length out₁ → Ends q r → (e : EndLine r out₁ out₂) → (e .last .status ≡ Closed → ⊥)
-    → HasPrinted input out₂ (placeOf (e .line) 0)
+    → Followed t h (begun m) (drop n input) out q out₁ → 256 ≤ length out₁ → Ends q r → (e : EndLine r out₁ out₂) → (not : e .last .status ≡ Closed → ⊥)
+    → HasPrinted input out₂ (placeOf (e .written not .line) 0)
 print-end {input} {t} {out} {out₁} {out₂} {h} {m} {n} {q} {r} o f room ends e not =
     let x = last (f .far .gone) (ends-kept (f .far .gone) out₁ ends (f .far .kept)) (λ fits. f .far .whole (omega (arith, f .far .size))) room not (e .roomy) in
-    let stop = why (q .status) (drop n input) (q .monitor) (f .bytes) (ends-open ends (x .open-still)) (f .stop) in
+    let stop = why (q .status) (drop n input) out₁ q (f .bytes) (ends-open ends (x .open-still)) (f .stop) in
     let all-lines = lines-output o (take-append-drop (f .bytes) (drop n input)) (f .far .lines) (f .far .few) stop in
     print-last (x .gone) (f .far .text) (endLine (e .last .monitor .accepted) (e .last .monitor .released) (e .last .monitor .enforcer .count)) (x .kept) (x .whole) (x .room)
-    (subst (λ (k : Monitor). Output input (f .far .text ++ endLine (k .accepted) (k .released) (k .enforcer .count))) (sym (x .monitor ∙ ends-monitor ends)) all-lines) (e .put)
+    (subst (λ (k : Monitor). Output input (f .far .text ++ endLine (k .accepted) (k .released) (k .enforcer .count))) (sym (x .monitor ∙ ends-monitor ends)) all-lines) (e .written not .put)
 
 -- a log that has started: unless the output takes no more, what it has printed is the output of its input
 pub monitored-log : {first input t out out₁ out₂ out₃ : List ℕ} {h : Header} {m : Monitor} {n : ℕ} {p q r : Progress} (f : Front first input)
     → Opening first (started n) t h m → Followed t h (begun m) (drop n first) out p out₁ → Reads t h p out₁ (f .later) q out₂ → 256 ≤ length out₂
-    → Ends q r → (e : EndLine r out₂ out₃) → (e .last .status ≡ Closed → ⊥) → HasPrinted input out₃ (placeOf (e .line) 0)
+    → Ends q r → (e : EndLine r out₂ out₃) → (not : e .last .status ≡ Closed → ⊥) → HasPrinted input out₃ (placeOf (e .written not .line) 0)
 monitored-log {first} {input} {t} {out} {out₁} {out₂} {out₃} {h} {m} {n} {p} {q} {r} f o a reads room ends e not =
     let events : drop n first ++ f .later ≡ drop n input = sym (drop-append-le n first (f .later) (omega (arith, started-within o))) ∙ ap (drop n) (f .splits) in
     print-end (front-opens f .0 o)

@@ -25,7 +25,7 @@ pub record Usable (t : List ℕ) (h : Header) (p : Progress) (out : List ℕ) : 
 pub data Roomy (p : Progress) (out : List ℕ) : Progress → Type 0 where
   free : p .at + 256 ≤ length out → Roomy p out p
   emptied : (p .at + 256 ≤ length out → ⊥) → p .at ≤ length out → Roomy p out (record { monitor = p .monitor; at = 0; status = p .status })
-  closed : Roomy p out (record { monitor = p .monitor; at = p .at; status = Closed })
+  closed : (p .at + 256 ≤ length out → ⊥) → Roomy p out (record { monitor = p .monitor; at = p .at; status = Closed })
 
 -- one call of `Monitor::advance`
 pub data Parted (t : List ℕ) (h : Header) (p : Progress) (events out : List ℕ) : Part → List ℕ → Type 0 where
@@ -46,15 +46,15 @@ pub record Far (t : List ℕ) (h : Header) (p : Progress) (events out : List ℕ
   pub inside : r .at ≤ length out′
   pub size : length out′ ≡ length out
 
--- why no more of them are followed: there are no more, a log may have no more, or the output takes no more
-abbrev pub Stopped : Status → Monitor → ℕ → List ℕ → Type 0
-Stopped Going e bytes events = bytes ≡ length events
-Stopped Ended e bytes events = e .offered ≡ 4294967295
-Stopped Failed e bytes events = ⊥
-Stopped Closed e bytes events = Unit {0}
+-- why no more of them are followed: there are no more, a log may have no more, or the output has no room and takes no more
+abbrev pub Stopped : Status → Progress → ℕ → (events out : List ℕ) → Type 0
+Stopped Going r bytes events out = bytes ≡ length events
+Stopped Ended r bytes events out = r .monitor .offered ≡ 4294967295
+Stopped Failed r bytes events out = ⊥
+Stopped Closed r bytes events out = r .at + 256 ≤ length out → ⊥
 
 pub record Followed (t : List ℕ) (h : Header) (p : Progress) (events out : List ℕ) (r : Progress) (out′ : List ℕ) : Type 0 where
   pub bytes : ℕ
   pub among : bytes ≤ length events
   pub far : Far t h p events out bytes r out′
-  pub stop : Stopped (r .status) (r .monitor) bytes events
+  pub stop : Stopped (r .status) r bytes events out′

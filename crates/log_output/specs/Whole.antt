@@ -24,11 +24,16 @@ pub record RefusalLine (r : Refusal) (out out′ : List ℕ) : Type 0 where
   pub put : Written (roomFor 0) out 0 (refusedLog r) line out′
 
 -- the last line, behind those that stand in the output
+pub record LastLine (q : Progress) (out out′ : List ℕ) : Type 0 where
+  pub line : Line
+  pub put : Written (roomFor 0) out (q .at) (endLine (q .monitor .accepted) (q .monitor .released) (q .monitor .enforcer .count)) line out′
+
+-- room is made for it, and it is put exactly where the output takes more
 pub record EndLine (p : Progress) (out out′ : List ℕ) : Type 0 where
   pub last : Progress
   pub roomy : Roomy p out last
-  pub line : Line
-  pub put : Written (roomFor 0) out (last .at) (endLine (last .monitor .accepted) (last .monitor .released) (last .monitor .enforcer .count)) line out′
+  pub closed : last .status ≡ Closed → out′ ≡ out
+  pub written : (last .status ≡ Closed → ⊥) → LastLine last out out′
 
 -- a monitor on an empty output
 abbrev pub begun : Monitor → Progress

@@ -57,6 +57,17 @@ pub fn going(status: Status) -> bool
     }
 }
 
+fn closed(status: Status) -> bool
+    ensures { λ r. ⌜ Decided r (status ≡ case.Closed) ⌝ }
+{
+    match status {
+        Status::Going => false,
+        Status::Ended => false,
+        Status::Failed => false,
+        Status::Closed => true,
+    }
+}
+
 pub fn with_status(progress: Progress, status: Status) -> Progress
     ensures { λ r. ⌜ r ≡ record { monitor = progress .monitor; at = progress .at; status = status } ⌝ }
 {
@@ -207,10 +218,15 @@ pub fn start(log: &[u8], out: &mut [u8]) -> Monitored
     }
 }
 
+// The last line, unless the output takes no more: what could not be written out is not written once more.
 fn write_end(progress: Progress, out: &mut [u8])
     ensures { λ _. ⌜ EndLine progress (now (out .entry)) (now (out .exit)) ⌝ }
 {
     let last = with_room(progress, out);
+    let status = last.status;
+    if closed(status) {
+        return;
+    }
     let monitor = last.monitor;
     let next = place(monitor.end(out, last.at));
     flush(out, next);

@@ -284,7 +284,7 @@ pub fn has_event(log: &[u8]) -> bool
     false
 }
 
-// What a refused log hands back: nothing in it is within its limits, and the monitor takes no byte.
+// What a refused log hands back: header, estimator and enforcer are outside their limits, and the monitor takes no byte.
 fn refused(refusal: Refusal) -> Opened
     ensures { λ r. ⌜ (r .answer ≡ answer.Refused refusal) × NoMonitor (r .header) (r .monitor) ⌝ }
 {

@@ -1,3 +1,4 @@
 -- Laws that belong to no one function.
 pub mod Keeping
-pub mod WholeLog
+pub mod Fetching
+pub mod FedLog

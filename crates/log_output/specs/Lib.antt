@@ -1,3 +1,4 @@
--- What the contracts of `log_output` cite. A reviewer reads Progressing, then Whole.
+-- What the contracts of `log_output` cite. A reviewer reads Progressing, Whole, then Feeding.
 pub mod Progressing
 pub mod Whole
+pub mod Feeding

@@ -1,19 +1,21 @@
-// A log that is monitored, with its lines written to standard output, many at a time: what the programs that read logs share.
+// A log that is read from standard input and monitored, with its lines written to standard output: what the programs that read logs share.
 use automaton::Header;
 use automaton::Refusal;
 use monitor::AdvanceAnswer;
 use monitor::Monitor;
 use monitor::OpenAnswer;
 use report::Line;
-ghost use Prim.Native.Nat.{_≤_};
+ghost use Prim.Native.Nat.{_+_, _-_, _≤_, _<_};
 ghost use mathlib.Core.Path.{_≡_};
 ghost use mathlib.Core.Bool.{true};
-ghost use lib.ListN.{length};
+ghost use mathlib.Core.Logic.{_⊎_};
+ghost use lib.ListN.{length, take};
 ghost use Rattle.stateset.specs.Set.{Decided};
 ghost use Rattle.monitor.specs.Stepping.{placeOf};
 ghost use Rattle.log_output.specs.declared.Status.the-variants as case;
 ghost use Rattle.log_output.specs.Progressing.{Usable, Roomy, Parted, Followed};
 ghost use Rattle.log_output.specs.Whole.{RefusalLine, EndLine, Begins, Finished};
+ghost use Rattle.log_output.specs.Feeding.{Brought, UpTo, WrittenOut, Turning, Fed, Ran};
 
 pub enum Status {
     // More event bytes may follow.
@@ -79,14 +81,22 @@ pub fn with_status(progress: Progress, status: Status) -> Progress
     }
 }
 
-// Writes out the first bytes of the output.
+fn not_written() {
+    io::write_all(2, b"write failed\n");
+}
+
+// Writes out the first bytes of the output, and says so where it fails.
 fn flush(out: &[u8], n: usize) -> bool
     ensures { λ r. ⌜ (r ≡ true → n ≤ length (now (out .entry))) ⌝ }
 {
     if out.len() < n {
         return false;
     }
-    io::write_all(1, &out[0..n])
+    if io::write_all(1, &out[0..n]) {
+        return true;
+    }
+    not_written();
+    false
 }
 
 // Writes the output out, if the next line might not fit into what is left of it.
@@ -244,5 +254,224 @@ pub fn finish(progress: Progress, out: &mut [u8])
             flush(out, progress.at);
         }
         Status::Closed => {}
+    }
+}
+
+// What a read finds.
+pub enum Fetched {
+    Bytes(usize),
+    End,
+    Failed,
+}
+
+fn least(a: usize, b: usize) -> usize
+    ensures { λ r. ⌜ (r ≤ a) × (r ≤ b) × ((r ≡ a) ⊎ (r ≡ b)) ⌝ }
+{
+    if a < b {
+        return a;
+    }
+    b
+}
+
+fn not_read() {
+    io::write_all(2, b"read failed\n");
+}
+
+// One read, of at most `left` bytes. Where no more may follow, none is made: the input counts as ended.
+fn fetch(input: &mut [u8], left: usize) -> Fetched
+    ensures { λ r. ⌜ Brought (length (now (input .exit))) left r ⌝ }
+{
+    let room = least(input.len(), left);
+    if room == 0 {
+        return Fetched::End;
+    }
+    let got = libc::read(0, &mut input[0..room]);
+    if got < 0 {
+        not_read();
+        return Fetched::Failed;
+    }
+    let n = least(io::count(got, input), room);
+    if n == 0 {
+        return Fetched::End;
+    }
+    Fetched::Bytes(n)
+}
+
+// Writes out all that stands in the output.
+fn written_out(progress: Progress, out: &[u8]) -> Progress
+    ensures { λ r. ⌜ WrittenOut progress (now (out .entry)) r ⌝ }
+{
+    let at = progress.at;
+    if !flush(out, at) {
+        return with_status(progress, Status::Closed);
+    }
+    let mut next = progress;
+    next.at = 0;
+    next
+}
+
+// What one more read leaves, and how many bytes it brought.
+struct Reading {
+    progress: Progress,
+    brought: usize,
+}
+
+// One more read. It may wait, so the lines so far are written out before it.
+fn turn(
+    progress: Progress,
+    table: &[u64],
+    header: Header,
+    input: &mut [u8],
+    out: &mut [u8],
+    left: usize,
+) -> Reading
+    ensures { λ r. ⌜ Turning (now (table .entry)) header left progress (now (out .entry)) (now (input .exit)) r (now (out .exit)) ⌝ }
+{
+    let shown = written_out(progress, out);
+    let status = shown.status;
+    if !going(status) {
+        return Reading {
+            progress: shown,
+            brought: 0,
+        };
+    }
+    match fetch(input, left) {
+        Fetched::Bytes(n) => {
+            let next = follow(shown, table, header, &input[0..n], out);
+            Reading {
+                progress: next,
+                brought: n,
+            }
+        }
+        Fetched::End => {
+            let next = with_status(shown, Status::Ended);
+            Reading {
+                progress: next,
+                brought: 0,
+            }
+        }
+        Fetched::Failed => {
+            let next = with_status(shown, Status::Failed);
+            Reading {
+                progress: next,
+                brought: 0,
+            }
+        }
+    }
+}
+
+// How a log was left, and how many bytes might still have been read.
+pub struct Rest {
+    pub progress: Progress,
+    pub left: usize,
+}
+
+// Reads on while the log goes on, at most `left` bytes.
+fn all(
+    progress: Progress,
+    table: &[u64],
+    header: Header,
+    input: &mut [u8],
+    out: &mut [u8],
+    left: usize,
+) -> Rest
+    ensures { λ r. ⌜ Fed (now (table .entry)) header left progress (now (out .entry)) r (now (out .exit)) ⌝ }
+{
+    let mut now = progress;
+    let mut rest = left;
+    loop {
+        let status = now.status;
+        if !going(status) {
+            return Rest {
+                progress: now,
+                left: rest,
+            };
+        }
+        let one = turn(now, table, header, input, out, rest);
+        now = one.progress;
+        let brought = one.brought;
+        if brought == 0 {
+            return Rest {
+                progress: now,
+                left: rest,
+            };
+        }
+        rest -= brought;
+    }
+}
+
+// How many event bytes a log may still have: 01 ends it after 4,294,967,295.
+fn allowed(progress: Progress) -> usize
+    ensures { λ r. ⌜ r ≡ 4294967295 - progress .monitor .offered ⌝ }
+{
+    let monitor = progress.monitor;
+    (u32::MAX - monitor.offered) as usize
+}
+
+// The first bytes of a log: enough to open it, or all that the input had; or a read failed.
+pub enum Gathered {
+    Enough(usize),
+    All(usize),
+    Failed,
+}
+
+// Reads until a log's length, its encoding and an event are there, or the input ends.
+fn gather(input: &mut [u8], size: usize, piece: usize) -> Gathered
+    ensures { λ r. ⌜ UpTo (now (input .exit)) size r ⌝ }
+{
+    let mut have: usize = 0;
+    while have < input.len() {
+        if monitor::has_event(&input[0..have]) {
+            return Gathered::Enough(have);
+        }
+        let most = least(piece, size - have);
+        match fetch(&mut input[have..], most) {
+            Fetched::Bytes(n) => {
+                have += least(n, input.len() - have);
+            }
+            Fetched::End => {
+                return Gathered::All(have);
+            }
+            Fetched::Failed => {
+                return Gathered::Failed;
+            }
+        }
+    }
+    Gathered::Enough(have)
+}
+
+// A log whose first `n` bytes are there, and at most `size` more. It says how many of them were not read.
+fn run(input: &mut [u8], n: usize, out: &mut [u8], size: usize, piece: usize) -> usize
+    requires { ⌜ n ≤ length (now input) ⌝ }
+    ensures { λ r. ⌜ Ran (take (n - 0) (now (input .entry))) (now (out .entry)) size (now (out .exit)) ⌝ }
+{
+    let monitored = start(&input[0..n], out);
+    let table = monitored.table;
+    let header = monitored.header;
+    let progress = monitored.progress;
+    let limit = least(allowed(progress), size);
+    let part = least(piece, input.len());
+    let rest = all(progress, &table, header, &mut input[0..part], out, limit);
+    let last = rest.progress;
+    finish(last, out);
+    unread(size, limit, rest.left)
+}
+
+fn unread(size: usize, limit: usize, left: usize) -> usize {
+    if limit < left {
+        return size;
+    }
+    if size < limit - left {
+        return 0;
+    }
+    size - (limit - left)
+}
+
+// A log on standard input: at most `size` bytes, in reads of at most `piece` bytes. It says how many were not read.
+pub fn monitor_input(input: &mut [u8], out: &mut [u8], size: usize, piece: usize) -> usize {
+    match gather(input, size, piece) {
+        Gathered::Enough(n) => run(input, n, out, size - n, piece),
+        Gathered::All(n) => run(input, n, out, size - n, piece),
+        Gathered::Failed => 0,
     }
 }

@@ -1,8 +1,8 @@
 -- Source document 000's Definitions 1, 3 and 4 as they stand there: a state and an event have one target, and an execution sequence is a word, a list of events.
 use mathlib.Core.Path.{_≡_}
 use mathlib.Core.List.{List, [], _∷_, _++_}
-use Prim.Native.Nat.{ℕ, _≤_, _-_}
-use lib.ListN.{length}
+use Prim.Native.Nat.{ℕ, _+_, _*_, _^_, _≤_, _-_}
+use lib.ListN.{length, replicate, set}
 use Rattle.stateset.specs.Set.{In}
 use Rattle.automaton.specs.Run.{Automaton, Transition, Step, shows}
 use Rattle.verifier.specs.declared.Notion.{Notion}
@@ -63,3 +63,18 @@ StronglyByWords p secret K = (t : List ℕ) → WordLang p t → FreeWord p secr
 abbrev pub OpaqueByWords : Notion → Automaton → (secret K : ℕ) → Type 0
 OpaqueByWords Weak p secret K = WeaklyByWords p secret K
 OpaqueByWords Strong p secret K = StronglyByWords p secret K
+
+-- an automaton of listed transitions, each from, event and to. Of two with one state and event the first counts, so that it has one target
+abbrev pub tabled : List (ℕ × ℕ × ℕ) → List ℕ
+tabled [] = replicate 2048 0
+tabled ((from, event, to) ∷ rest) = set (tabled rest) (64 * event + from) (2 ^ to)
+
+abbrev pub listedBy : List (ℕ × ℕ × ℕ) → (initial observable : ℕ) → Automaton
+listedBy l initial observable = record { table = tabled l; initial = initial; observable = observable }
+
+-- 01's P
+abbrev pub transitionsP : List (ℕ × ℕ × ℕ)
+transitionsP = (0, 0, 2) ∷ (0, 1, 1) ∷ (1, 2, 0) ∷ (2, 1, 3) ∷ (3, 1, 3) ∷ []
+
+abbrev pub exampleP : Automaton
+exampleP = listedBy transitionsP 0 (2 ^ 1 + 2 ^ 2)

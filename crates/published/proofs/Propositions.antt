@@ -1,18 +1,18 @@
 -- Source document 000's Propositions 1 and 2, and a leak set that is not empty, with the executions in hand. Assumes nothing.
-use mathlib.Core.Path.{_≡_, refl, ap, sym, _∙_}
-use mathlib.Core.List.{List, []}
+use mathlib.Core.Path.{ap, _∙_}
+use mathlib.Core.List.{List}
 use mathlib.Core.Logic.{_⊎_, inl, inr, _↔_}
 use Prim.Native.Nat.{ℕ, _-_, _≤_}
 use native.Mathlib.Omega.{arith}
 use lib.ListN.{length}
-use Rattle.automaton.specs.Run.{Automaton, Step, shown, Compatible, Position}
+use Rattle.automaton.specs.Run.{Automaton, Step, shown, Compatible}
 use Rattle.automaton.proofs.Runs.{takes-front}
 use Rattle.verifier.specs.declared.Notion.{Notion}
 use Rattle.verifier.specs.declared.Notion.the-variants.{Weak, Strong}
 use Rattle.verifier.specs.Verdicts.{Steps, none, leak, Tells}
 use Rattle.verifier.proofs.Exactness.{in-words}
-use Rattle.published.specs.Source.{Prefix, Lang, Trace, Still, AllSecret, NoneFree, Excused, Alone, Breaks, Equivalent, FreeLike, WeaklyOpaque, StronglyOpaque, Opaque, LeakSet, RevealsWithin, LeaksByRuns}
-use Rattle.published.proofs.SourceLaws.{prefix-short, position-at, still-at, shown-prefix, run-trace, words-leak-at, tells-excused, excused-like, excused-free, excused-opaque}
+use Rattle.published.specs.Source.{Prefix, Lang, Trace, AllSecret, NoneFree, Excused, Alone, Breaks, WeaklyOpaque, StronglyOpaque, Opaque, LeakSet, RevealsWithin, LeaksByRuns}
+use Rattle.published.proofs.SourceLaws.{prefix-short, position-at, still-at, run-trace, words-leak-at, tells-excused, excused-like, excused-free, excused-opaque}
 use Rattle.published.proofs.Corollary.{every-verdict, at-within, opaque-empty, empty-opaque}
 
 -- Proposition 1: "S is (G, P, K)-weakly opaque iff ∀ μ ∈ T(G), ∀ μ′ ⪯ μ : |μ − μ′| ≤ K ⇒ ⟦μ′/μ⟧ ⊄ L_S(G)"

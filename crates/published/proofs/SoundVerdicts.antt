@@ -1,10 +1,10 @@
 -- Source document 000's Definition 6, soundness and completeness of a verifier, holds of ours. Assumes nothing.
-use mathlib.Core.Path.{_≡_, refl, ap, sym, subst, _∙_}
+use mathlib.Core.Path.{_≡_, refl, sym, subst}
 use mathlib.Core.List.{List, [], _∷_, _++_, append-assoc, append-nil}
 use mathlib.Core.Logic.{inl, inr, _↔_}
 use Prim.Native.Nat.{ℕ, _<_}
 use native.Mathlib.Omega.{arith}
-use lib.ListN.{length, take, getD, length-append}
+use lib.ListN.{length, length-append}
 use lib.Seq.{take-at, getD-append-seam}
 use Rattle.stateset.specs.Set.{In}
 use Rattle.automaton.specs.declared.Header.{Header}
@@ -12,7 +12,7 @@ use Rattle.automaton.specs.Run.{Automaton, automatonOf, Possible, Observable}
 use Rattle.automaton.proofs.Traces.{trace-observable, prefix-possible}
 use Rattle.verifier.specs.declared.Notion.{Notion}
 use Rattle.verifier.specs.declared.Notion.the-variants.{Weak, Strong}
-use Rattle.verifier.specs.Verdicts.{Steps, none, leak}
+use Rattle.verifier.specs.Verdicts.{Steps}
 use Rattle.verifier.specs.Replies.{Said, refused, verdicts}
 use Rattle.verifier.specs.Calls.{Call, takenBy, Right, Answered, AllAnswered}
 use Rattle.verifier.proofs.SecondPoint.{second-point}

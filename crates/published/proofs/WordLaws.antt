@@ -30,12 +30,12 @@ pub steps-lead : (p : Automaton) (q : ℕ) (ss : List Step) → Takes p q ss →
 steps-lead p q [] t = refl
 steps-lead p q (s ∷ ss) t = (s .to, t .0, steps-lead p (s .to) ss (t .1))
 
-record Spelled (p : Automaton) (q : ℕ) (s : List ℕ) : Type 0 where
-  run : List Step
-  takes : Takes p q run
-  spells : wordOf run ≡ s
+pub record Spelled (p : Automaton) (q : ℕ) (s : List ℕ) : Type 0 where
+  pub run : List Step
+  pub takes : Takes p q run
+  pub spells : wordOf run ≡ s
 
-lead-steps : (p : Automaton) (q : ℕ) (s : List ℕ) (r : ℕ) → Leads p q s r → Spelled p q s
+pub lead-steps : (p : Automaton) (q : ℕ) (s : List ℕ) (r : ℕ) → Leads p q s r → Spelled p q s
 lead-steps p q [] r x = record { run = []; takes = tt; spells = refl }
 lead-steps p q (e ∷ s) r x =
     let y = lead-steps p (x .0) s r (x .2) in

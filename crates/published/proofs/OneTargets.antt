@@ -52,7 +52,26 @@ one-target-listed l initial observable = singles-one-target (listedBy l initial 
 pub one-target-P : OneTarget exampleP
 one-target-P = one-target-listed transitionsP 0 (2 ^ 1 + 2 ^ 2)
 
--- and it has its transitions, here the one from 0 by 1 to 1
-pub transition-P : Transition (exampleP .table) 0 1 1
+-- and it has the transitions that are listed
+has : (q e r : ℕ) → q < 64 → e < 32 → r < 64 → In r (getD (tabled transitionsP) (64 * e + q) 0) → Transition (exampleP .table) q e r
+has q e r a b c i = record { from-small = a; event-small = b; to-small = c; listed = i }
+
+abbrev Listed : List (ℕ × ℕ × ℕ) → Type 0
+Listed [] = Unit {0}
+Listed ((q, e, r) ∷ l) = Transition (exampleP .table) q e r × Listed l
+
+pub transitions-P : Listed transitionsP
 unfolding bit
-transition-P = record { from-small = omega arith; event-small = omega arith; to-small = omega arith; listed = refl }
+transitions-P = (
+  has 0 0 2 (omega arith) (omega arith) (omega arith) refl,
+  (
+    has 0 1 1 (omega arith) (omega arith) (omega arith) refl,
+    (
+      has 1 2 0 (omega arith) (omega arith) (omega arith) refl,
+      (
+        has 2 1 3 (omega arith) (omega arith) (omega arith) refl,
+        (has 3 1 3 (omega arith) (omega arith) (omega arith) refl, tt),
+      ),
+    ),
+  ),
+)

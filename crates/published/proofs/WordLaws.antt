@@ -21,7 +21,7 @@ word-append [] b = refl
 word-append (s ∷ a) b = ap (λ (l : List ℕ). s .event ∷ l) (word-append a b)
 
 -- what steps show is the projection of their word
-word-shown : (p : Automaton) (ss : List Step) → shown p ss ≡ projected p (wordOf ss)
+pub word-shown : (p : Automaton) (ss : List Step) → shown p ss ≡ projected p (wordOf ss)
 word-shown p [] = refl
 word-shown p (s ∷ ss) = ap (λ (l : List ℕ). shows p (s .event) ++ l) (word-shown p ss)
 

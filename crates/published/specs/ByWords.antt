@@ -78,3 +78,7 @@ transitionsP = (0, 0, 2) ∷ (0, 1, 1) ∷ (1, 2, 0) ∷ (2, 1, 3) ∷ (3, 1, 3)
 
 abbrev pub exampleP : Automaton
 exampleP = listedBy transitionsP 0 (2 ^ 1 + 2 ^ 2)
+
+-- two targets: event 1 leads from 0 to 1 and to 2
+abbrev pub twoTargets : Automaton
+twoTargets = record { table = set (replicate 2048 0) 64 (2 ^ 1 + 2 ^ 2); initial = 0; observable = 2 ^ 1 }

@@ -1,6 +1,7 @@
 use automaton::Header;
 use automaton::Refusal;
 use verifier::Answer;
+use verifier::AnswerBy;
 use verifier::Estimator;
 use verifier::Notion;
 use verifier::Verdict;
@@ -262,18 +263,16 @@ impl Enforcer {
         }
         let estimator = self.estimator;
         let notion = self.notion;
-        let asked = verifier::ask(notion);
-        let reply = estimator.accept_asked(table, header, byte, asked);
+        let reply = estimator.accept_by(table, header, byte, notion);
         let answer = reply.answer;
         match answer {
-            Answer::Refused(refusal) => Given {
+            AnswerBy::Refused(refusal) => Given {
                 enforcer: self,
                 answer: OfferAnswer::Refused(refusal),
             },
-            Answer::Accepted(verdicts) => {
+            AnswerBy::Accepted(verdict) => {
                 let next = reply.estimator;
                 let k = header.k;
-                let verdict = verifier::choose(notion, verdicts);
                 let w = wait(k, verdict);
                 self.take_in(k, next, w, byte, output)
             }

@@ -1,5 +1,5 @@
 -- From the steps that an estimator remembers to K. Assumes nothing.
-use mathlib.Core.Path.{_≡_, ap, _∙_, subst}
+use mathlib.Core.Path.{_≡_, refl, sym, ap, _∙_, subst}
 use mathlib.Core.List.{List, [], _∷_, _++_}
 use Prim.Native.Nat.{ℕ, _≤_, _<_, _-_, min}
 use native.Mathlib.Omega.{arith}
@@ -20,12 +20,13 @@ use Rattle.verifier.specs.declared.Verdicts.{Verdicts}
 use Rattle.verifier.specs.declared.Estimator.{Estimator}
 use Rattle.verifier.specs.Verdicts.{Steps, none, leak, stepsOf, Tells}
 use Rattle.verifier.specs.Estimators.{Grown}
-use Rattle.verifier.specs.Replies.{refused, said, Bounded, Exact, Accepting, accepted, Asks, Moved, TellsBy, AcceptingAsked}
-use Rattle.verifier.specs.Inner.{Near, Found, Judged}
+use Rattle.verifier.specs.Replies.{refused, said, refused-by, verdict, saidBy, chosen, Bounded, Exact, Accepting, accepted, Moved, TellsBy, AcceptingBy, turned-back, accepted-by}
+use Rattle.verifier.specs.Inner.{Near, Found, Asks, askFor, Given, Judged, GivenBy, AcceptingAsked}
 use Rattle.verifier.specs.declared.Reply.{Reply}
 use Rattle.verifier.specs.declared.Asked.{Asked}
 use Rattle.verifier.specs.declared.Answer.{Answer}
 use Rattle.verifier.specs.declared.Answer.the-variants as answer
+use Rattle.verifier.specs.declared.AnswerBy.the-variants as by
 use Rattle.verifier.proofs.Growing.{grown-remembers}
 
 -- the states right after the last event
@@ -53,8 +54,8 @@ pub judged-exact : (t : List ℕ) (h : Header) (trace : List ℕ) (s : Estimator
 judged-exact t h trace s a v weak strong g j =
     record {
       possible = g .possible;
-      weak = found-tells Weak _ _ _ trace s (v .weak) g (j Weak weak);
-      strong = found-tells Strong _ _ _ trace s (v .strong) g (j Strong strong);
+      weak = found-tells Weak _ _ _ trace s (v .weak) g (j Weak .found weak);
+      strong = found-tells Strong _ _ _ trace s (v .strong) g (j Strong .found strong);
       grown = g;
     }
 
@@ -72,6 +73,10 @@ found-by notion t h self event s v m f =
       tells = λ trace g. found-tells notion _ _ _ (trace ++ event ∷ []) s v (m .grown trace g) f;
     }
 
+pub given-by : (notion : Notion) (t : List ℕ) (h : Header) (self : Estimator) (event : ℕ) (s : Estimator) (a : Asked) (v : Verdict) → Moved t h self event s
+    → Given t h s a notion v → GivenBy notion t h self event a v
+given-by notion t h self event s a v m g = record { found = λ asks. found-by notion t h self event s v m (g .found asks); silent = g .silent }
+
 -- a refusal
 pub refused-asked : (a : Asked) (t : List ℕ) (h : Header) (self : Estimator) (event : ℕ) (refusal : Refusal) (r : Reply) → r .estimator ≡ self → r .answer ≡ answer.Refused refusal
     → Accepting t h self event (refused (numberOf refusal)) self → AcceptingAsked a t h self event (r .answer) (r .estimator)
@@ -83,9 +88,34 @@ pub asked-both : (t : List ℕ) (h : Header) (self : Estimator) (event : ℕ) (a
 asked-both t h self event a (answer.Refused n) s weak strong x = x
 asked-both t h self event a (answer.Accepted v) s weak strong x =
     let m = x .0 in
-    let w = x .1 Weak weak in
-    let u = x .1 Strong strong in
+    let w = x .1 Weak .found weak in
+    let u = x .1 Strong .found strong in
     accepted (m .sound) (m .limits) (m .observable) (m .limits-after) (w .bounded) (u .bounded)
     (λ trace g.
     let n = m .grown trace g in
     record { possible = n .possible; weak = w .tells trace g; strong = u .tells trace g; grown = n })
+
+-- one notion makes its verdict
+asks-one : (notion : Notion) → Asks notion (askFor notion)
+asks-one Weak = refl
+asks-one Strong = refl
+
+pub asked-refused : (notion : Notion) (t : List ℕ) (h : Header) (self : Estimator) (event : ℕ) (a : Asked) (r : Answer) (s : Estimator) (n : Refusal)
+    → AcceptingAsked a t h self event r s → r ≡ answer.Refused n → AcceptingBy notion t h self event (saidBy (by.Refused n)) s
+asked-refused notion t h self event a r s n x e = turned-back (subst (λ (y : Answer). AcceptingAsked a t h self event y s) e x)
+
+pub asked-one : (notion : Notion) (t : List ℕ) (h : Header) (self : Estimator) (event : ℕ) (a : Asked) (r : Answer) (s : Estimator) (vs : Verdicts) (v : Verdict)
+    → a ≡ askFor notion → AcceptingAsked a t h self event r s → r ≡ answer.Accepted vs → v ≡ chosen notion vs → AcceptingBy notion t h self event (saidBy (by.Accepted v)) s
+asked-one notion t h self event a r s vs v one x e is =
+    let y = subst (λ (z : Answer). AcceptingAsked a t h self event z s) e x in
+    let told = y .1 notion .found (subst (Asks notion) (sym one) (asks-one notion)) in
+    accepted-by (y .0) (subst (λ (z : Verdict). TellsBy notion t h self event (stepsOf z)) (sym is) told)
+
+-- and the other way round
+pub refused-of : {notion : Notion} {t : List ℕ} {h : Header} {self : Estimator} {event n : ℕ} {s : Estimator} → AcceptingBy notion t h self event (refused-by n) s
+    → Accepting t h self event (refused n) s
+refused-of (turned-back x) = x
+
+pub accepted-of : {notion : Notion} {t : List ℕ} {h : Header} {self : Estimator} {event : ℕ} {v : Steps} {s : Estimator} → AcceptingBy notion t h self event (verdict v) s
+    → Moved t h self event s × TellsBy notion t h self event v
+accepted-of (accepted-by m w) = (m, w)

@@ -1,6 +1,4 @@
 -- What a fresh estimator and an offered event give, in the order that 01 gives below its refusal table.
-use mathlib.Core.Path.{_≡_}
-use mathlib.Core.Bool.{true}
 use mathlib.Core.List.{List, [], _∷_, _++_}
 use Prim.Native.Nat.{ℕ, _≤_}
 use Rattle.automaton.specs.Run.{automatonOf, Possible, Impossible, Observable, Sound}
@@ -13,7 +11,8 @@ use Rattle.verifier.specs.declared.Notion.the-variants.{Weak, Strong}
 use Rattle.verifier.specs.declared.Estimator.{Estimator}
 use Rattle.verifier.specs.declared.Answer.{Answer}
 use Rattle.verifier.specs.declared.Answer.the-variants as answer
-use Rattle.verifier.specs.declared.Asked.{Asked}
+use Rattle.verifier.specs.declared.AnswerBy.{AnswerBy}
+use Rattle.verifier.specs.declared.AnswerBy.the-variants as by
 use Rattle.verifier.specs.declared.Verdict.{Verdict}
 use Rattle.verifier.specs.declared.Verdicts as declared
 
@@ -55,10 +54,14 @@ pub data Accepting (t : List ℕ) (h : Header) (self : Estimator) (event : ℕ) 
       → ((trace : List ℕ) → Grown (automatonOf t h) (h .k) trace self → Exact t h (trace ++ event ∷ []) weak strong s)
       → Accepting t h self event (verdicts weak strong) s
 
--- the notion is asked for; the verdict by it
-abbrev pub Asks : Notion → Asked → Type 0
-Asks Weak a = a .weak ≡ true
-Asks Strong a = a .strong ≡ true
+-- an answer with the verdict by one notion says: the number of a refusal, or the steps of that verdict
+pub data SaidBy : Type 0 where
+  refused-by : ℕ → SaidBy
+  verdict : Steps → SaidBy
+
+abbrev pub saidBy : AnswerBy → SaidBy
+saidBy (by.Refused r) = refused-by (numberOf r)
+saidBy (by.Accepted v) = verdict (stepsOf v)
 
 abbrev pub chosen : Notion → declared.Verdicts → Verdict
 chosen Weak v = v .weak
@@ -77,8 +80,7 @@ pub record TellsBy (notion : Notion) (t : List ℕ) (h : Header) (self : Estimat
   pub bounded : Bounded (h .k) v
   pub tells : (trace : List ℕ) → Grown (automatonOf t h) (h .k) trace self → Tells notion (automatonOf t h) (h .secret) (h .k) (trace ++ event ∷ []) v
 
--- an event offered, of whose verdicts only some are asked for: refusals as above, and an accepted event with the verdict by each notion that is asked for
-abbrev pub AcceptingAsked : Asked → List ℕ → Header → Estimator → ℕ → Answer → Estimator → Type 0
-AcceptingAsked a t h self event (answer.Refused r) s = Accepting t h self event (refused (numberOf r)) s
-AcceptingAsked a t h self event (answer.Accepted v) s =
-    Moved t h self event s × ((notion : Notion) → Asks notion a → TellsBy notion t h self event (stepsOf (chosen notion v)))
+-- an event offered to an estimator, with the verdict by one notion: refusals as above, and an accepted event with that verdict
+pub data AcceptingBy (notion : Notion) (t : List ℕ) (h : Header) (self : Estimator) (event : ℕ) : SaidBy → Estimator → Type 0 where
+  turned-back : {n : ℕ} {s : Estimator} → Accepting t h self event (refused n) s → AcceptingBy notion t h self event (refused-by n) s
+  accepted-by : {v : Steps} {s : Estimator} → Moved t h self event s → TellsBy notion t h self event v → AcceptingBy notion t h self event (verdict v) s

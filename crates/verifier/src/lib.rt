@@ -11,8 +11,8 @@ ghost use Rattle.automaton.specs.Relation.{Sub};
 ghost use Rattle.verifier.specs.declared.Notion.the-variants as notion;
 ghost use Rattle.verifier.specs.Estimators.{Limits, Grown};
 ghost use Rattle.verifier.specs.declared.Answer.the-variants as answer;
-ghost use Rattle.verifier.specs.Replies.{said, Opening, Accepting, Asks, chosen, AcceptingAsked};
-ghost use Rattle.verifier.specs.Inner.{Pushed, Next, Sampled, Prepared, Found, Judged};
+ghost use Rattle.verifier.specs.Replies.{said, saidBy, chosen, Opening, Accepting, AcceptingBy};
+ghost use Rattle.verifier.specs.Inner.{Pushed, Next, Sampled, Prepared, Found, askFor, Judged, AcceptingAsked};
 
 // 01's "none", or "leak" with its steps.
 pub enum Verdict {
@@ -47,10 +47,21 @@ pub struct Reply {
     pub answer: Answer,
 }
 
+// With the verdict by one notion alone.
+pub enum AnswerBy {
+    Refused(Refusal),
+    Accepted(Verdict),
+}
+
+pub struct ReplyBy {
+    pub estimator: Estimator,
+    pub answer: AnswerBy,
+}
+
 // The notions whose verdicts are asked for.
-pub struct Asked {
-    pub weak: bool,
-    pub strong: bool,
+struct Asked {
+    weak: bool,
+    strong: bool,
 }
 
 // The states right after one more event, if a run is left.
@@ -222,7 +233,7 @@ fn strong_verdict(
     }
 }
 
-// The verdicts by the notions that are asked for. (The other one is left out, and says nothing.)
+// The verdicts by the notions that are asked for, and none for the others.
 fn judge(
     estimator: Estimator,
     table: &[u64],
@@ -251,8 +262,8 @@ fn judge(
 }
 
 // Asks for one notion.
-pub fn ask(notion: Notion) -> Asked
-    ensures { λ r. ⌜ Asks notion r ⌝ }
+fn ask(notion: Notion) -> Asked
+    ensures { λ r. ⌜ r ≡ askFor notion ⌝ }
 {
     match notion {
         Notion::Weak => Asked {
@@ -374,8 +385,8 @@ impl Estimator {
     }
 
     // Accepts one event, or hands back the estimator as it was. (01: "An event on which no run is left is turned back, and the watch stays.") Only
-    // the verdicts that are asked for are found, the other one says nothing. What is known of unobservable events grows with the states that matter.
-    pub fn accept_asked(self, table: &[u64], header: Header, event: u8, asked: Asked) -> Reply
+    // the verdicts that are asked for are found. What is known of unobservable events grows with the states that matter.
+    fn accept_asked(self, table: &[u64], header: Header, event: u8, asked: Asked) -> Reply
         ensures { λ r. ⌜ AcceptingAsked asked (now (table .entry)) header self event (r .answer) (r .estimator) ⌝ }
     {
         if !self.sound(table, header) {
@@ -420,5 +431,27 @@ impl Estimator {
             strong: true,
         };
         self.accept_asked(table, header, event, asked)
+    }
+
+    // Accepts one event, with the verdict by one notion: an enforcer pays for one look back.
+    pub fn accept_by(self, table: &[u64], header: Header, event: u8, notion: Notion) -> ReplyBy
+        ensures { λ r. ⌜ AcceptingBy notion (now (table .entry)) header self event (saidBy (r .answer)) (r .estimator) ⌝ }
+    {
+        let reply = self.accept_asked(table, header, event, ask(notion));
+        let estimator = reply.estimator;
+        let answer = reply.answer;
+        match answer {
+            Answer::Refused(refusal) => ReplyBy {
+                estimator: estimator,
+                answer: AnswerBy::Refused(refusal),
+            },
+            Answer::Accepted(verdicts) => {
+                let verdict = choose(notion, verdicts);
+                ReplyBy {
+                    estimator: estimator,
+                    answer: AnswerBy::Accepted(verdict),
+                }
+            }
+        }
     }
 }

@@ -1,13 +1,13 @@
-use mathlib.Core.Path.{subst, sym}
+-- `Enforcer::offer` meets its contract: the tests in their order, and the verdict by the enforcer's notion.
+use mathlib.Core.Path.{subst}
 use Prim.Native.Nat.{ℕ}
 use denote.Ref.{now}
 use Rattle.automaton.specs.Run.{Sound}
-use Rattle.verifier.specs.declared.Answer.{Answer}
-use Rattle.verifier.specs.declared.Verdict.{Verdict}
-use Rattle.verifier.specs.Verdicts.{stepsOf}
-use Rattle.verifier.specs.Replies.{AcceptingAsked, TellsBy}
+use Rattle.verifier.specs.declared.AnswerBy.{AnswerBy}
+use Rattle.verifier.specs.Replies.{saidBy, AcceptingBy}
+use Rattle.verifier.proofs.Judging.{refused-of, accepted-of}
 use Rattle.enforcer.specs.Enforcers.{Limits}
-use Rattle.enforcer.specs.Inner.{waitOf, Took}
+use Rattle.enforcer.specs.Inner.{Took}
 use borrow.Author.Tests.{not-true, not-false}
 use Rattle.stateset.proofs.Decides.{holds, fails}
 use Rattle.enforcer.specs.Offerings.{Offering, output-too-small}
@@ -30,17 +30,11 @@ returns c = Offering.malformed (fails (c .before .sound .result) (not-true _ (c 
 
 returns-2 : tie.Need-returns-2
 returns-2 c =
-    let ok = holds (c .before .before .sound .result) (not-false _ (c .before .if1 .left)) (c .before .before .sound .ensures) in
-    output-too-small (ok .0) (ok .1) (c .if2 .taken)
+    let good = ok (c .before) in
+    output-too-small (good .0) (good .1) (c .if2 .taken)
 
-ask-requires : tie.Need-ask-requires
-ask-requires c κs = search needs
-
-choose-requires : tie.Need-choose-requires
-choose-requires c κs = search needs
-
-accept-asked-requires : tie.Need-accept-asked-requires
-accept-asked-requires c κs = search needs
+accept-by-requires : tie.Need-accept-by-requires
+accept-by-requires c κs = search needs
 
 enum-known-answer : tie.Need-enum-known-answer
 enum-known-answer c = search needs
@@ -49,24 +43,25 @@ enum-known-answer-2 : tie.Need-enum-known-answer-2
 enum-known-answer-2 c = search needs
 
 wait-requires : tie.Need-wait-requires
-wait-requires c κs = ok (c .before .before .before .before .before .before .before .before .before) .0 .back
+wait-requires c κs = ok (c .before .before .before .before .before .before .before) .0 .back
 
 take-in-requires : tie.Need-take-in-requires
 take-in-requires c κs =
-    let e2 = c .before .before .before .before .before .before .before .before .before .before in
+    let e2 = c .before .before .before .before .before .before .before .before in
     let good = ok (e2 .before) in
     (good .0 .back, good .1 .few, e2 .if2 .left)
 
 returns-3 : tie.Need-returns-3
 returns-3 c =
     let called = c .before .before .before in
-    let e2 = called .before .before .before in
+    let e2 = called .before .before in
     let good = ok (e2 .before) in
     let a = e2 .before .before .before .before .before .args in
-    refused-outcome (now (a .table)) (a .header) (a .self) (a .byte) (now (a .output)) (numberOf (c .before .answer .given .0 .0)) (called .accept-asked .result .estimator)
+    refused-outcome (now (a .table)) (a .header) (a .self) (a .byte) (now (a .output)) (numberOf (c .before .answer .given .0 .0)) (called .accept-by .result .estimator)
     (good .0) (good .1) (e2 .if2 .left)
-    (subst (λ (x : Answer). AcceptingAsked (called .before .ask .result) (now (a .table)) (a .header) (a .self .estimator) (a .byte) x (called .accept-asked .result .estimator))
-    (c .before .answer .given .1) (called .accept-asked .ensures))
+    (refused-of
+    (subst (λ (x : AnswerBy). AcceptingBy (a .self .notion) (now (a .table)) (a .header) (a .self .estimator) (a .byte) (saidBy x) (called .accept-by .result .estimator))
+    (c .before .answer .given .1) (called .accept-by .ensures)))
 
 same-length : tie.Need-same-length
 same-length c = search needs
@@ -74,21 +69,18 @@ same-length c = search needs
 returns-4 : tie.Need-returns-4
 returns-4 c =
     let after-wait = c .before .before .before .before in
-    let chose = after-wait .before in
-    let after-answer = chose .before .before .before in
+    let after-answer = after-wait .before .before .before in
     let called = after-answer .before .before in
-    let e2 = called .before .before .before in
+    let e2 = called .before .before in
     let good = ok (e2 .before) in
     let a = e2 .before .before .before .before .before .args in
     let taken = c .before .before .take-in in
-    let all = subst (λ (x : Answer). AcceptingAsked (called .before .ask .result) (now (a .table)) (a .header) (a .self .estimator) (a .byte) x (called .accept-asked .result .estimator))
-    (after-answer .answer2 .given .1) (called .accept-asked .ensures) in
-    taken-outcome (now (a .table)) (a .header) (a .self) (a .byte) (now (a .output)) (chose .choose .result) (called .accept-asked .result .estimator) (taken .result .answer) (taken .result .enforcer)
-    (taken .last .1 .1 .1 .1 .1 .0) (good .0) (good .1) (e2 .if2 .left)
-    (all .0)
-    (subst (λ (v : Verdict). TellsBy (a .self .notion) (now (a .table)) (a .header) (a .self .estimator) (a .byte) (stepsOf v))
-    (sym (chose .choose .ensures)) (all .1 (a .self .notion) (called .before .ask .ensures)))
-    (subst (λ (n : ℕ). Took (a .header .k) (a .self) (called .accept-asked .result .estimator) n (a .byte) (now (a .output)) (taken .result .answer) (taken .result .enforcer) (taken .last .1 .1 .1 .1 .1 .0))
+    let all = accepted-of
+    (subst (λ (x : AnswerBy). AcceptingBy (a .self .notion) (now (a .table)) (a .header) (a .self .estimator) (a .byte) (saidBy x) (called .accept-by .result .estimator))
+    (after-answer .answer2 .given .1) (called .accept-by .ensures)) in
+    taken-outcome (now (a .table)) (a .header) (a .self) (a .byte) (now (a .output)) (after-answer .answer2 .given .0 .0) (called .accept-by .result .estimator) (taken .result .answer)
+    (taken .result .enforcer) (taken .last .1 .1 .1 .1 .1 .0) (good .0) (good .1) (e2 .if2 .left) (all .0) (all .1)
+    (subst (λ (n : ℕ). Took (a .header .k) (a .self) (called .accept-by .result .estimator) n (a .byte) (now (a .output)) (taken .result .answer) (taken .result .enforcer) (taken .last .1 .1 .1 .1 .1 .0))
     (after-wait .wait .ensures) (taken .ensures))
 
 pub offer-spec : {M : Type 1} → statement M
@@ -98,11 +90,9 @@ offer-spec =
     sound-requires
     returns
     returns-2
-    ask-requires
-    accept-asked-requires
+    accept-by-requires
     enum-known-answer
     enum-known-answer-2
-    choose-requires
     wait-requires
     take-in-requires
     returns-3

@@ -23,9 +23,10 @@ use Rattle.enforcer.specs.Offerings.{Starting, Offering}
 use Rattle.enforcer.specs.declared.Enforcer.{Enforcer}
 use Rattle.enforcer.specs.declared.StartAnswer as start
 use Rattle.enforcer.specs.declared.OfferAnswer as offer
-use Rattle.gateway.specs.Layout.{headerAt, headerBytes, estimatorAt, estimatorBytes, notionAt, enforcerAt, enforcerBytes, verdictByte}
+use Rattle.gateway.specs.Layout.{headerAt, headerBytes, estimatorAt, estimatorBytes, EstimatorSized, EnforcerSized, notionAt, enforcerAt, enforcerBytes, verdictByte}
 use Rattle.gateway.specs.Interface.{Decode, Fresh, Accept, Start, Offer, VerifierSizes, StartSizes, OfferSizes}
 use Rattle.gateway.proofs.Saved.{whole}
+use Rattle.gateway.proofs.Inverse.{estimator-length, estimator-saved, enforcer-saved}
 
 -- a refusal leaves the lent memory
 kept-table : (encoding table : List ℕ) {h : Header} {n : ℕ} {after : List ℕ} → Decoding encoding table h (decoding.refuse n) after → after ≡ table
@@ -59,8 +60,8 @@ verdictBytes v = verdictByte (stepsOf (v .weak)) ∷ verdictByte (stepsOf (v .st
 module _ (t header estimator verdicts : List ℕ) (h : Header) (after : Estimator) (answer : verdict.Answer) (sizes : VerifierSizes header estimator verdicts)
     (is-header : h ≡ headerAt header) where
   -- an estimator that fills its slice
-  filled : (left : List ℕ) → (length (estimatorBytes after) ≡ 144) × (left ≡ sets estimator 0 (estimatorBytes after)) → left ≡ estimatorBytes after
-  filled left wrote = wrote .1 ∙ whole estimator (estimatorBytes after) (wrote .0 ∙ sym (sizes .estimator-size))
+  filled : (left : List ℕ) → EstimatorSized after × (left ≡ sets estimator 0 (estimatorBytes after)) → left ≡ estimatorBytes after
+  filled left wrote = wrote .1 ∙ whole estimator (estimatorBytes after) (estimator-length after (wrote .0) ∙ sym (sizes .estimator-size))
 
   module _ (did : Opening t h (verifier.said answer) after) where
     said-opening : (x : verdict.Answer) → answer ≡ x → Opening t (headerAt header) (verifier.said x) after
@@ -70,10 +71,10 @@ module _ (t header estimator verdicts : List ℕ) (h : Header) (after : Estimato
     fresh-refused r n is number = rw number (Fresh.refused sizes (said-opening (verdict.the-variants.Refused r) is))
 
     pub fresh-accepted : (v : Verdicts) (left told : List ℕ) → answer ≡ verdict.the-variants.Accepted v
-        → (length (estimatorBytes after) ≡ 144) × (left ≡ sets estimator 0 (estimatorBytes after)) → told ≡ verdictBytes v → Fresh t header estimator verdicts 0 left told
+        → EstimatorSized after × (left ≡ sets estimator 0 (estimatorBytes after)) → told ≡ verdictBytes v → Fresh t header estimator verdicts 0 left told
     fresh-accepted v left told is wrote says =
         subst (λ (x : List ℕ). Fresh t header estimator verdicts 0 x told) (sym (filled left wrote))
-        (subst (λ (x : List ℕ). Fresh t header estimator verdicts 0 (estimatorBytes after) x) (sym says) (Fresh.accepted sizes (said-opening (verdict.the-variants.Accepted v) is)))
+        (subst (λ (x : List ℕ). Fresh t header estimator verdicts 0 (estimatorBytes after) x) (sym says) (Fresh.accepted sizes (said-opening (verdict.the-variants.Accepted v) is) (estimator-saved after (wrote .0))))
 
   module _ (event : ℕ) (s : Estimator) (is-estimator : s ≡ estimatorAt estimator) (did : Accepting t h s event (verifier.said answer) after) where
     said-accepting : (x : verdict.Answer) → answer ≡ x → Accepting t (headerAt header) (estimatorAt estimator) event (verifier.said x) after
@@ -86,10 +87,10 @@ module _ (t header estimator verdicts : List ℕ) (h : Header) (after : Estimato
     accept-refused r n is number = rw number (Accept.refused sizes (said-accepting (verdict.the-variants.Refused r) is))
 
     pub accept-accepted : (v : Verdicts) (left told : List ℕ) → answer ≡ verdict.the-variants.Accepted v
-        → (length (estimatorBytes after) ≡ 144) × (left ≡ sets estimator 0 (estimatorBytes after)) → told ≡ verdictBytes v → Accept t header event estimator verdicts 0 left told
+        → EstimatorSized after × (left ≡ sets estimator 0 (estimatorBytes after)) → told ≡ verdictBytes v → Accept t header event estimator verdicts 0 left told
     accept-accepted v left told is wrote says =
         subst (λ (x : List ℕ). Accept t header event estimator verdicts 0 x told) (sym (filled left wrote))
-        (subst (λ (x : List ℕ). Accept t header event estimator verdicts 0 (estimatorBytes after) x) (sym says) (Accept.accepted sizes (said-accepting (verdict.the-variants.Accepted v) is)))
+        (subst (λ (x : List ℕ). Accept t header event estimator verdicts 0 (estimatorBytes after) x) (sym says) (Accept.accepted sizes (said-accepting (verdict.the-variants.Accepted v) is) (estimator-saved after (wrote .0))))
 
 module _ (t header : List ℕ) (byte : ℕ) (saved : List ℕ) (h : Header) (notion : Notion) (after : Enforcer) (answer : start.StartAnswer) (sizes : StartSizes header byte saved)
     (is-header : h ≡ headerAt header) (is-notion : notion ≡ notionAt byte) (did : Starting t h notion (offering.begun answer) after) where
@@ -102,9 +103,9 @@ module _ (t header : List ℕ) (byte : ℕ) (saved : List ℕ) (h : Header) (not
   pub start-refused : (r : Refusal) (n : ℕ) → answer ≡ start.the-variants.Refused r → n ≡ numberOf r → Start t header byte saved n saved
   start-refused r n is number = rw number (Start.refused sizes (begun-starting (start.the-variants.Refused r) is))
 
-  pub start-started : (left : List ℕ) → answer ≡ start.the-variants.Started → left ≡ enforcerBytes after → Start t header byte saved 0 left
+  pub start-started : (left : List ℕ) → answer ≡ start.the-variants.Started → EnforcerSized after × (left ≡ enforcerBytes after) → Start t header byte saved 0 left
   start-started left is wrote =
-      subst (λ (x : List ℕ). Start t header byte saved 0 x) (sym wrote) (Start.started sizes (begun-starting start.the-variants.Started is))
+      subst (λ (x : List ℕ). Start t header byte saved 0 x) (sym (wrote .1)) (Start.started sizes (begun-starting start.the-variants.Started is) (enforcer-saved after (wrote .0)))
 
 module _ (t header : List ℕ) (event : ℕ) (saved output count out : List ℕ) (h : Header) (s after : Enforcer) (answer : offer.OfferAnswer) (sizes : OfferSizes header saved count)
     (is-header : h ≡ headerAt header) (is-enforcer : s ≡ enforcerAt saved) (did : Offering t h s event output (offering.said answer) after out) where
@@ -120,9 +121,9 @@ module _ (t header : List ℕ) (event : ℕ) (saved output count out : List ℕ)
       let kept = kept-output t (headerAt header) (enforcerAt saved) event output x in
       rw (number, kept) (Offer.refused sizes (rw kept at x))
 
-  pub offer-released : (f : ℕ) (left told : List ℕ) → answer ≡ offer.the-variants.Released f → left ≡ enforcerBytes after → told ≡ set count 0 f
+  pub offer-released : (f : ℕ) (left told : List ℕ) → answer ≡ offer.the-variants.Released f → EnforcerSized after × (left ≡ enforcerBytes after) → told ≡ set count 0 f
       → Offer t header event saved output count 0 left out told
   offer-released f left told is wrote says =
       let one : told ≡ f ∷ [] = says ∙ whole count (f ∷ []) (sym (sizes .released-size)) in
-      subst (λ (x : List ℕ). Offer t header event saved output count 0 x out told) (sym wrote)
-      (subst (λ (x : List ℕ). Offer t header event saved output count 0 (enforcerBytes after) out x) (sym one) (Offer.released sizes (said-offering (offer.the-variants.Released f) is)))
+      subst (λ (x : List ℕ). Offer t header event saved output count 0 x out told) (sym (wrote .1))
+      (subst (λ (x : List ℕ). Offer t header event saved output count 0 (enforcerBytes after) out x) (sym one) (Offer.released sizes (said-offering (offer.the-variants.Released f) is) (enforcer-saved after (wrote .0))))

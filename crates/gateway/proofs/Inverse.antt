@@ -15,7 +15,8 @@ use Rattle.verifier.specs.declared.Estimator.{Estimator}
 use Rattle.verifier.specs.Verdicts.{Steps, none, leak}
 use Rattle.verifier.specs.Replies.{Bounded}
 use Rattle.enforcer.specs.declared.Enforcer.{Enforcer}
-use Rattle.gateway.specs.Layout.{numberAt, bytesOf, wordsAt, wordsBytes, bytesAt, headerAt, headerBytes, estimatorAt, estimatorBytes, notionAt, notionByte, enforcerAt, enforcerBytes, verdictAt, verdictByte}
+use Rattle.gateway.specs.Layout.{numberAt, bytesOf, wordsAt, wordsBytes, bytesAt, headerAt, headerBytes, estimatorAt, estimatorBytes, EstimatorSized, EnforcerSized, notionAt, notionByte, enforcerAt, enforcerBytes, verdictAt, verdictByte}
+use Rattle.gateway.specs.Interface.{EstimatorSaved, EnforcerSaved}
 use Rattle.gateway.proofs.Bytes.{number-more, number-none, bytes-length}
 use Rattle.gateway.proofs.Saved.{words-bytes-length}
 
@@ -43,21 +44,17 @@ part-back : (a xs b : List ℕ) (at n : ℕ) → at ≡ length a → n ≡ lengt
 part-back a xs b at n e f = ap (take n) (drop-at a (xs ++ b) at (sym e)) ∙ take-at xs b n (sym f)
 
 -- words between other bytes
-abbrev pub Words : List ℕ → Type 0
-Words [] = Unit {0}
-Words (w ∷ ws) = (w < 2 ^ 64) × Words ws
-
-words-back : (ws a b : List ℕ) (at : ℕ) → Words ws → at ≡ length a → wordsAt (a ++ (wordsBytes ws ++ b)) at (length ws) ≡ ws
+words-back : (ws a b : List ℕ) (at : ℕ) → ((l : ℕ) → getD ws l 0 < 2 ^ 64) → at ≡ length a → wordsAt (a ++ (wordsBytes ws ++ b)) at (length ws) ≡ ws
 unfolding wordsAt wordsBytes
 words-back [] a b at small e = refl
 words-back (w ∷ ws) a b at small e =
     let all : a ++ ((bytesOf 8 w ++ wordsBytes ws) ++ b) ≡ a ++ (bytesOf 8 w ++ (wordsBytes ws ++ b)) = ap (λ (l : List ℕ). a ++ l) (append-assoc (bytesOf 8 w) (wordsBytes ws) b) in
     let next : a ++ ((bytesOf 8 w ++ wordsBytes ws) ++ b) ≡ (a ++ bytesOf 8 w) ++ (wordsBytes ws ++ b) = all ∙ sym (append-assoc a (bytesOf 8 w) (wordsBytes ws ++ b)) in
     let first : numberAt (a ++ ((bytesOf 8 w ++ wordsBytes ws) ++ b)) at 8 ≡ w =
-    ap (λ (l : List ℕ). numberAt l at 8) all ∙ number-back a (wordsBytes ws ++ b) 8 w at (small .0) e in
+    ap (λ (l : List ℕ). numberAt l at 8) all ∙ number-back a (wordsBytes ws ++ b) 8 w at (small 0) e in
     let long : at + 8 ≡ length (a ++ bytesOf 8 w) = omega (arith, length-append a (bytesOf 8 w), bytes-length 8 w) in
     let others : wordsAt (a ++ ((bytesOf 8 w ++ wordsBytes ws) ++ b)) (at + 8) (length ws) ≡ ws =
-    ap (λ (l : List ℕ). wordsAt l (at + 8) (length ws)) next ∙ words-back ws (a ++ bytesOf 8 w) b (at + 8) (small .1) long in
+    ap (λ (l : List ℕ). wordsAt l (at + 8) (length ws)) next ∙ words-back ws (a ++ bytesOf 8 w) b (at + 8) (λ l. small (suc l)) long in
     λ i. first i ∷ others i
 
 pub record HeaderSized (h : Header) : Type 0 where
@@ -76,12 +73,6 @@ header-back h x =
 pub header-length : (h : Header) → length (headerBytes h) ≡ 14
 header-length h = omega (arith, length-append (bytesOf 8 (h .secret)) (bytesOf 4 (h .observable)), bytes-length 8 (h .secret), bytes-length 4 (h .observable))
 
--- an estimator as the code has it: the arrays have their sizes, and the state sets are words
-pub record EstimatorSized (s : Estimator) : Type 0 where
-  pub events : length (s .events) ≡ 15
-  pub entries : length (s .entries) ≡ 16
-  pub words : Words (s .entries)
-
 -- with other bytes behind, as in an enforcer
 estimator-in : (s : Estimator) (b : List ℕ) → EstimatorSized s → estimatorAt (s .count ∷ s .events ++ wordsBytes (s .entries) ++ b) ≡ s
 estimator-in s b x =
@@ -93,16 +84,11 @@ estimator-in s b x =
     ∙ words-back (s .entries) (s .count ∷ s .events) b 16 (x .words) (omega (arith, x .events)) in
     λ i. record { count = s .count; events = events i; entries = entries i }
 
-pub estimator-back : (s : Estimator) → EstimatorSized s → estimatorAt (estimatorBytes s) ≡ s
+estimator-back : (s : Estimator) → EstimatorSized s → estimatorAt (estimatorBytes s) ≡ s
 estimator-back s x = ap estimatorAt (sym (append-nil (estimatorBytes s))) ∙ estimator-in s [] x
 
 pub estimator-length : (s : Estimator) → EstimatorSized s → length (estimatorBytes s) ≡ 144
 estimator-length s x = ap suc (length-append (s .events) (wordsBytes (s .entries)) ∙ omega (arith, x .events, x .entries, words-bytes-length (s .entries)))
-
-pub record EnforcerSized (s : Enforcer) : Type 0 where
-  pub estimator : EstimatorSized (s .estimator)
-  pub pending : length (s .pending) ≡ 16
-  pub waits : length (s .waits) ≡ 16
 
 notion-back : (notion : Notion) → notionAt (notionByte notion) ≡ notion
 notion-back Weak = refl
@@ -116,20 +102,20 @@ notion-place s x =
     ∙ getD-at e n (s .count ∷ s .pending ++ s .waits) 0 144 (estimator-length (s .estimator) (x .estimator))
 
 -- the saved notion is one
-pub notion-saved : (s : Enforcer) → EnforcerSized s → getD (enforcerBytes s) 144 0 ≤ 1
+notion-saved : (s : Enforcer) → EnforcerSized s → getD (enforcerBytes s) 144 0 ≤ 1
 notion-saved s x = rw (notion-place s x) (one (s .notion))
   where
     one : (notion : Notion) → notionByte notion ≤ 1
     one Weak = omega arith
     one Strong = omega arith
 
-pub enforcer-length : (s : Enforcer) → EnforcerSized s → length (enforcerBytes s) ≡ 178
+enforcer-length : (s : Enforcer) → EnforcerSized s → length (enforcerBytes s) ≡ 178
 enforcer-length s x =
     let e = estimatorBytes (s .estimator) in
     let middle = notionByte (s .notion) ∷ s .count ∷ s .pending in
     length-append (e ++ middle) (s .waits) ∙ omega (arith, length-append e middle, estimator-length (s .estimator) (x .estimator), x .pending, x .waits)
 
-pub enforcer-back : (s : Enforcer) → EnforcerSized s → enforcerAt (enforcerBytes s) ≡ s
+enforcer-back : (s : Enforcer) → EnforcerSized s → enforcerAt (enforcerBytes s) ≡ s
 enforcer-back s x =
     let e = estimatorBytes (s .estimator) in
     let n = notionByte (s .notion) in
@@ -149,6 +135,13 @@ enforcer-back s x =
     ap (λ (l : List ℕ). bytesAt l 162 16) last
     ∙ part-back (e ++ n ∷ s .count ∷ s .pending) (s .waits) [] 162 16 (omega (arith, length-append e (n ∷ s .count ∷ s .pending), x .pending)) (sym (x .waits)) in
     λ i. record { estimator = estimator i; notion = notion i; count = count i; pending = pending i; waits = waits i }
+
+-- so what was written for a state is its bytes, whole
+pub estimator-saved : (s : Estimator) → EstimatorSized s → EstimatorSaved s
+estimator-saved s x = record { size = estimator-length s x; back = estimator-back s x }
+
+pub enforcer-saved : (s : Enforcer) → EnforcerSized s → EnforcerSaved s
+enforcer-saved s x = record { size = enforcer-length s x; notion-known = notion-saved s x; back = enforcer-back s x }
 
 -- a verdict with at most 15 steps
 pub verdict-back : (K : ℕ) (v : Steps) → K ≤ 15 → Bounded K v → verdictAt (verdictByte v) ≡ v

@@ -3,25 +3,20 @@ use Prim.Native.Nat.{ℕ, _≤_}
 use mathlib.Core.Path.{_≡_, refl, ap₂, sym, subst}
 use mathlib.Core.List.{List, [], _∷_, _++_}
 use lib.ListN.{length, getD}
-use Rattle.automaton.specs.Run.{automatonOf}
 use Rattle.automaton.specs.declared.Header.{Header}
-use Rattle.verifier.specs.declared.Notion.{Notion}
 use Rattle.verifier.specs.declared.Estimator.{Estimator}
 use Rattle.verifier.specs.Verdicts.{Steps}
-use Rattle.verifier.specs.Estimators as estimator
 use Rattle.verifier.specs.Replies as verifier
 use Rattle.verifier.specs.Replies.{Bounded, Accepting}
 use Rattle.verifier.specs.Calls.{Calls}
 use Rattle.enforcer.specs.declared.Enforcer.{Enforcer}
-use Rattle.enforcer.specs.Enforcers as enforcer
 use Rattle.enforcer.specs.Offerings as offering
 use Rattle.enforcer.specs.Offerings.{Offering}
 use Rattle.enforcer.specs.Offers.{Chain, Offers}
-use Rattle.gateway.specs.Layout.{headerAt, estimatorAt, estimatorBytes, enforcerAt, enforcerBytes, verdictByte}
+use Rattle.gateway.specs.Layout.{headerAt, estimatorAt, enforcerAt, verdictByte}
 use Rattle.gateway.specs.Interface.{Accept, Offer}
 use Rattle.gateway.specs.SavedCalls.{AcceptCall, AcceptCalls, acceptSaid, callsOf, OfferCall, OfferCalls, offerSaid, offersOf}
-use Rattle.gateway.proofs.Inverse.{estimator-length, enforcer-length, notion-saved, verdict-back}
-use Rattle.gateway.proofs.Sizes.{estimator-sized, grown-estimator-back, enforcer-sized, grown-enforcer-back}
+use Rattle.gateway.proofs.Inverse.{verdict-back}
 
 -- two verdicts that were written are the two that are read
 told-back : (K : ℕ) (v w : Steps) → K ≤ 15 → Bounded K v → Bounded K w → acceptSaid 0 (verdictByte v ∷ verdictByte w ∷ []) ≡ verifier.verdicts v w
@@ -30,23 +25,6 @@ told-back K v w h b c = ap₂ verifier.verdicts (verdict-back K v h b) (verdict-
 module _ (t header : List ℕ) (header-size : length header ≡ 14) where
   abbrev pub head : Header
   head = headerAt header
-
-  abbrev pub GrownBy : List ℕ → Estimator → Type 0
-  GrownBy trace x = estimator.Grown (automatonOf t head) (head .k) trace x
-
-  -- the bytes of an estimator that has grown by some trace
-  pub record KeepsEstimator (s : List ℕ) : Type 0 where
-    pub size : length s ≡ 144
-    pub trace : List ℕ
-    pub grown : GrownBy trace (estimatorAt s)
-
-  pub keeps-estimator : (trace : List ℕ) (x : Estimator) → GrownBy trace x → KeepsEstimator (estimatorBytes x)
-  keeps-estimator trace x g =
-      record {
-        size = estimator-length x (estimator-sized (automatonOf t head) (head .k) trace x g);
-        trace = trace;
-        grown = subst (GrownBy trace) (sym (grown-estimator-back (automatonOf t head) (head .k) trace x g)) g;
-      }
 
   -- a refusal has no number 0, and leaves the estimator
   refused-accept : (self : Estimator) (event : ℕ) (told : List ℕ) {n : ℕ} {after : Estimator} → Accepting t head self event (verifier.refused n) after
@@ -58,92 +36,66 @@ module _ (t header : List ℕ) (header-size : length header ≡ 14) where
   -- one call of accept
   record OneAccept (s : List ℕ) (event answer : ℕ) (m told : List ℕ) : Type 0 where
     accepting : Accepting t head (estimatorAt s) event (acceptSaid answer told) (estimatorAt m)
-    keeps : KeepsEstimator m
+    size : length m ≡ 144
 
-  one-accept : (s : List ℕ) (event : ℕ) (lent : List ℕ) (answer : ℕ) (m told : List ℕ) → KeepsEstimator s → length lent ≡ 2 → Accept t header event s lent answer m told → OneAccept s event answer m told
-  one-accept s event lent answer m told k two (Accept.size bad) = absurd (bad (record { header-size = header-size; estimator-size = k .size; verdicts-size = two }))
-  one-accept s event lent answer m told k two (Accept.refused sizes x) = record { accepting = refused-accept (estimatorAt s) event lent x; keeps = k }
-  one-accept s event lent answer m told k two (Accept.accepted sizes {weak = v} {strong = w} {s = x} (Accepting.accepted so li ob after b c exact)) =
-      let g = exact (k .trace) (k .grown) .grown in
-      let back = grown-estimator-back (automatonOf t head) (head .k) (k .trace ++ event ∷ []) x g in
-      record {
-        accepting = rw (told-back (head .k) v w (so .back) b c, back) (Accepting.accepted so li ob after b c exact);
-        keeps = keeps-estimator (k .trace ++ event ∷ []) x g;
-      }
+  one-accept : (s : List ℕ) (event : ℕ) (lent : List ℕ) (answer : ℕ) (m told : List ℕ) → length s ≡ 144 → length lent ≡ 2 → Accept t header event s lent answer m told → OneAccept s event answer m told
+  one-accept s event lent answer m told k two (Accept.size bad) = absurd (bad (record { header-size = header-size; estimator-size = k; verdicts-size = two }))
+  one-accept s event lent answer m told k two (Accept.refused sizes x) = record { accepting = refused-accept (estimatorAt s) event lent x; size = k }
+  one-accept s event lent answer m told k two (Accept.accepted sizes {weak = v} {strong = w} (Accepting.accepted so li ob after b c exact) saved) =
+      record { accepting = rw (told-back (head .k) v w (so .back) b c, saved .back) (Accepting.accepted so li ob after b c exact); size = saved .size }
 
   -- one that lends another number of verdict bytes
   unsized-accept : (s : List ℕ) (event : ℕ) (lent : List ℕ) (answer : ℕ) (m told : List ℕ) → (length lent ≡ 2 → ⊥) → Accept t header event s lent answer m told → m ≡ s
   unsized-accept s event lent answer m told n (Accept.size bad) = refl
   unsized-accept s event lent answer m told n (Accept.refused sizes x) = refl
-  unsized-accept s event lent answer m told n (Accept.accepted sizes x) = absurd (n (sizes .verdicts-size))
+  unsized-accept s event lent answer m told n (Accept.accepted sizes x saved) = absurd (n (sizes .verdicts-size))
 
-  pub accept-calls : (s : List ℕ) (cs : List AcceptCall) (e : List ℕ) → KeepsEstimator s → AcceptCalls t header s cs e → Calls t head (estimatorAt s) (callsOf cs) (estimatorAt e)
+  pub accept-calls : (s : List ℕ) (cs : List AcceptCall) (e : List ℕ) → length s ≡ 144 → AcceptCalls t header s cs e → Calls t head (estimatorAt s) (callsOf cs) (estimatorAt e)
   accept-calls s cs e k AcceptCalls.done = Calls.done
   accept-calls s cs e k (AcceptCalls.next {m = m} {c = c} {cs = rest} two a f) =
       let x = one-accept s (c .event) (c .lent) (c .answer) m (c .told) k two a in
-      Calls.next (x .accepting) (accept-calls m rest e (x .keeps) f)
+      Calls.next (x .accepting) (accept-calls m rest e (x .size) f)
   accept-calls s cs e k (AcceptCalls.unsized {m = m} {c = c} n a f) =
       let same = unsized-accept s (c .event) (c .lent) (c .answer) m (c .told) n a in
-      subst (λ (y : List ℕ). Calls t head (estimatorAt y) (callsOf cs) (estimatorAt e)) same (accept-calls m cs e (subst KeepsEstimator (sym same) k) f)
+      subst (λ (y : List ℕ). Calls t head (estimatorAt y) (callsOf cs) (estimatorAt e)) same (accept-calls m cs e (subst (λ (y : List ℕ). length y ≡ 144) (sym same) k) f)
 
-  module _ (notion : Notion) where
-    abbrev pub EnforcerBy : List ℕ → Enforcer → Type 0
-    EnforcerBy trace x = enforcer.Grown notion (automatonOf t head) (head .secret) (head .k) trace x
+  -- bytes of the length of an enforcer, with a notion
+  pub record KeepsEnforcer (s : List ℕ) : Type 0 where
+    pub size : length s ≡ 178
+    pub known : getD s 144 0 ≤ 1
 
-    -- the bytes of an enforcer that has grown by some trace
-    pub record KeepsEnforcer (s : List ℕ) : Type 0 where
-      pub size : length s ≡ 178
-      pub known : getD s 144 0 ≤ 1
-      pub trace : List ℕ
-      pub grown : EnforcerBy trace (enforcerAt s)
+  -- a refusal has no number 0, and leaves the enforcer
+  refused-offer : (self : Enforcer) (event : ℕ) (output released : List ℕ) {n : ℕ} {after : Enforcer} {left : List ℕ} → Offering t head self event output (offering.refused n) after left
+      → Offering t head self event output (offerSaid n released) self left
+  refused-offer self event output released (Offering.malformed bad) = Offering.malformed bad
+  refused-offer self event output released (Offering.output-too-small so li few) = Offering.output-too-small so li few
+  refused-offer self event output released (Offering.not-observable so li wide never) = Offering.not-observable so li wide never
+  refused-offer self event output released (Offering.incompatible so li wide ob none) = Offering.incompatible so li wide ob none
 
-    pub keeps-enforcer : (trace : List ℕ) (x : Enforcer) → EnforcerBy trace x → KeepsEnforcer (enforcerBytes x)
-    keeps-enforcer trace x g =
-        let sized = enforcer-sized notion (automatonOf t head) (head .secret) (head .k) trace x g in
-        record {
-          size = enforcer-length x sized;
-          known = notion-saved x sized;
-          trace = trace;
-          grown = subst (EnforcerBy trace) (sym (grown-enforcer-back notion (automatonOf t head) (head .secret) (head .k) trace x g)) g;
-        }
+  -- one call of offer
+  record OneOffer (s : List ℕ) (event : ℕ) (output : List ℕ) (answer : ℕ) (m left released : List ℕ) : Type 0 where
+    offering : Offering t head (enforcerAt s) event output (offerSaid answer released) (enforcerAt m) left
+    keeps : KeepsEnforcer m
 
-    -- a refusal has no number 0, and leaves the enforcer
-    refused-offer : (self : Enforcer) (event : ℕ) (output released : List ℕ) {n : ℕ} {after : Enforcer} {left : List ℕ} → Offering t head self event output (offering.refused n) after left
-        → Offering t head self event output (offerSaid n released) self left
-    refused-offer self event output released (Offering.malformed bad) = Offering.malformed bad
-    refused-offer self event output released (Offering.output-too-small so li few) = Offering.output-too-small so li few
-    refused-offer self event output released (Offering.not-observable so li wide never) = Offering.not-observable so li wide never
-    refused-offer self event output released (Offering.incompatible so li wide ob none) = Offering.incompatible so li wide ob none
+  one-offer : (s : List ℕ) (event : ℕ) (output lent : List ℕ) (answer : ℕ) (m left released : List ℕ) → KeepsEnforcer s → length lent ≡ 1
+      → Offer t header event s output lent answer m left released → OneOffer s event output answer m left released
+  one-offer s event output lent answer m left released k one (Offer.size bad) =
+      absurd (bad (record { header-size = header-size; enforcer-size = k .size; notion-known = k .known; released-size = one }))
+  one-offer s event output lent answer m left released k one (Offer.refused sizes x) = record { offering = refused-offer (enforcerAt s) event output lent x; keeps = k }
+  one-offer s event output lent answer m left released k one (Offer.released sizes (Offering.accepted so li wide ob after bal front rest exact) saved) =
+      record { offering = rw (saved .back) (Offering.accepted so li wide ob after bal front rest exact); keeps = record { size = saved .size; known = saved .notion-known } }
 
-    -- one call of offer
-    record OneOffer (s : List ℕ) (event : ℕ) (output : List ℕ) (answer : ℕ) (m left released : List ℕ) : Type 0 where
-      offering : Offering t head (enforcerAt s) event output (offerSaid answer released) (enforcerAt m) left
-      keeps : KeepsEnforcer m
+  -- one that lends another number of bytes for the number of released events
+  unsized-offer : (s : List ℕ) (event : ℕ) (output lent : List ℕ) (answer : ℕ) (m left released : List ℕ) → (length lent ≡ 1 → ⊥) → Offer t header event s output lent answer m left released → m ≡ s
+  unsized-offer s event output lent answer m left released n (Offer.size bad) = refl
+  unsized-offer s event output lent answer m left released n (Offer.refused sizes x) = refl
+  unsized-offer s event output lent answer m left released n (Offer.released sizes x saved) = absurd (n (sizes .released-size))
 
-    one-offer : (s : List ℕ) (event : ℕ) (output lent : List ℕ) (answer : ℕ) (m left released : List ℕ) → KeepsEnforcer s → length lent ≡ 1
-        → Offer t header event s output lent answer m left released → OneOffer s event output answer m left released
-    one-offer s event output lent answer m left released k one (Offer.size bad) =
-        absurd (bad (record { header-size = header-size; enforcer-size = k .size; notion-known = k .known; released-size = one }))
-    one-offer s event output lent answer m left released k one (Offer.refused sizes x) = record { offering = refused-offer (enforcerAt s) event output lent x; keeps = k }
-    one-offer s event output lent answer m left released k one (Offer.released sizes {s = x} (Offering.accepted so li wide ob after bal front rest exact)) =
-        let g = exact notion (k .trace) (k .grown) .grown in
-        let back = grown-enforcer-back notion (automatonOf t head) (head .secret) (head .k) (k .trace ++ event ∷ []) x g in
-        record {
-          offering = rw back (Offering.accepted so li wide ob after bal front rest exact);
-          keeps = keeps-enforcer (k .trace ++ event ∷ []) x g;
-        }
-
-    -- one that lends another number of bytes for the number of released events
-    unsized-offer : (s : List ℕ) (event : ℕ) (output lent : List ℕ) (answer : ℕ) (m left released : List ℕ) → (length lent ≡ 1 → ⊥) → Offer t header event s output lent answer m left released → m ≡ s
-    unsized-offer s event output lent answer m left released n (Offer.size bad) = refl
-    unsized-offer s event output lent answer m left released n (Offer.refused sizes x) = refl
-    unsized-offer s event output lent answer m left released n (Offer.released sizes x) = absurd (n (sizes .released-size))
-
-    pub offer-calls : (s : List ℕ) (cs : List OfferCall) (e : List ℕ) → KeepsEnforcer s → OfferCalls t header s cs e → Offers t head (enforcerAt s) (offersOf cs) (enforcerAt e)
-    offer-calls s cs e k OfferCalls.done = Chain.done
-    offer-calls s cs e k (OfferCalls.next {m = m} {c = c} {cs = rest} one a f) =
-        let x = one-offer s (c .event) (c .output) (c .lent) (c .answer) m (c .left) (c .released) k one a in
-        Chain.next (x .offering) (offer-calls m rest e (x .keeps) f)
-    offer-calls s cs e k (OfferCalls.unsized {m = m} {c = c} n a f) =
-        let same = unsized-offer s (c .event) (c .output) (c .lent) (c .answer) m (c .left) (c .released) n a in
-        subst (λ (y : List ℕ). Offers t head (enforcerAt y) (offersOf cs) (enforcerAt e)) same (offer-calls m cs e (subst KeepsEnforcer (sym same) k) f)
+  pub offer-calls : (s : List ℕ) (cs : List OfferCall) (e : List ℕ) → KeepsEnforcer s → OfferCalls t header s cs e → Offers t head (enforcerAt s) (offersOf cs) (enforcerAt e)
+  offer-calls s cs e k OfferCalls.done = Chain.done
+  offer-calls s cs e k (OfferCalls.next {m = m} {c = c} {cs = rest} one a f) =
+      let x = one-offer s (c .event) (c .output) (c .lent) (c .answer) m (c .left) (c .released) k one a in
+      Chain.next (x .offering) (offer-calls m rest e (x .keeps) f)
+  offer-calls s cs e k (OfferCalls.unsized {m = m} {c = c} n a f) =
+      let same = unsized-offer s (c .event) (c .output) (c .lent) (c .answer) m (c .left) (c .released) n a in
+      subst (λ (y : List ℕ). Offers t head (enforcerAt y) (offersOf cs) (enforcerAt e)) same (offer-calls m cs e (subst KeepsEnforcer (sym same) k) f)

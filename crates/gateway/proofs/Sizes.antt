@@ -1,4 +1,4 @@
--- The states that the crates below hand back, and the header of an accepted encoding, fit their bytes, and so read back. Assumes nothing.
+-- The header of an accepted encoding fits its bytes, and so reads back. Assumes nothing.
 use Prim.Native.Nat.{ℕ, suc, _+_, _^_, _<_}
 use mathlib.Core.Path.{_≡_, subst}
 use mathlib.Core.List.{List, [], _∷_}
@@ -9,38 +9,12 @@ use lib.Pow.{pow-mono}
 use Rattle.bitfields.specs.Bits.{bitsOf}
 use Rattle.bitfields.specs.Parser.{done, flags}
 use Rattle.bitfields.proofs.Parsing.{on-done, same-done, flags-lt}
-use Rattle.automaton.specs.Run.{Automaton}
 use Rattle.automaton.specs.declared.Header.{Header}
 use Rattle.encoding.specs.Encoding.{Encoding, encoding, ending, fixed, front, transitions}
 use Rattle.encoding.specs.Decoding.{Decoding, accept}
 use Rattle.encoding.proofs.Ended.{fixed-in, encoding-in}
-use Rattle.verifier.specs.declared.Notion.{Notion}
-use Rattle.verifier.specs.declared.Estimator.{Estimator}
-use Rattle.verifier.specs.Estimators as verifier
-use Rattle.enforcer.specs.declared.Enforcer.{Enforcer}
-use Rattle.enforcer.specs.Enforcers as enforcer
-use Rattle.gateway.specs.Layout.{headerAt, headerBytes, estimatorAt, estimatorBytes, enforcerAt, enforcerBytes}
-use Rattle.gateway.proofs.Inverse.{Words, HeaderSized, EstimatorSized, EnforcerSized, header-back, estimator-back, enforcer-back}
-
-all-words : (ws : List ℕ) → ((l : ℕ) → getD ws l 0 < 2 ^ 64) → Words ws
-all-words [] small = tt
-all-words (w ∷ ws) small = (small 0, all-words ws (λ l. small (suc l)))
-
--- an estimator that has grown by some trace
-pub estimator-sized : (p : Automaton) (K : ℕ) (trace : List ℕ) (s : Estimator) → verifier.Grown p K trace s → EstimatorSized s
-estimator-sized p K trace s g = record { events = g .events-size; entries = g .entries-size; words = all-words (s .entries) (g .entries-words) }
-
-pub grown-estimator-back : (p : Automaton) (K : ℕ) (trace : List ℕ) (s : Estimator) → verifier.Grown p K trace s → estimatorAt (estimatorBytes s) ≡ s
-grown-estimator-back p K trace s g = estimator-back s (estimator-sized p K trace s g)
-
--- an enforcer that has grown by some trace
-pub enforcer-sized : (notion : Notion) (p : Automaton) (secret K : ℕ) (trace : List ℕ) (s : Enforcer) → enforcer.Grown notion p secret K trace s → EnforcerSized s
-enforcer-sized notion p secret K trace s g =
-    record { estimator = estimator-sized p K trace (s .estimator) (g .estimator); pending = g .pending-padded .size-is; waits = g .waits-padded .size-is }
-
-pub grown-enforcer-back : (notion : Notion) (p : Automaton) (secret K : ℕ) (trace : List ℕ) (s : Enforcer) → enforcer.Grown notion p secret K trace s
-    → enforcerAt (enforcerBytes s) ≡ s
-grown-enforcer-back notion p secret K trace s g = enforcer-back s (enforcer-sized notion p secret K trace s g)
+use Rattle.gateway.specs.Layout.{headerAt, headerBytes}
+use Rattle.gateway.proofs.Inverse.{HeaderSized, header-back}
 
 -- the secret set has one bit for each of at most 64 states
 front-secret : (bs : List ℕ) (d : Encoding) {n : ℕ} → front (bitsOf bs) 0 ≡ done (d .front) n → d .front .secret < 2 ^ 64

@@ -27,11 +27,17 @@ pub record VerifierSizes (header estimator verdicts : List ℕ) : Type 0 where
   pub estimator-size : length estimator ≡ 144
   pub verdicts-size : length verdicts ≡ 2
 
+-- the bytes that a call leaves for an estimator, whatever it grew from: they have their length, and read back as it is, so that what is said of it, its
+-- limits too, is said of the bytes
+pub record EstimatorSaved (s : Estimator) : Type 0 where
+  pub size : length (estimatorBytes s) ≡ 144
+  pub back : estimatorAt (estimatorBytes s) ≡ s
+
 -- fresh: the answer, the estimator's bytes after and the verdicts after, the weak one first
 pub data Fresh (t header estimator verdicts : List ℕ) : ℕ → List ℕ → List ℕ → Type 0 where
   size : (VerifierSizes header estimator verdicts → ⊥) → Fresh t header estimator verdicts 9 estimator verdicts
   refused : VerifierSizes header estimator verdicts → {n : ℕ} {s : Estimator} → Opening t (headerAt header) (verifier.refused n) s → Fresh t header estimator verdicts n estimator verdicts
-  accepted : VerifierSizes header estimator verdicts → {weak strong : Steps} {s : Estimator} → Opening t (headerAt header) (verifier.verdicts weak strong) s
+  accepted : VerifierSizes header estimator verdicts → {weak strong : Steps} {s : Estimator} → Opening t (headerAt header) (verifier.verdicts weak strong) s → EstimatorSaved s
       → Fresh t header estimator verdicts 0 (estimatorBytes s) (verdictByte weak ∷ verdictByte strong ∷ [])
 
 -- accept: the same, of the estimator that the bytes hold and an event
@@ -40,7 +46,7 @@ pub data Accept (t header : List ℕ) (event : ℕ) (estimator verdicts : List �
   refused : VerifierSizes header estimator verdicts → {n : ℕ} {s : Estimator} → Accepting t (headerAt header) (estimatorAt estimator) event (verifier.refused n) s
       → Accept t header event estimator verdicts n estimator verdicts
   accepted : VerifierSizes header estimator verdicts → {weak strong : Steps} {s : Estimator}
-      → Accepting t (headerAt header) (estimatorAt estimator) event (verifier.verdicts weak strong) s
+      → Accepting t (headerAt header) (estimatorAt estimator) event (verifier.verdicts weak strong) s → EstimatorSaved s
       → Accept t header event estimator verdicts 0 (estimatorBytes s) (verdictByte weak ∷ verdictByte strong ∷ [])
 
 -- the slices of a start have the lengths of their layouts, and the notion is one
@@ -49,12 +55,18 @@ pub record StartSizes (header : List ℕ) (notion : ℕ) (enforcer : List ℕ) :
   pub notion-known : notion ≤ 1
   pub enforcer-size : length enforcer ≡ 178
 
+-- the bytes that a call leaves for an enforcer, likewise
+pub record EnforcerSaved (s : Enforcer) : Type 0 where
+  pub size : length (enforcerBytes s) ≡ 178
+  pub notion-known : getD (enforcerBytes s) 144 0 ≤ 1
+  pub back : enforcerAt (enforcerBytes s) ≡ s
+
 -- start: the answer and the enforcer's bytes after
 pub data Start (t header : List ℕ) (notion : ℕ) (enforcer : List ℕ) : ℕ → List ℕ → Type 0 where
   size : (StartSizes header notion enforcer → ⊥) → Start t header notion enforcer 9 enforcer
   refused : StartSizes header notion enforcer → {n : ℕ} {s : Enforcer} → Starting t (headerAt header) (notionAt notion) (offering.not-started n) s
       → Start t header notion enforcer n enforcer
-  started : StartSizes header notion enforcer → {s : Enforcer} → Starting t (headerAt header) (notionAt notion) offering.started s
+  started : StartSizes header notion enforcer → {s : Enforcer} → Starting t (headerAt header) (notionAt notion) offering.started s → EnforcerSaved s
       → Start t header notion enforcer 0 (enforcerBytes s)
 
 -- the slices of an offer have the lengths of their layouts, and the saved notion is one
@@ -70,5 +82,5 @@ pub data Offer (t header : List ℕ) (event : ℕ) (enforcer output released : L
   refused : OfferSizes header enforcer released → {n : ℕ} {s : Enforcer}
       → Offering t (headerAt header) (enforcerAt enforcer) event output (offering.refused n) s output → Offer t header event enforcer output released n enforcer output released
   released : OfferSizes header enforcer released → {f : ℕ} {s : Enforcer} {left : List ℕ}
-      → Offering t (headerAt header) (enforcerAt enforcer) event output (offering.released f) s left
+      → Offering t (headerAt header) (enforcerAt enforcer) event output (offering.released f) s left → EnforcerSaved s
       → Offer t header event enforcer output released 0 (enforcerBytes s) left (f ∷ [])

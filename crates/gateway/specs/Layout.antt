@@ -49,6 +49,12 @@ estimatorAt bytes = record { count = getD bytes 0 0; events = bytesAt bytes 1 15
 abbrev pub estimatorBytes : Estimator → List ℕ
 estimatorBytes s = s .count ∷ s .events ++ wordsBytes (s .entries)
 
+-- an estimator as the code has it: the arrays have their sizes, and the state sets are words
+pub record EstimatorSized (s : Estimator) : Type 0 where
+  pub events : length (s .events) ≡ 15
+  pub entries : length (s .entries) ≡ 16
+  pub words : (l : ℕ) → getD (s .entries) l 0 < 2 ^ 64
+
 -- a notion: 0 weak, 1 strong. Another byte is none
 abbrev pub notionAt : ℕ → Notion
 notionAt zero = Weak
@@ -65,6 +71,12 @@ enforcerAt bytes =
 
 abbrev pub enforcerBytes : Enforcer → List ℕ
 enforcerBytes s = estimatorBytes (s .estimator) ++ notionByte (s .notion) ∷ s .count ∷ s .pending ++ s .waits
+
+-- an enforcer as the code has it
+pub record EnforcerSized (s : Enforcer) : Type 0 where
+  pub estimator : EstimatorSized (s .estimator)
+  pub pending : length (s .pending) ≡ 16
+  pub waits : length (s .waits) ≡ 16
 
 -- a verdict: its steps, 255 for none
 abbrev pub verdictAt : ℕ → Steps

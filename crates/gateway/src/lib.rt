@@ -12,12 +12,12 @@ use verifier::Verdict;
 use verifier::Verdicts;
 ghost use mathlib.Core.Path.{_≡_};
 ghost use mathlib.Core.List.{List, [], _∷_, _++_};
-ghost use Prim.Native.Nat.{ℕ, _+_, _*_, _≤_, _<_};
-ghost use lib.ListN.{length, set};
+ghost use Prim.Native.Nat.{ℕ, _+_, _*_, _≤_, _<_, _^_};
+ghost use lib.ListN.{length, getD, set};
 ghost use lib.Seq.{sets};
 ghost use Rattle.verifier.specs.Verdicts.{stepsOf};
 ghost use Rattle.gateway.specs.Interface.{Decode, Fresh, Accept, Start, Offer};
-ghost use Rattle.gateway.specs.Layout.{numberAt, bytesOf, wordsAt, wordsBytes, bytesAt, headerAt, headerBytes, estimatorAt, estimatorBytes, notionAt, notionByte, enforcerAt, enforcerBytes, verdictByte};
+ghost use Rattle.gateway.specs.Layout.{numberAt, bytesOf, wordsAt, wordsBytes, bytesAt, headerAt, headerBytes, estimatorAt, estimatorBytes, EstimatorSized, EnforcerSized, notionAt, notionByte, enforcerAt, enforcerBytes, verdictByte};
 
 fn wide(x: u8) -> u64
     ensures { λ r. ⌜ r ≡ x ⌝ }
@@ -118,7 +118,7 @@ fn store16(bytes: &mut [u8], at: usize, array: [u8; 16])
 
 fn store_words(bytes: &mut [u8], at: usize, words: [u64; 16])
     requires { ⌜ at + 128 ≤ length (now bytes) ⌝ }
-    ensures { λ _. ⌜ (length words ≡ 16) × (now (bytes .exit) ≡ sets (now (bytes .entry)) at (wordsBytes words)) ⌝ }
+    ensures { λ _. ⌜ (length words ≡ 16) × ((l : ℕ) → getD words l 0 < 2 ^ 64) × (now (bytes .exit) ≡ sets (now (bytes .entry)) at (wordsBytes words)) ⌝ }
 {
     let mut i: usize = 0;
     while i < 16 {
@@ -173,7 +173,7 @@ fn read_estimator(bytes: &[u8]) -> Estimator
 // At the front; what stands behind stays.
 fn write_estimator(bytes: &mut [u8], estimator: Estimator)
     requires { ⌜ 144 ≤ length (now bytes) ⌝ }
-    ensures { λ _. ⌜ (length (estimatorBytes estimator) ≡ 144) × (now (bytes .exit) ≡ sets (now (bytes .entry)) 0 (estimatorBytes estimator)) ⌝ }
+    ensures { λ _. ⌜ EstimatorSized estimator × (now (bytes .exit) ≡ sets (now (bytes .entry)) 0 (estimatorBytes estimator)) ⌝ }
 {
     put(bytes, 0, estimator.count);
     let events = estimator.events;
@@ -238,7 +238,7 @@ fn read_enforcer(bytes: &[u8]) -> Enforcer
 
 fn write_enforcer(bytes: &mut [u8], enforcer: Enforcer)
     requires { ⌜ length (now bytes) ≡ 178 ⌝ }
-    ensures { λ _. ⌜ now (bytes .exit) ≡ enforcerBytes enforcer ⌝ }
+    ensures { λ _. ⌜ EnforcerSized enforcer × (now (bytes .exit) ≡ enforcerBytes enforcer) ⌝ }
 {
     let estimator = enforcer.estimator;
     let notion = enforcer.notion;

@@ -6,6 +6,7 @@ use crate::excuses::Excused;
 use crate::library::{self, Library};
 use crate::native::Estimator;
 use crate::plain::{Enforcer, Verdicts, Verifier, NONE};
+use crate::rows::BLOCKS;
 use crate::trajectories::Trajectories;
 use std::fmt::Debug;
 use std::time::{Duration, Instant};
@@ -104,7 +105,8 @@ fn others(automaton: &Automaton) -> Vec<Named<'_>> {
             ("(d)", Plain::<Excused<true, BLOCK>, Excused<false, BLOCK>>::boxed(automaton)),
         ]
     }
-    [both::<4>(automaton), both::<8>(automaton), both::<16>(automaton), both::<32>(automaton), both::<64>(automaton)].into_iter().flatten().collect()
+    let blocks: [fn(&Automaton) -> [Named<'_>; 2]; BLOCKS.len()] = [both::<2>, both::<4>, both::<8>, both::<16>, both::<32>, both::<64>];
+    blocks.into_iter().flat_map(|both| both(automaton)).collect()
 }
 
 fn differ(case: &Case, other: &str, event: usize, expected: impl Debug, got: impl Debug) -> ! {

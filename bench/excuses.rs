@@ -38,22 +38,19 @@ impl<const STRONG: bool, const BLOCK: usize> Excused<STRONG, BLOCK> {
         if automaton.secret >> state & 1 == 0 { all } else { all & WEAK }
     }
 
-    /// The states right after the event, and the excuses that its transitions hand on. The older steps of a state that has them all are not added to.
+    /// Hands on what is excused along the event's transitions. What leads into states that excuse every older step already is passed over.
     #[inline(always)]
-    fn step(&self, automaton: &Automaton, event: u8, count: usize) -> (u64, [Excuses; 64]) {
-        let words = event_rows(automaton, event);
-        let older = Self::steps(count) & !NEWEST;
-        let mut next = [0; 64];
-        let (mut entry, mut full) = (0, 0);
+    fn step(&mut self, words: &[u64; 64]) {
+        let older = Self::steps(self.count) & !NEWEST;
+        let before = std::mem::replace(&mut self.excuses, [0; 64]);
+        let mut full = 0;
         for q in members(self.possible) {
-            let moved = self.excuses[q] << 1 & older;
+            let moved = before[q] << 1 & older;
             for t in members(words[q] & !full) {
-                next[t] |= moved;
+                self.excuses[t] |= moved;
             }
-            entry |= words[q];
             full |= if moved == older { words[q] } else { 0 };
         }
-        (entry, next)
     }
 
     /// Adds the newest step in the states right after the event, and then goes along unobservable transitions. It gives what some run excuses: beyond
@@ -119,15 +116,16 @@ impl<const STRONG: bool, const BLOCK: usize> Verifier for Excused<STRONG, BLOCK>
         (made, verdicts)
     }
 
+    #[inline(always)]
     fn accept(&mut self, automaton: &Automaton, event: u8) -> Result<Verdicts, u8> {
         refuse_unobservable(automaton, event)?;
-        let count = (self.count + 1).min(automaton.k as usize);
-        let (entry, excuses) = self.step(automaton, event, count);
+        let words = event_rows(automaton, event);
+        let entry = members(self.possible).fold(0, |set, q| set | words[q]);
         if entry == 0 {
             return Err(7);
         }
-        self.count = count;
-        self.excuses = excuses;
+        self.count = (self.count + 1).min(automaton.k as usize);
+        self.step(words);
         let any = self.settle(automaton, entry);
         Ok(self.verdicts(any))
     }

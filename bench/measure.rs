@@ -56,8 +56,8 @@ fn offer_all<V: Verifier>(automaton: &Automaton, trace: &[u8]) {
 macro_rules! each_block {
     ($all:ident, $verifier:ident, $strong:literal) => {
         [
-            $all::<$verifier<$strong, 4>>, $all::<$verifier<$strong, 8>>, $all::<$verifier<$strong, 16>>, $all::<$verifier<$strong, 32>>,
-            $all::<$verifier<$strong, 64>>,
+            $all::<$verifier<$strong, 2>>, $all::<$verifier<$strong, 4>>, $all::<$verifier<$strong, 8>>, $all::<$verifier<$strong, 16>>,
+            $all::<$verifier<$strong, 32>>, $all::<$verifier<$strong, 64>>,
         ]
     };
 }

@@ -4,7 +4,7 @@
 use crate::automata::Automaton;
 
 /// The blocks that are measured. Few states want a small one, many a large one.
-pub const BLOCKS: [usize; 5] = [4, 8, 16, 32, 64];
+pub const BLOCKS: [usize; 6] = [2, 4, 8, 16, 32, 64];
 
 #[inline(always)]
 pub fn members(mut set: u64) -> impl Iterator<Item = usize> {
@@ -38,17 +38,21 @@ impl<const BLOCK: usize> Rows<BLOCK> {
     #[inline(always)]
     pub fn know(&mut self, automaton: &Automaton, states: u64) {
         while states & !self.known != 0 {
-            let first = (states & !self.known).trailing_zeros() as usize / BLOCK * BLOCK;
-            // The sums of a block stay in registers while the events go by.
-            let mut sum = [0u64; BLOCK];
-            for event in members(!automaton.observable as u64) {
-                let words = &automaton.table[64 * event + first..][..BLOCK];
-                for i in 0..BLOCK {
-                    sum[i] |= words[i];
-                }
-            }
-            self.row[first..first + BLOCK].copy_from_slice(&sum);
-            self.known |= !0 >> (64 - BLOCK) << first;
+            self.read(automaton, (states & !self.known).trailing_zeros() as usize / BLOCK * BLOCK);
         }
+    }
+
+    /// Reads a block. The sums stay in registers while the events go by, which is why this is a function of its own.
+    #[inline(never)]
+    fn read(&mut self, automaton: &Automaton, first: usize) {
+        let mut sum = [0u64; BLOCK];
+        for event in members(!automaton.observable as u64) {
+            let words = &automaton.table[64 * event + first..][..BLOCK];
+            for i in 0..BLOCK {
+                sum[i] |= words[i];
+            }
+        }
+        self.row[first..first + BLOCK].copy_from_slice(&sum);
+        self.known |= !0 >> (64 - BLOCK) << first;
     }
 }

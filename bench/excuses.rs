@@ -1,8 +1,8 @@
-//! (d) The same two jobs without looking back. For each state that runs can be in, the steps back are carried along that some run ending there excuses:
-//! weakly, if it had a position that is not secret so many events back, and strongly, if it had no secret one since. An event moves all of them by one
-//! step, and a transition hands them on from state to state; the verdict is the least step that no state excuses.
+//! (d) The same two jobs without looking back. For each state that runs can be in, it carries forward the steps back that some compatible run ending
+//! there excuses: weakly, if the run has a position so many events back that is not secret; strongly, if it has no secret one since. An event makes
+//! each step one more, transitions hand them on from state to state, and the verdict is the least step that no state excuses.
 //!
-//! It depends on the secret that is watched: each further secret needs sets of its own. The events and the older estimates are not in it.
+//! This state serves one secret: another one needs excuses of its own. It holds neither the last events nor the older estimates.
 
 use crate::automata::Automaton;
 use crate::plain::{refuse_unobservable, Verdicts, Verifier, NONE};
@@ -13,14 +13,16 @@ type Excuses = u32;
 const WEAK: Excuses = 0xffff;
 const NEWEST: Excuses = 1 << 16 | 1;
 
-/// The bytes of a state: how many events it looks back, where runs can be, and the excuses of each state. One notion alone needs half of the excuses.
+/// The bytes of a state: the number of events it looks back, the set of possible states, and the excuses of each. One notion needs half of those.
 pub const BOTH_BYTES: usize = 1 + 8 + 64 * 4;
 pub const WEAK_BYTES: usize = 1 + 8 + 64 * 2;
 
 pub struct Excused<const STRONG: bool, const BLOCK: usize> {
+    /// The events so far, at most K.
     count: usize,
+    /// Where runs can be.
     possible: u64,
-    /// 0 where no run can be.
+    /// 0 for the other states.
     excuses: [Excuses; 64],
 }
 
@@ -32,13 +34,13 @@ impl<const STRONG: bool, const BLOCK: usize> Excused<STRONG, BLOCK> {
         if STRONG { weak << 16 | weak } else { weak }
     }
 
-    /// What a run may excuse that is now in a state: in a secret one it has no strong excuse.
+    /// What a run that ends in a state may excuse, and what it excuses by ending there: in a secret state nothing strongly, and nothing by that.
     #[inline(always)]
-    fn allowed(automaton: &Automaton, all: Excuses, state: usize) -> Excuses {
-        if automaton.secret >> state & 1 == 0 { all } else { all & WEAK }
+    fn limits(automaton: &Automaton, all: Excuses, state: usize) -> (Excuses, Excuses) {
+        if automaton.secret >> state & 1 == 0 { (all, NEWEST & all) } else { (all & WEAK, 0) }
     }
 
-    /// Hands on what is excused along the event's transitions. What leads into states that excuse every older step already is passed over.
+    /// Hands excuses on along the event's transitions. A state that excuses every older step is passed over.
     #[inline(always)]
     fn step(&mut self, words: &[u64; 64]) {
         let older = Self::steps(self.count) & !NEWEST;
@@ -53,28 +55,28 @@ impl<const STRONG: bool, const BLOCK: usize> Excused<STRONG, BLOCK> {
         }
     }
 
-    /// Adds the newest step in the states right after the event, and then goes along unobservable transitions. It gives what some run excuses: beyond
-    /// the states right after the event no more than the newest step is added, weakly.
+    /// Adds the newest step in the states right after the event, and closes under unobservable transitions. The result is what any run excuses: the
+    /// closure adds no more to it than the newest step, weakly.
     #[inline(always)]
     fn settle(&mut self, automaton: &Automaton, entry: u64) -> Excuses {
         let all = Self::steps(self.count);
         let (mut any, mut full) = (0, 0);
         for q in members(entry) {
-            let allowed = Self::allowed(automaton, all, q);
-            let clear = automaton.secret >> q & 1 == 0;
-            let excuses = (self.excuses[q] | if clear { NEWEST } else { 0 }) & allowed;
+            let (most, newest) = Self::limits(automaton, all, q);
+            let excuses = self.excuses[q] & most | newest;
             self.excuses[q] = excuses;
             any |= excuses;
-            full |= ((excuses == allowed) as u64) << q;
+            full |= ((excuses == most) as u64) << q;
         }
-        self.possible = self.close(automaton, entry, full, all);
+        self.possible = self.close(automaton, entry, full);
         any | (self.possible & !automaton.secret != 0) as Excuses
     }
 
-    /// Hands excuses on along unobservable transitions until nothing changes, and gives the states that are reached. `full` are states that excuse all
-    /// they may; once they are all states, nothing is left to do.
+    /// Hands excuses on along unobservable transitions until nothing changes. The result is the states that are reached. `full` are those that excuse
+    /// all they may: when all 64 do, nothing is left to hand on.
     #[inline(always)]
-    fn close(&mut self, automaton: &Automaton, entry: u64, mut full: u64, all: Excuses) -> u64 {
+    fn close(&mut self, automaton: &Automaton, entry: u64, mut full: u64) -> u64 {
+        let all = Self::steps(self.count);
         let mut rows = Rows::<BLOCK>::new();
         let mut reached = entry;
         let mut changed = entry;
@@ -84,13 +86,12 @@ impl<const STRONG: bool, const BLOCK: usize> Excused<STRONG, BLOCK> {
             rows.know(automaton, 1 << q);
             let handed = self.excuses[q];
             for t in members(rows.row[q] & !full) {
-                let allowed = Self::allowed(automaton, all, t);
-                let clear = !automaton.secret >> t & 1;
+                let (most, newest) = Self::limits(automaton, all, t);
                 let before = self.excuses[t];
-                let after = before | handed & allowed | clear as Excuses;
+                let after = before | handed & most | newest & WEAK;
                 self.excuses[t] = after;
                 changed |= ((after != before) as u64 | !reached >> t & 1) << t;
-                full |= ((after == allowed) as u64) << t;
+                full |= ((after == most) as u64) << t;
                 reached |= 1 << t;
             }
         }
@@ -116,7 +117,6 @@ impl<const STRONG: bool, const BLOCK: usize> Verifier for Excused<STRONG, BLOCK>
         (made, verdicts)
     }
 
-    #[inline(always)]
     fn accept(&mut self, automaton: &Automaton, event: u8) -> Result<Verdicts, u8> {
         refuse_unobservable(automaton, event)?;
         let words = event_rows(automaton, event);

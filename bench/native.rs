@@ -18,12 +18,13 @@ const FEW: u32 = 16;
 /// The unobservable relation on the states that were asked for, turned round once a look back wants it.
 pub struct Silent<const BLOCK: usize> {
     rows: Rows<BLOCK>,
-    back: Option<[u64; 64]>,
+    turned: bool,
+    back: [u64; 64],
 }
 
 impl<const BLOCK: usize> Silent<BLOCK> {
     pub fn new() -> Self {
-        Silent { rows: Rows::new(), back: None }
+        Silent { rows: Rows::new(), turned: false, back: [0; 64] }
     }
 
     /// All of it, to be kept.
@@ -36,10 +37,15 @@ impl<const BLOCK: usize> Silent<BLOCK> {
 
     #[inline]
     fn turn(&mut self) {
-        if self.back.is_none() {
-            let few = self.rows.known.count_ones() <= FEW;
-            self.back = Some(if few { turn_bits(self.rows.known, &self.rows.row) } else { transpose(&self.rows.row) });
+        if self.turned {
+            return;
         }
+        if self.rows.known.count_ones() <= FEW {
+            turn_bits(self.rows.known, &self.rows.row, &mut self.back);
+        } else {
+            self.back = transpose(&self.rows.row);
+        }
+        self.turned = true;
     }
 
     /// The unobservable reach of a set.
@@ -60,14 +66,12 @@ impl<const BLOCK: usize> Silent<BLOCK> {
 }
 
 #[inline(always)]
-fn turn_bits(known: u64, rows: &[u64; 64]) -> [u64; 64] {
-    let mut out = [0; 64];
+fn turn_bits(known: u64, rows: &[u64; 64], back: &mut [u64; 64]) {
     for p in members(known) {
         for q in members(rows[p]) {
-            out[q] |= 1 << p;
+            back[q] |= 1 << p;
         }
     }
-    out
 }
 
 /// Swaps the blocks of J by J bits that lie across the diagonal.
@@ -171,14 +175,13 @@ impl<const STRONG: bool, const BLOCK: usize> Estimator<STRONG, BLOCK> {
                 silent.rows.know(automaton, (0..=self.count).fold(0, |set, l| set | self.estimates[(at + STEPS - l) % STEPS]));
                 silent.turn();
             }
-            let back = silent.back.as_ref().unwrap();
             let words = event_rows(automaton, self.events[at]);
             at = (at + STEPS - 1) % STEPS;
             let estimate = self.estimates[at];
             let (w, s) = preimages(words, estimate, weak, strong);
-            weak = closure(back, estimate, w);
+            weak = closure(&silent.back, estimate, w);
             if STRONG {
-                strong = closure(back, estimate & clear, s);
+                strong = closure(&silent.back, estimate & clear, s);
             }
         }
         [NONE, strong_verdict]

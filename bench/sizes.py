@@ -59,7 +59,7 @@ def deepest(name, frames, calls, above=()):
 
 def text_size():
     """Text, data and bss of the archive, and what it needs from outside; gives the bytes of text, constants included."""
-    heads, *members = output("size", str(LIBRARY)).splitlines()
+    _, *members = output("size", str(LIBRARY)).splitlines()
     sums = [sum(int(line.split()[column]) for line in members) for column in range(3)]
     print("text {}, data {}, bss {}".format(*sums))
     undefined = sorted({line.split()[-1] for line in output("nm", "-u", str(LIBRARY)).splitlines() if " U " in line})
@@ -79,7 +79,8 @@ def stack_depths():
 
 def saved_sizes():
     """The bytes of the saved states."""
-    sizes = {name.lower(): int(size) for name, size in re.findall(r"#define OPACITY_(ESTIMATOR|ENFORCER)_BYTES (\d+)", HEADER.read_text())}
+    header = HEADER.read_text()
+    sizes = {name: int(re.search(rf"#define OPACITY_{name.upper()}_BYTES (\d+)", header)[1]) for name in ("estimator", "enforcer")}
     print("saved:", ", ".join(f"{name} {size} bytes" for name, size in sizes.items()))
     return sizes
 
@@ -88,9 +89,9 @@ def main():
     sizes = [("text", text_size(), TEXT)]
     sizes += [(f"stack of {name}", depth, STACK) for name, depth in stack_depths().items()]
     sizes += [(f"saved {name}", size, SAVED) for name, size in saved_sizes().items()]
-    missed = [(name, size, goal) for name, size, goal in sizes if size >= goal]
+    missed = [(name, size) for name, size, goal in sizes if goal <= size]
     print(f"Goals: text below {TEXT} bytes, stack below {STACK}, saved states below {SAVED}.")
-    for name, size, goal in missed:
+    for name, size in missed:
         print(f"  missed: {name} has {size} bytes")
     if missed:
         sys.exit(1)

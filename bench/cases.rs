@@ -40,7 +40,7 @@ pub fn growing() -> Vec<Case> {
 
 /// Small automata that differ in everything, to be compared alone.
 pub fn small() -> Vec<Case> {
-    (0..400)
+    (0..4_000)
         .map(|number| {
             let automaton = automata::small(number);
             Case { name: "small", trace: automaton.trace(40, number), automaton, large: false }

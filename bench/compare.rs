@@ -184,11 +184,10 @@ pub fn compare(case: &Case, compared: &mut Compared) {
         }
         estimate = automaton.after(estimate, event as usize);
     }
-    compared.textbook += compare_textbook(case);
 }
 
-/// Compares (c) with (a) as far as it gets, and gives the number of events.
-fn compare_textbook(case: &Case) -> usize {
+/// Compares (c) with (a), as far as it gets.
+pub fn compare_textbook(case: &Case, compared: &mut Compared) {
     let mut a = Library::new(&case.automaton);
     a.fresh();
     let mut c = Trajectories::<true>::new(&case.automaton, CAP);
@@ -198,7 +197,7 @@ fn compare_textbook(case: &Case) -> usize {
     let begun = Instant::now();
     for (i, &event) in case.trace.iter().enumerate() {
         if TIME <= begun.elapsed() || c.push(event).is_err() || c_weak.push(event).is_err() {
-            return i;
+            return;
         }
         let (expected, got) = (a.accept(event), [c.weak(), c.strong()]);
         if expected != Ok(got) {
@@ -207,6 +206,6 @@ fn compare_textbook(case: &Case) -> usize {
         if got[0] != c_weak.weak() {
             differ(case, "(c), weak", i, expected, c_weak.weak());
         }
+        compared.textbook += 1;
     }
-    case.trace.len()
 }

@@ -42,16 +42,19 @@ fn number(x: f64) -> String {
     if x < 10.0 { format!("{x:.1}") } else { format!("{x:.0}") }
 }
 
+/// Compares all on some automata, and (c) on the first of them alone: it takes longest.
+fn compare_some(name: &str, cases: &[Case], with_textbook: usize) {
+    let mut all = Compared::default();
+    cases.iter().for_each(|case| compare::compare(case, &mut all));
+    cases[..with_textbook].iter().for_each(|case| compare::compare_textbook(case, &mut all));
+    all.print(name);
+}
+
 fn compare_all(cases: &[Case]) {
     println!("Compared event by event: verdicts, releases and refusals of (a), (b) and (d) are the same, and the verdicts of (c) as far as it gets.");
     Compared::print_head();
-    let report = |name: &str, cases: &[Case]| {
-        let mut all = Compared::default();
-        cases.iter().for_each(|case| compare::compare(case, &mut all));
-        all.print(name);
-    };
-    cases.chunks(1).for_each(|case| report(case[0].name, case));
-    report("400 small", &cases::small());
+    cases.chunks(1).for_each(|case| compare_some(case[0].name, case, 1));
+    compare_some("4000 small", &cases::small(), 400);
 }
 
 /// All that is measured in rounds.

@@ -149,11 +149,6 @@ impl Library {
         }
     }
 
-    /// The verdicts of the last event that was accepted.
-    pub fn verdicts(&self) -> [u8; 2] {
-        self.verdicts
-    }
-
     pub fn start(&mut self, notion: u8) {
         assert_eq!(self.call_start(&PROVED, notion), 0, "start");
     }

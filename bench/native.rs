@@ -1,6 +1,6 @@
 //! (b) The same two jobs without proofs, written for speed. It gets what (a) gets, the table and the header's fields, and keeps a state of its own
 //! from event to event and nothing of the automaton. Where it differs from the proved code:
-//!   - the unobservable relation is worked out for the states that matter alone (16 at a time), and turned round as a bit matrix;
+//!   - the unobservable relation is worked out for the states that matter alone, in blocks of any size, and turned round as a bit matrix;
 //!   - a state holds each estimate closed under unobservable transitions, so that a look back closes nothing forward;
 //!   - the look back stays inside the estimates: a state that no run can be in is never visited;
 //!   - both notions share one look back, and an enforcer looks back for its own notion alone;
@@ -8,86 +8,53 @@
 //!   - images and preimages read the table where it is, without a copy of the event's rows.
 
 use crate::automata::Automaton;
+use crate::plain::{refuse_unobservable, Queue, Verdicts, Verifier, NONE};
+use crate::rows::{event_rows, members, Rows};
 
-pub const NONE: u8 = 255;
 const STEPS: usize = 16;
-const BLOCK: usize = 16;
+/// Up to this many states are turned round bit by bit; the matrix costs the same whatever it holds.
+const FEW: u32 = 16;
 
-fn members(mut set: u64) -> impl Iterator<Item = usize> {
-    std::iter::from_fn(move || {
-        if set == 0 {
-            return None;
-        }
-        let q = set.trailing_zeros() as usize;
-        set &= set - 1;
-        Some(q)
-    })
+/// The unobservable relation on the states that were asked for, turned round once a look back wants it.
+pub struct Silent<const BLOCK: usize> {
+    rows: Rows<BLOCK>,
+    turned: bool,
+    back: [u64; 64],
 }
 
-/// The unobservable relation on the states that were asked for, in blocks, and turned round once a look back wants it.
-pub struct Silent<'a> {
-    automaton: &'a Automaton,
-    known: u64,
-    forward: [u64; 64],
-    back: Option<[u64; 64]>,
-}
-
-impl<'a> Silent<'a> {
-    pub fn new(automaton: &'a Automaton) -> Self {
-        Silent { automaton, known: 0, forward: [0; 64], back: None }
+impl<const BLOCK: usize> Silent<BLOCK> {
+    pub fn new() -> Self {
+        Silent { rows: Rows::new(), turned: false, back: [0; 64] }
     }
 
     /// All of it, to be kept.
-    pub fn whole(automaton: &'a Automaton) -> Self {
-        let mut silent = Silent::new(automaton);
-        silent.know(!0);
+    pub fn whole(automaton: &Automaton) -> Self {
+        let mut silent = Silent::new();
+        silent.rows.know(automaton, !0);
         silent.turn();
         silent
     }
 
     #[inline]
-    fn know(&mut self, states: u64) {
-        while states & !self.known != 0 {
-            let first = (states & !self.known).trailing_zeros() as usize / BLOCK * BLOCK;
-            // The sums of a block stay in registers while the events go by.
-            let mut sum = [0u64; BLOCK];
-            for event in members(!self.automaton.observable as u64) {
-                let words = &self.automaton.table[64 * event + first..][..BLOCK];
-                for i in 0..BLOCK {
-                    sum[i] |= words[i];
-                }
-            }
-            self.forward[first..first + BLOCK].copy_from_slice(&sum);
-            self.known |= ((1 << BLOCK) - 1) << first;
-        }
-    }
-
-    #[inline]
     fn turn(&mut self) {
-        if self.back.is_some() {
+        if self.turned {
             return;
         }
-        // A single block has few bits to move; the matrix costs the same whatever it holds.
-        self.back = Some(if self.known.count_ones() as usize <= BLOCK {
-            let mut out = [0; 64];
-            for p in members(self.known) {
-                for q in members(self.forward[p]) {
-                    out[q] |= 1 << p;
-                }
-            }
-            out
+        if self.rows.known.count_ones() <= FEW {
+            turn_bits(self.rows.known, &self.rows.row, &mut self.back);
         } else {
-            transpose(&self.forward)
-        });
+            self.back = transpose(&self.rows.row);
+        }
+        self.turned = true;
     }
 
     /// The unobservable reach of a set.
-    fn reach(&mut self, from: u64) -> u64 {
+    fn reach(&mut self, automaton: &Automaton, from: u64) -> u64 {
         let mut done = from;
         let mut wave = from;
         while wave != 0 {
-            self.know(wave);
-            let next = members(wave).fold(0, |set, q| set | self.forward[q]);
+            self.rows.know(automaton, wave);
+            let next = members(wave).fold(0, |set, q| set | self.rows.row[q]);
             wave = next & !done;
             done |= wave;
             if done == !0 {
@@ -95,6 +62,15 @@ impl<'a> Silent<'a> {
             }
         }
         done
+    }
+}
+
+#[inline(always)]
+fn turn_bits(known: u64, rows: &[u64; 64], back: &mut [u64; 64]) {
+    for p in members(known) {
+        for q in members(rows[p]) {
+            back[q] |= 1 << p;
+        }
     }
 }
 
@@ -152,12 +128,8 @@ fn preimages(words: &[u64; 64], among: u64, weak: u64, strong: u64) -> (u64, u64
     (w, s)
 }
 
-fn event_words(automaton: &Automaton, event: u8) -> &[u64; 64] {
-    automaton.table[64 * event as usize..][..64].try_into().unwrap()
-}
-
 /// The last events and estimates, in rings.
-pub struct Estimator {
+pub struct Estimator<const STRONG: bool, const BLOCK: usize> {
     count: usize,
     newest: usize,
     events: [u8; STEPS],
@@ -165,24 +137,10 @@ pub struct Estimator {
     estimates: [u64; STEPS],
 }
 
-impl Estimator {
-    pub fn fresh(automaton: &Automaton) -> Self {
-        let entry = 1 << automaton.initial;
-        let mut made = Estimator { count: 0, newest: 0, events: [0; STEPS], entries: [0; STEPS], estimates: [0; STEPS] };
-        made.entries[0] = entry;
-        made.estimates[0] = Silent::new(automaton).reach(entry);
-        made
-    }
-
-    pub fn verdicts(&self, automaton: &Automaton) -> [u8; 2] {
-        self.look_back::<true>(automaton, &mut Silent::new(automaton))
-    }
-
-    fn push(&mut self, automaton: &Automaton, silent: &mut Silent, event: u8) -> Result<(), u8> {
-        if 31 < event || automaton.observable >> event & 1 == 0 {
-            return Err(6);
-        }
-        let words = event_words(automaton, event);
+impl<const STRONG: bool, const BLOCK: usize> Estimator<STRONG, BLOCK> {
+    fn push(&mut self, automaton: &Automaton, silent: &mut Silent<BLOCK>, event: u8) -> Result<(), u8> {
+        refuse_unobservable(automaton, event)?;
+        let words = event_rows(automaton, event);
         let entry = members(self.estimates[self.newest]).fold(0, |set, q| set | words[q]);
         if entry == 0 {
             return Err(7);
@@ -191,12 +149,12 @@ impl Estimator {
         self.count = (self.count + 1).min(automaton.k as usize);
         self.events[self.newest] = event;
         self.entries[self.newest] = entry;
-        self.estimates[self.newest] = silent.reach(entry);
+        self.estimates[self.newest] = silent.reach(automaton, entry);
         Ok(())
     }
 
     /// The weak verdict and, if wanted, the strong one. A weak leak is a strong one too, so the look back may stop at it.
-    fn look_back<const STRONG: bool>(&self, automaton: &Automaton, silent: &mut Silent) -> [u8; 2] {
+    fn look_back(&self, automaton: &Automaton, silent: &mut Silent<BLOCK>) -> Verdicts {
         let clear = !automaton.secret;
         let mut at = self.newest;
         let mut weak = self.estimates[at];
@@ -214,70 +172,48 @@ impl Estimator {
                 break;
             }
             if l == 0 {
-                silent.know((0..=self.count).fold(0, |set, l| set | self.estimates[(at + STEPS - l) % STEPS]));
+                silent.rows.know(automaton, (0..=self.count).fold(0, |set, l| set | self.estimates[(at + STEPS - l) % STEPS]));
                 silent.turn();
             }
-            let back = silent.back.as_ref().unwrap();
-            let words = event_words(automaton, self.events[at]);
+            let words = event_rows(automaton, self.events[at]);
             at = (at + STEPS - 1) % STEPS;
             let estimate = self.estimates[at];
             let (w, s) = preimages(words, estimate, weak, strong);
-            weak = closure(back, estimate, w);
+            weak = closure(&silent.back, estimate, w);
             if STRONG {
-                strong = closure(back, estimate & clear, s);
+                strong = closure(&silent.back, estimate & clear, s);
             }
         }
         [NONE, strong_verdict]
     }
 
-    pub fn accept(&mut self, automaton: &Automaton, event: u8) -> Result<[u8; 2], u8> {
-        self.accept_with(automaton, &mut Silent::new(automaton), event)
-    }
-
-    /// The same, with the unobservable relation kept from before: what 1 KB for each automaton would bring.
-    pub fn accept_with(&mut self, automaton: &Automaton, silent: &mut Silent, event: u8) -> Result<[u8; 2], u8> {
+    /// `accept` with the unobservable relation kept from before: what 1 KB for each automaton would bring.
+    pub fn accept_with(&mut self, automaton: &Automaton, silent: &mut Silent<BLOCK>, event: u8) -> Result<Verdicts, u8> {
         self.push(automaton, silent, event)?;
-        Ok(self.look_back::<true>(automaton, silent))
+        Ok(self.look_back(automaton, silent))
     }
 }
 
-/// An enforcer, weak or strong: pending events in a ring, each with the number of accepted events at which its wait is over.
-pub struct Enforcer {
-    estimator: Estimator,
-    accepted: u64,
-    first: usize,
-    count: usize,
-    pending: [u8; 32],
-    due: [u64; 32],
-    output: [u8; 17],
+impl<const STRONG: bool, const BLOCK: usize> Verifier for Estimator<STRONG, BLOCK> {
+    fn fresh(automaton: &Automaton) -> (Self, Verdicts) {
+        let entry = 1 << automaton.initial;
+        let mut silent = Silent::new();
+        let mut made = Estimator { count: 0, newest: 0, events: [0; STEPS], entries: [0; STEPS], estimates: [0; STEPS] };
+        made.entries[0] = entry;
+        made.estimates[0] = silent.reach(automaton, entry);
+        let verdicts = made.look_back(automaton, &mut silent);
+        (made, verdicts)
+    }
+
+    fn accept(&mut self, automaton: &Automaton, event: u8) -> Result<Verdicts, u8> {
+        self.accept_with(automaton, &mut Silent::new(), event)
+    }
 }
 
-impl Enforcer {
-    pub fn start(automaton: &Automaton) -> Self {
-        Enforcer { estimator: Estimator::fresh(automaton), accepted: 0, first: 0, count: 0, pending: [0; 32], due: [0; 32], output: [0; 17] }
-    }
-
-    pub fn offer<const STRONG: bool>(&mut self, automaton: &Automaton, event: u8) -> Result<&[u8], u8> {
-        self.offer_with::<STRONG>(automaton, &mut Silent::new(automaton), event)
-    }
-
-    pub fn offer_with<const STRONG: bool>(&mut self, automaton: &Automaton, silent: &mut Silent, event: u8) -> Result<&[u8], u8> {
-        self.estimator.push(automaton, silent, event)?;
-        let [weak, strong] = self.estimator.look_back::<STRONG>(automaton, silent);
-        let steps = if STRONG { strong } else { weak };
-        let wait = if steps == NONE { 0 } else { automaton.k + 1 - steps };
-        self.accepted += 1;
-        let last = (self.first + self.count) % 32;
-        self.pending[last] = event;
-        self.due[last] = self.accepted + wait as u64;
-        self.count += 1;
-        let mut released = 0;
-        while 0 < self.count && self.due[self.first] <= self.accepted {
-            self.output[released] = self.pending[self.first];
-            released += 1;
-            self.first = (self.first + 1) % 32;
-            self.count -= 1;
-        }
-        Ok(&self.output[..released])
-    }
+/// `offer` of a weak enforcer with the unobservable relation kept.
+pub fn offer_with<'a, const BLOCK: usize>(
+    estimator: &mut Estimator<false, BLOCK>, queue: &'a mut Queue, automaton: &Automaton, silent: &mut Silent<BLOCK>, event: u8,
+) -> Result<&'a [u8], u8> {
+    let verdicts = estimator.accept_with(automaton, silent, event)?;
+    Ok(queue.push(automaton.k, event, verdicts[0]))
 }

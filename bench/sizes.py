@@ -1,5 +1,6 @@
 #!/usr/bin/env python3
-"""Sizes of the static library: text and data, what it needs from outside, and the deepest stack of each exported function from the disassembly.
+"""Sizes of the static library: text and data, what it needs from outside, the saved states, and the deepest stack of each exported function from the
+disassembly. A missed goal ends the script with status 1.
 
 A function's frame is what its prologue pushes and takes from rsp; a path adds 8 bytes for each return address. The code has no recursion and takes no
 other stack (the script stops if it finds a call through a pointer, a cycle or an aligned rsp). `bench/run stack` measures the same by painting.
@@ -10,7 +11,12 @@ import subprocess
 import sys
 from pathlib import Path
 
-LIBRARY = Path(__file__).resolve().parent.parent / "target/staticlib/libgateway.a"
+ROOT = Path(__file__).resolve().parent.parent
+LIBRARY = ROOT / "target/staticlib/libgateway.a"
+HEADER = ROOT / "include/opacity.h"
+
+# The goals: each is below so many bytes.
+TEXT, STACK, SAVED = 32 * 1024, 8 * 1024, 256
 
 
 def output(*command):
@@ -51,11 +57,45 @@ def deepest(name, frames, calls, above=()):
     return frames[name] + depth, (name,) + path
 
 
-print(output("size", str(LIBRARY)).splitlines()[0])
-print(output("size", str(LIBRARY)).splitlines()[1].split("\t(ex")[0].split(" (ex")[0])
-undefined = sorted(line.split()[-1] for line in output("nm", "-u", str(LIBRARY)).splitlines() if " U " in line)
-print("from outside:", ", ".join(undefined))
-frames, calls = functions()
-for name in sorted(name for name in frames if name.startswith("opacity_")):
-    depth, path = deepest(name, frames, calls)
-    print(f"stack of {name}: {depth} bytes, {' > '.join(f'{step} {frames[step]}' if step in frames else step for step in path)}")
+def text_size():
+    """Text, data and bss of the archive, and what it needs from outside; gives the bytes of text, constants included."""
+    _, *members = output("size", str(LIBRARY)).splitlines()
+    sums = [sum(int(line.split()[column]) for line in members) for column in range(3)]
+    print("text {}, data {}, bss {}".format(*sums))
+    undefined = sorted({line.split()[-1] for line in output("nm", "-u", str(LIBRARY)).splitlines() if " U " in line})
+    print("from outside:", ", ".join(undefined))
+    return sums[0]
+
+
+def stack_depths():
+    """The deepest path of each exported function, in bytes."""
+    frames, calls = functions()
+    depths = {}
+    for name in sorted(name for name in frames if name.startswith("opacity_")):
+        depths[name], path = deepest(name, frames, calls)
+        print(f"stack of {name}: {depths[name]} bytes, {' > '.join(f'{step} {frames[step]}' if step in frames else step for step in path)}")
+    return depths
+
+
+def saved_sizes():
+    """The bytes of the saved states."""
+    header = HEADER.read_text()
+    sizes = {name: int(re.search(rf"#define OPACITY_{name.upper()}_BYTES (\d+)", header)[1]) for name in ("estimator", "enforcer")}
+    print("saved:", ", ".join(f"{name} {size} bytes" for name, size in sizes.items()))
+    return sizes
+
+
+def main():
+    sizes = [("text", text_size(), TEXT)]
+    sizes += [(f"stack of {name}", depth, STACK) for name, depth in stack_depths().items()]
+    sizes += [(f"saved {name}", size, SAVED) for name, size in saved_sizes().items()]
+    missed = [(name, size) for name, size, goal in sizes if goal <= size]
+    print(f"Goals: text below {TEXT} bytes, stack below {STACK}, saved states below {SAVED}.")
+    for name, size in missed:
+        print(f"  missed: {name} has {size} bytes")
+    if missed:
+        sys.exit(1)
+    print("  met")
+
+
+main()

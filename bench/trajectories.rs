@@ -8,7 +8,7 @@
 //! enough for the weak verdict alone (the source's footnote 7): that is what the enforcer job runs.
 
 use crate::automata::Automaton;
-use crate::native::NONE;
+use crate::plain::NONE;
 use std::collections::HashSet;
 use std::hash::{BuildHasherDefault, Hasher};
 

@@ -402,13 +402,13 @@ impl Estimator {
         let NextEstimate::States(entry) = next else {
             return self.refused(Refusal::Incompatible);
         };
-        let estimator = self.push(header.k, event, entry);
-        let from = near.states | entered(estimator);
+        let after = self.push(header.k, event, entry);
+        let from = near.states | entered(after);
         let reach = automaton::silent_rows(table, header, &mut silent, near.known, from);
         let mut back = [0u64; 64];
         automaton::silent_back(&silent, reach.states, &mut back);
         let verdicts = judge(
-            estimator,
+            after,
             table,
             header,
             &silent,
@@ -417,7 +417,7 @@ impl Estimator {
             asked,
         );
         Reply {
-            estimator: estimator,
+            estimator: after,
             answer: Answer::Accepted(verdicts),
         }
     }

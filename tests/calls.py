@@ -14,16 +14,17 @@ from saved import WORDS, automaton_of, grown_enforcer, grown_estimator, header_o
 MALFORMED, OUTPUT_TOO_SMALL = 9, 10
 
 
-def groups(data):
-    """Bytes as they are written: each in two digits, and how often it stands where it is repeated."""
-    words, i = [], 0
+def elements(data):
+    """How many elements a slice has, and those that are not 0: behind their index, or behind the one before; and how often, where one is repeated."""
+    text, i = str(len(data)), 0
     while i < len(data):
         end = i + 1
         while end < len(data) and data[end] == data[i]:
             end += 1
-        words.append(f"{data[i]:02x}" + (f"*{end - i}" if end - i > 1 else ""))
+        if data[i]:
+            text += ("," if i and data[i - 1] else f" {i}:") + f"{data[i]:x}" + (f"*{end - i}" if end - i > 1 else "")
         i = end
-    return words
+    return text
 
 
 def extended(listing, event):
@@ -59,19 +60,12 @@ class Calls:
         """Lends other bytes from now on."""
         for name, data in slices.items():
             self.slices[name] = bytes(data)
-            self.lines.append(" ".join([name] + groups(self.slices[name])))
+            self.lines.append(f"{name} {elements(self.slices[name])}")
 
     def put_table(self, words):
         """Lends another table from now on."""
         self.table = tuple(words)
-        if len(words) > 1 and len(set(words)) == 1:
-            self.lines.append(f"table {len(words)} 0:{words[0]:x}*{len(words)}")
-        else:
-            self.lines.append(self.table_line())
-
-    def table_line(self):
-        """The table as it is written."""
-        return " ".join([f"table {len(self.table)}"] + [f"{i}:{word:x}" for i, word in enumerate(self.table) if word])
+        self.lines.append(f"table {elements(self.table)}")
 
     def lend(self, automaton):
         """The table and the header of an automaton, not decoded."""
@@ -85,7 +79,7 @@ class Calls:
         self.lines.append(line)
         self.printed.append(f"{line}: {answer}")
         for name in shown:
-            self.printed.append(self.table_line() if name == "table" else " ".join([name] + groups(self.slices[name])))
+            self.printed.append(f"{name:9} {elements(self.table if name == 'table' else self.slices[name])}")
         return answer
 
     def decode(self):
@@ -175,7 +169,7 @@ class Calls:
         assert self.sound(**({"estimator": 144, "verdicts": 2} if function == "accept" else {"enforcer": 178, "released": 1}))
         assert self.estimator_sound(self.slices[name]) if function == "accept" else self.enforcer_sound(self.slices[name])
         assert event in self.observable() and len(self.slices["output"]) >= 17
-        return self.call(f"open-{function} {event}", "open")
+        return self.call(f"open {function} {event}", "open")
 
     # limits, and what is remembered
 

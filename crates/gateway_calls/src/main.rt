@@ -1,12 +1,14 @@
 // Calls of the gateway's functions, as its standard input lists them: one line a command, and after each call its answer and every slice that the
 // function was lent to write to, whole. tests/README.md has the commands; tests/gateway_calls.py writes the input and computes the output.
+//
+// A function is added by its word, a line of `slots_of` with what it is lent, and a call in `apply`.
 ghost use Prim.Native.Nat.{_≤_, _<_, _+_};
 ghost use mathlib.Core.Path.{_≡_};
 ghost use lib.ListN.{length};
 
-// Each slice that is lent has a slot of the memory, and a size there; the words of the table stand apart.
+// The slots of the memory, one for each slice that is lent: SLOT words each, of which the first ones are lent, by the slot's size. Only the table's are
+// words; the others are lent as bytes.
 const SLOT: usize = 4096;
-const SLOTS: usize = 8;
 const TABLE: usize = 0;
 const ENCODING: usize = 1;
 const HEADER: usize = 2;
@@ -15,6 +17,16 @@ const VERDICTS: usize = 4;
 const ENFORCER: usize = 5;
 const OUTPUT: usize = 6;
 const RELEASED: usize = 7;
+// What is lent where a function takes nothing; its size stays 0.
+const NONE: usize = 8;
+
+// The words of the commands, as `word_at` reads them: their last eight letters.
+const OPEN_WORD: u64 = 0x6f70656e;
+const DECODE: u64 = 0x6465636f6465;
+const FRESH: u64 = 0x6672657368;
+const ACCEPT: u64 = 0x616363657074;
+const START: u64 = 0x7374617274;
+const OFFER: u64 = 0x6f66666572;
 
 // Where an enforcer has the number of its pending events, and behind it those events.
 const PENDING: usize = 145;
@@ -22,17 +34,27 @@ const PENDING: usize = 145;
 // Stands for every answer that is allowed where the answer is left open.
 const OPEN: u8 = 255;
 
-// A number of the line, and where the line goes on.
+// A number or a word of the line, and where the line goes on.
 struct Number {
     value: u64,
     next: usize,
 }
 
-// A byte or a word of the line, how many times it is meant, and where the line goes on: not past the item's start, if it is malformed.
-struct Item {
-    value: u64,
-    times: usize,
+// An element of a slot, how many times it is meant, and where the line goes on; at its start, if it is malformed.
+struct Element {
+    place: usize,
+    word: u64,
+    times: u64,
     next: usize,
+}
+
+// What a function is lent: a slot to read, those to write to, and whether it takes a byte.
+struct Slots {
+    input: usize,
+    first: usize,
+    second: usize,
+    third: usize,
+    byte: bool,
 }
 
 fn wide(byte: u8) -> usize
@@ -41,124 +63,33 @@ fn wide(byte: u8) -> usize
     byte as usize
 }
 
-// Puts a byte into the text, where there is room.
-fn put(text: &mut [u8], at: usize, byte: u8) -> usize {
-    if at < text.len() {
-        text[at] = byte;
-        return at + 1;
-    }
-    at
-}
-
-fn put_all(text: &mut [u8], from: usize, bytes: &[u8]) -> usize {
-    let mut at = from;
-    let mut i: usize = 0;
-    while i < bytes.len() {
-        at = put(text, at, bytes[i]);
-        i += 1;
-    }
-    at
-}
-
-fn put_decimal(text: &mut [u8], at: usize, n: u64) -> usize {
-    let mut digits = [0u8; 20];
-    let k = io::decimal(n, &mut digits);
-    put_all(text, at, &digits[..k])
-}
-
-fn put_hex(text: &mut [u8], at: usize, n: u64, width: usize) -> usize {
-    let mut digits = [0u8; 16];
-    let k = io::hex(n, width, &mut digits);
-    put_all(text, at, &digits[..k])
-}
-
-fn flush(text: &[u8], at: usize) {
-    if at <= text.len() {
-        io::write_all(1, &text[0..at]);
-    }
-}
-
-// A byte that stands so many times, as ` ee*17` or ` ee`.
-fn put_run(text: &mut [u8], from: usize, byte: u8, times: usize) -> usize {
-    let mut at = put(text, from, b' ');
-    at = put_hex(text, at, byte as u64, 2);
-    if times < 2 {
-        return at;
-    }
-    at = put(text, at, b'*');
-    put_decimal(text, at, times as u64)
-}
-
-// How often the byte at a place stands from there on.
-fn run_at(bytes: &[u8], at: usize) -> usize
-    requires { ⌜ at < length (now bytes) ⌝ }
-    ensures { λ r. ⌜ (0 < r) × (at + r ≤ length (now (bytes .entry))) ⌝ }
+fn place_of(slot: usize, i: usize) -> usize
+    ensures { λ r. ⌜ r < 36864 ⌝ }
 {
-    let mut i = at + 1;
-    while i < bytes.len() {
-        if bytes[i] != bytes[at] {
-            return i - at;
+    if slot <= NONE {
+        if i < SLOT {
+            return slot * SLOT + i;
         }
-        i += 1;
     }
-    i - at
+    36863
 }
 
-fn put_runs(text: &mut [u8], from: usize, bytes: &[u8]) -> usize {
-    let mut at = from;
-    let mut i: usize = 0;
-    while i < bytes.len() {
-        let n = run_at(bytes, i);
-        at = put_run(text, at, bytes[i], n);
-        i += n;
-    }
-    at
+fn word_of(memory: &[u64; 36864], slot: usize, i: usize) -> u64 {
+    memory[place_of(slot, i)]
 }
 
-// A line with a name and the bytes of a slice.
-fn show(name: &[u8], bytes: &[u8]) {
-    let mut text = [0u8; 16384];
-    let mut at = put_all(&mut text, 0, name);
-    at = put_runs(&mut text, at, bytes);
-    at = put(&mut text, at, b'\n');
-    flush(&text, at);
+fn byte_of(memory: &[u64; 36864], slot: usize, i: usize) -> u8 {
+    (word_of(memory, slot, i) % 256) as u8
 }
 
-fn put_word(text: &mut [u8], from: usize, place: usize, word: u64) -> usize {
-    if word == 0 {
-        return from;
-    }
-    let mut at = put(text, from, b' ');
-    at = put_decimal(text, at, place as u64);
-    at = put(text, at, b':');
-    put_hex(text, at, word, 1)
+fn set_word(memory: &mut [u64; 36864], slot: usize, i: usize, word: u64) {
+    memory[place_of(slot, i)] = word;
 }
 
-fn put_words(text: &mut [u8], from: usize, words: &[u64]) -> usize {
-    let mut at = from;
-    let mut i: usize = 0;
-    while i < words.len() {
-        at = put_word(text, at, i, words[i]);
-        i += 1;
-    }
-    at
-}
-
-// The table's line: how many words it has, and those that are not 0.
-fn show_words(words: &[u64]) {
-    let mut text = [0u8; 65536];
-    let mut at = put_all(&mut text, 0, b"table ");
-    at = put_decimal(&mut text, at, words.len() as u64);
-    at = put_words(&mut text, at, words);
-    at = put(&mut text, at, b'\n');
-    flush(&text, at);
-}
-
-// How many elements of a slot are lent.
-fn size_of(sizes: &[usize; 8], slot: usize) -> usize
+fn size_of(sizes: &[usize; 9], slot: usize) -> usize
     ensures { λ r. ⌜ r ≤ 4096 ⌝ }
 {
-    if slot < SLOTS {
+    if slot < 9 {
         let n = sizes[slot];
         if n <= SLOT {
             return n;
@@ -167,39 +98,26 @@ fn size_of(sizes: &[usize; 8], slot: usize) -> usize
     0
 }
 
-fn set_size(sizes: &mut [usize; 8], slot: usize, n: usize) {
-    if slot < SLOTS {
+fn set_size(sizes: &mut [usize; 9], slot: usize, n: usize) {
+    if slot < NONE {
         sizes[slot] = n;
     }
 }
 
-// Where a byte of a slot stands in the memory.
-fn place_of(slot: usize, i: usize) -> usize {
-    if slot < SLOTS {
-        if i < SLOT {
-            return slot * SLOT + i;
-        }
+// Copies of the table and of another slot, to be lent to a call.
+fn table_of(memory: &[u64; 36864]) -> [u64; 4096]
+    ensures { λ r. ⌜ 4096 ≡ length r ⌝ }
+{
+    let mut words = [0u64; 4096];
+    let mut i: usize = 0;
+    while i < 4096 {
+        words[i] = memory[i];
+        i += 1;
     }
-    0
+    words
 }
 
-fn byte_of(memory: &[u8], slot: usize, i: usize) -> u8 {
-    let place = place_of(slot, i);
-    if place < memory.len() {
-        return memory[place];
-    }
-    0
-}
-
-fn set_byte(memory: &mut [u8], slot: usize, i: usize, byte: u8) {
-    let place = place_of(slot, i);
-    if place < memory.len() {
-        memory[place] = byte;
-    }
-}
-
-// A copy of a slot, to be lent to a call.
-fn copy_of(memory: &[u8], slot: usize) -> [u8; 4096]
+fn copy_of(memory: &[u64; 36864], slot: usize) -> [u8; 4096]
     ensures { λ r. ⌜ 4096 ≡ length r ⌝ }
 {
     let mut bytes = [0u8; 4096];
@@ -211,29 +129,30 @@ fn copy_of(memory: &[u8], slot: usize) -> [u8; 4096]
     bytes
 }
 
-fn byte_in(bytes: &[u8; 4096], i: usize) -> u8 {
-    if i < SLOT {
-        return bytes[i];
-    }
-    0
-}
-
 // What a call left in a copy.
-fn keep(memory: &mut [u8], slot: usize, bytes: &[u8; 4096]) {
+fn keep_table(memory: &mut [u64; 36864], words: &[u64; 4096]) {
     let mut i: usize = 0;
     while i < 4096 {
-        set_byte(memory, slot, i, bytes[i]);
+        memory[i] = words[i];
+        i += 1;
+    }
+}
+
+fn keep(memory: &mut [u64; 36864], slot: usize, bytes: &[u8; 4096]) {
+    let mut i: usize = 0;
+    while i < 4096 {
+        set_word(memory, slot, i, wide(bytes[i]) as u64);
         i += 1;
     }
 }
 
 // Whether n bytes of a slot are as those of a copy, each from a place on.
-fn matches(memory: &[u8], slot: usize, from: usize, bytes: &[u8; 4096], at: usize, n: usize) -> bool
-    requires { ⌜ (from ≤ 4096) × (at ≤ 4096) × (n ≤ 4096) ⌝ }
+fn matches(memory: &[u64; 36864], slot: usize, from: usize, bytes: &[u8; 4096], at: usize, n: usize) -> bool
+    requires { ⌜ (from ≤ 4096) × (at + n ≤ 4096) ⌝ }
 {
     let mut i: usize = 0;
     while i < n {
-        if byte_of(memory, slot, from + i) != byte_in(bytes, at + i) {
+        if byte_of(memory, slot, from + i) != bytes[at + i] {
             return false;
         }
         i += 1;
@@ -241,109 +160,172 @@ fn matches(memory: &[u8], slot: usize, from: usize, bytes: &[u8; 4096], at: usiz
     true
 }
 
-fn show_slot(name: &[u8], memory: &[u8], sizes: &[usize; 8], slot: usize) {
-    let bytes = copy_of(memory, slot);
-    let n = size_of(sizes, slot);
-    show(name, &bytes[0..n]);
+// How often the element at a place stands from there on, before the slot's size.
+fn run_at(memory: &[u64; 36864], slot: usize, at: usize, size: usize) -> usize
+    requires { ⌜ at < size ⌝ }
+    ensures { λ r. ⌜ (0 < r) × (at + r ≤ size) ⌝ }
+{
+    let mut i = at + 1;
+    while i < size {
+        if word_of(memory, slot, i) != word_of(memory, slot, at) {
+            return i - at;
+        }
+        i += 1;
+    }
+    i - at
 }
 
-// The functions of the gateway. What is lent to write to is a copy, which goes back to its slot after the call.
-
-fn decode(memory: &mut [u8], sizes: &[usize; 8], table: &mut [u64]) -> u8 {
-    let encoding = copy_of(memory, ENCODING);
-    let encoding_size = size_of(sizes, ENCODING);
-    let mut header = copy_of(memory, HEADER);
-    let header_size = size_of(sizes, HEADER);
-    let answer = gateway::opacity_decode(
-        &encoding[0..encoding_size],
-        table,
-        &mut header[0..header_size],
-    );
-    keep(memory, HEADER, &header);
-    answer
+// An element that is not 0, and how often it stands: behind its index, or behind the one before it.
+fn show_run(before: u64, at: usize, word: u64, times: usize) {
+    if word == 0 {
+        return;
+    }
+    if before == 0 {
+        io::write_all(1, b" ");
+        io::print_decimal(1, at as u64);
+        io::write_all(1, b":");
+    } else {
+        io::write_all(1, b",");
+    }
+    io::print_hex(1, word, 1);
+    if 1 < times {
+        io::write_all(1, b"*");
+        io::print_decimal(1, times as u64);
+    }
 }
 
-fn fresh(memory: &mut [u8], sizes: &[usize; 8], table: &[u64]) -> u8 {
-    let header = copy_of(memory, HEADER);
-    let header_size = size_of(sizes, HEADER);
-    let mut estimator = copy_of(memory, ESTIMATOR);
-    let estimator_size = size_of(sizes, ESTIMATOR);
-    let mut verdicts = copy_of(memory, VERDICTS);
-    let verdicts_size = size_of(sizes, VERDICTS);
-    let answer = gateway::opacity_fresh(
-        table,
-        &header[0..header_size],
-        &mut estimator[0..estimator_size],
-        &mut verdicts[0..verdicts_size],
-    );
-    keep(memory, ESTIMATOR, &estimator);
-    keep(memory, VERDICTS, &verdicts);
-    answer
+fn show_runs(memory: &[u64; 36864], slot: usize, size: usize) {
+    let mut before: u64 = 0;
+    let mut at: usize = 0;
+    while at < size {
+        let word = word_of(memory, slot, at);
+        let times = run_at(memory, slot, at, size);
+        show_run(before, at, word, times);
+        before = word;
+        at += times;
+    }
 }
 
-fn accept(memory: &mut [u8], sizes: &[usize; 8], table: &[u64], event: u8) -> u8 {
-    let header = copy_of(memory, HEADER);
-    let header_size = size_of(sizes, HEADER);
-    let mut estimator = copy_of(memory, ESTIMATOR);
-    let estimator_size = size_of(sizes, ESTIMATOR);
-    let mut verdicts = copy_of(memory, VERDICTS);
-    let verdicts_size = size_of(sizes, VERDICTS);
-    let answer = gateway::opacity_accept(
-        table,
-        &header[0..header_size],
-        event,
-        &mut estimator[0..estimator_size],
-        &mut verdicts[0..verdicts_size],
-    );
-    keep(memory, ESTIMATOR, &estimator);
-    keep(memory, VERDICTS, &verdicts);
-    answer
+fn show_name(names: &[u8], slot: usize) {
+    if slot < NONE {
+        let from = slot * 9;
+        let end = from + 9;
+        if end <= names.len() {
+            io::write_all(1, &names[from..end]);
+        }
+    }
 }
 
-fn start(memory: &mut [u8], sizes: &[usize; 8], table: &[u64], notion: u8) -> u8 {
-    let header = copy_of(memory, HEADER);
-    let header_size = size_of(sizes, HEADER);
-    let mut enforcer = copy_of(memory, ENFORCER);
-    let enforcer_size = size_of(sizes, ENFORCER);
-    let answer = gateway::opacity_start(
-        table,
-        &header[0..header_size],
-        notion,
-        &mut enforcer[0..enforcer_size],
-    );
-    keep(memory, ENFORCER, &enforcer);
-    answer
+// The line of a slot: its name, its size, and its elements that are not 0.
+fn show(memory: &[u64; 36864], sizes: &[usize; 9], slot: usize) {
+    if slot < NONE {
+        let size = size_of(sizes, slot);
+        show_name(b"table    encoding header   estimatorverdicts enforcer output   released ", slot);
+        io::write_all(1, b" ");
+        io::print_decimal(1, size as u64);
+        show_runs(memory, slot, size);
+        io::write_all(1, b"\n");
+    }
 }
 
-fn offer(memory: &mut [u8], sizes: &[usize; 8], table: &[u64], event: u8) -> u8 {
-    let header = copy_of(memory, HEADER);
-    let header_size = size_of(sizes, HEADER);
-    let mut enforcer = copy_of(memory, ENFORCER);
-    let enforcer_size = size_of(sizes, ENFORCER);
-    let mut output = copy_of(memory, OUTPUT);
-    let output_size = size_of(sizes, OUTPUT);
-    let mut released = copy_of(memory, RELEASED);
-    let released_size = size_of(sizes, RELEASED);
-    let answer = gateway::opacity_offer(
-        table,
-        &header[0..header_size],
-        event,
-        &mut enforcer[0..enforcer_size],
-        &mut output[0..output_size],
-        &mut released[0..released_size],
-    );
-    keep(memory, ENFORCER, &enforcer);
-    keep(memory, OUTPUT, &output);
-    keep(memory, RELEASED, &released);
+// What each function is lent, beside the table.
+fn slots_of(call: u64) -> Slots {
+    let mut slots = Slots {
+        input: HEADER,
+        first: NONE,
+        second: NONE,
+        third: NONE,
+        byte: true,
+    };
+    if call == DECODE {
+        slots.input = ENCODING;
+        slots.first = HEADER;
+        slots.byte = false;
+    }
+    if call == FRESH {
+        slots.first = ESTIMATOR;
+        slots.second = VERDICTS;
+        slots.byte = false;
+    }
+    if call == ACCEPT {
+        slots.first = ESTIMATOR;
+        slots.second = VERDICTS;
+    }
+    if call == START {
+        slots.first = ENFORCER;
+    }
+    if call == OFFER {
+        slots.first = ENFORCER;
+        slots.second = OUTPUT;
+        slots.third = RELEASED;
+    }
+    slots
+}
+
+fn apply(
+    call: u64,
+    byte: u8,
+    table: &mut [u64],
+    input: &[u8],
+    first: &mut [u8],
+    second: &mut [u8],
+    third: &mut [u8],
+) -> u8 {
+    if call == DECODE {
+        return gateway::opacity_decode(input, table, first);
+    }
+    if call == FRESH {
+        return gateway::opacity_fresh(table, input, first, second);
+    }
+    if call == ACCEPT {
+        return gateway::opacity_accept(table, input, byte, first, second);
+    }
+    if call == START {
+        return gateway::opacity_start(table, input, byte, first);
+    }
+    gateway::opacity_offer(table, input, byte, first, second, third)
+}
+
+// Lends the first elements of copies, by the sizes of their slots.
+fn lend(
+    call: u64,
+    byte: u8,
+    sizes: &[usize; 9],
+    table: &mut [u64],
+    input: &[u8],
+    first: &mut [u8],
+    second: &mut [u8],
+    third: &mut [u8],
+) -> u8
+    requires { ⌜ (4096 ≡ length (now table)) × (4096 ≡ length (now input)) × (4096 ≡ length (now first)) × (4096 ≡ length (now second)) × (4096 ≡ length (now third)) ⌝ }
+{
+    let slots = slots_of(call);
+    let words = size_of(sizes, TABLE);
+    let n = size_of(sizes, slots.input);
+    let n1 = size_of(sizes, slots.first);
+    let n2 = size_of(sizes, slots.second);
+    let n3 = size_of(sizes, slots.third);
+    apply(call, byte, &mut table[0..words], &input[0..n], &mut first[0..n1], &mut second[0..n2], &mut third[0..n3])
+}
+
+// A call: its answer, after which the memory is as the function left it.
+fn answer_of(call: u64, byte: u8, memory: &mut [u64; 36864], sizes: &[usize; 9]) -> u8 {
+    let slots = slots_of(call);
+    let mut table = table_of(memory);
+    let input = copy_of(memory, slots.input);
+    let mut first = copy_of(memory, slots.first);
+    let mut second = copy_of(memory, slots.second);
+    let mut third = copy_of(memory, slots.third);
+    let answer = lend(call, byte, sizes, &mut table, &input, &mut first, &mut second, &mut third);
+    keep_table(memory, &table);
+    keep(memory, slots.first, &first);
+    keep(memory, slots.second, &second);
+    keep(memory, slots.third, &third);
     answer
 }
 
 // Calls on states within their limits that did not grow from a fresh one. Which answer they get is left open, so OPEN stands for any that is
 // allowed, and every slot gets back what it held. A state is within its limits if byte 255, which is never observable, gets 6 and not 9.
-
-fn unchanged(memory: &[u8], slot: usize, bytes: &[u8; 4096]) -> bool {
-    matches(memory, slot, 0, bytes, 0, SLOT)
-}
 
 // A verdict from 0 to K, or none.
 fn bounded(verdict: u8, k: u8) -> bool {
@@ -353,98 +335,71 @@ fn bounded(verdict: u8, k: u8) -> bool {
     verdict <= k
 }
 
-// OPEN, if the answer is 7 and nothing changed, or 0 and what was written is allowed.
-fn judged(answer: u8, same: bool, allowed: bool) -> u8 {
-    if answer == 7 {
-        if same {
-            return OPEN;
-        }
-    }
-    if answer == 0 {
-        if allowed {
-            return OPEN;
-        }
-    }
-    answer
-}
-
-fn accept_allowed(memory: &mut [u8], sizes: &[usize; 8], table: &[u64]) -> bool {
+fn verdicts_allowed(memory: &[u64; 36864]) -> bool {
     let k = byte_of(memory, HEADER, 1);
-    if !bounded(byte_of(memory, VERDICTS, 0), k) {
-        return false;
-    }
-    if !bounded(byte_of(memory, VERDICTS, 1), k) {
-        return false;
-    }
-    accept(memory, sizes, table, 255) == 6
+    bounded(byte_of(memory, VERDICTS, 0), k) & bounded(byte_of(memory, VERDICTS, 1), k)
 }
 
-fn open_accept(memory: &mut [u8], sizes: &[usize; 8], table: &[u64], event: u8) -> u8 {
-    let estimator = copy_of(memory, ESTIMATOR);
-    let verdicts = copy_of(memory, VERDICTS);
-    let answer = accept(memory, sizes, table, event);
-    let same = unchanged(memory, ESTIMATOR, &estimator) & unchanged(memory, VERDICTS, &verdicts);
-    let allowed = accept_allowed(memory, sizes, table);
-    keep(memory, ESTIMATOR, &estimator);
-    keep(memory, VERDICTS, &verdicts);
-    judged(answer, same, allowed)
-}
-
-// The pending events of an enforcer with the new one behind them, where they stand in it.
-fn queued(memory: &[u8], event: u8) -> [u8; 4096] {
-    let count = wide(byte_of(memory, ENFORCER, PENDING));
-    let mut queue = copy_of(memory, ENFORCER);
+// Whether, of the events that were pending and the new one behind them, the first ones stand at the front of the output, with what it had behind
+// them, and the others are pending.
+fn release_allowed(memory: &[u64; 36864], event: u8, enforcer: &[u8; 4096], output: &[u8; 4096]) -> bool {
+    let count = wide(enforcer[PENDING]);
+    let mut queue = *enforcer;
     queue[PENDING + 1 + count] = event;
-    queue
-}
-
-// Whether the first of those events stand at the front of the output, with what it had behind them, and the others are pending.
-fn shared_out(memory: &[u8], queue: &[u8; 4096], output: &[u8; 4096]) -> bool {
-    let count = wide(byte_in(queue, PENDING));
     let released = wide(byte_of(memory, RELEASED, 0));
     let pending = wide(byte_of(memory, ENFORCER, PENDING));
     if released + pending != count + 1 {
         return false;
     }
-    if !matches(memory, OUTPUT, 0, queue, PENDING + 1, released) {
-        return false;
-    }
-    if !matches(memory, OUTPUT, released, output, released, SLOT - released) {
-        return false;
-    }
-    matches(memory, ENFORCER, PENDING + 1, queue, PENDING + 1 + released, pending)
+    let front = matches(memory, OUTPUT, 0, &queue, PENDING + 1, released);
+    let behind = matches(memory, OUTPUT, released, output, released, SLOT - released);
+    let others = matches(memory, ENFORCER, PENDING + 1, &queue, PENDING + 1 + released, pending);
+    front & behind & others
 }
 
-fn offer_allowed(
-    memory: &mut [u8],
-    sizes: &[usize; 8],
-    table: &[u64],
-    queue: &[u8; 4096],
-    output: &[u8; 4096],
+fn unchanged(memory: &[u64; 36864], slot: usize, bytes: &[u8; 4096]) -> bool {
+    matches(memory, slot, 0, bytes, 0, SLOT)
+}
+
+// Whether what a call answered and left is allowed.
+fn allowed(
+    call: u64,
+    event: u8,
+    answer: u8,
+    memory: &[u64; 36864],
+    first: &[u8; 4096],
+    second: &[u8; 4096],
+    third: &[u8; 4096],
 ) -> bool {
-    if !shared_out(memory, queue, output) {
+    let slots = slots_of(call);
+    if answer == 7 {
+        let states = unchanged(memory, slots.first, first) & unchanged(memory, slots.second, second);
+        return states & unchanged(memory, slots.third, third);
+    }
+    if answer != 0 {
         return false;
     }
-    offer(memory, sizes, table, 255) == 6
+    if call == OFFER {
+        return release_allowed(memory, event, first, second);
+    }
+    verdicts_allowed(memory)
 }
 
-fn restore(memory: &mut [u8], enforcer: &[u8; 4096], output: &[u8; 4096], released: &[u8; 4096]) {
-    keep(memory, ENFORCER, enforcer);
-    keep(memory, OUTPUT, output);
-    keep(memory, RELEASED, released);
-}
-
-fn open_offer(memory: &mut [u8], sizes: &[usize; 8], table: &[u64], event: u8) -> u8 {
-    let enforcer = copy_of(memory, ENFORCER);
-    let output = copy_of(memory, OUTPUT);
-    let released = copy_of(memory, RELEASED);
-    let queue = queued(memory, event);
-    let answer = offer(memory, sizes, table, event);
-    let kept = unchanged(memory, OUTPUT, &output) & unchanged(memory, RELEASED, &released);
-    let same = kept & unchanged(memory, ENFORCER, &enforcer);
-    let allowed = offer_allowed(memory, sizes, table, &queue, &output);
-    restore(memory, &enforcer, &output, &released);
-    judged(answer, same, allowed)
+fn open_answer_of(call: u64, event: u8, memory: &mut [u64; 36864], sizes: &[usize; 9]) -> u8 {
+    let slots = slots_of(call);
+    let first = copy_of(memory, slots.first);
+    let second = copy_of(memory, slots.second);
+    let third = copy_of(memory, slots.third);
+    let answer = answer_of(call, event, memory, sizes);
+    let fine = allowed(call, event, answer, memory, &first, &second, &third);
+    let within = answer_of(call, 255, memory, sizes) == 6;
+    keep(memory, slots.first, &first);
+    keep(memory, slots.second, &second);
+    keep(memory, slots.third, &third);
+    if fine & within {
+        return OPEN;
+    }
+    answer
 }
 
 // The commands.
@@ -498,282 +453,219 @@ fn number_at(line: &[u8], at: usize, base: u8) -> Number
     }
 }
 
-// The number behind a mark; none, and the line goes on where it was, if the mark or the number is not there.
+// The number behind a mark; the line goes on where it was, if the mark or the number is not there.
 fn number_after(line: &[u8], at: usize, mark: u8, base: u8) -> Number
     requires { ⌜ base ≤ 16 ⌝ }
 {
-    let none = Number {
+    if at < line.len() {
+        if line[at] == mark {
+            let number = number_at(line, at + 1, base);
+            if at + 1 < number.next {
+                return number;
+            }
+        }
+    }
+    Number {
         value: 0,
         next: at,
-    };
-    if line.len() <= at {
-        return none;
     }
-    if line[at] != mark {
-        return none;
-    }
-    let number = number_at(line, at + 1, base);
-    if number.next <= at + 1 {
-        return none;
-    }
-    number
 }
 
-// A value behind a mark, and behind it perhaps `*` and how many times it is meant.
-fn item_after(line: &[u8], at: usize, mark: u8) -> Item {
-    let number = number_after(line, at, mark, 16);
-    let end = number.next;
-    let times = number_after(line, end, b'*', 10);
-    if times.next <= end {
-        return Item {
-            value: number.value,
-            times: 1,
-            next: end,
+// How many times an element is meant.
+fn times_at(line: &[u8], at: usize) -> Number {
+    let times = number_after(line, at, b'*', 10);
+    if times.next <= at {
+        return Number {
+            value: 1,
+            next: at,
         };
     }
-    Item {
-        value: number.value,
-        times: times.value as usize,
+    times
+}
+
+fn repeat(memory: &mut [u64; 36864], slot: usize, from: usize, word: u64, times: usize)
+    requires { ⌜ from + times ≤ 4096 ⌝ }
+{
+    let mut i: usize = 0;
+    while i < times {
+        set_word(memory, slot, from + i, word);
+        i += 1;
+    }
+}
+
+// Sets an element so many times: the place behind them, or one behind the slot if they do not fit, or it is no byte.
+fn set_element(memory: &mut [u64; 36864], slot: usize, place: usize, word: u64, times: u64) -> usize {
+    if SLOT < place {
+        return SLOT + 1;
+    }
+    let left = SLOT - place;
+    if (left as u64) < times {
+        return SLOT + 1;
+    }
+    if slot != TABLE {
+        if 255 < word {
+            return SLOT + 1;
+        }
+    }
+    repeat(memory, slot, place, word, times as usize);
+    place + times as usize
+}
+
+// The element at a place of the line, behind its index, or else behind the one before it, which ended at `place`.
+fn element_at(line: &[u8], at: usize, place: usize) -> Element {
+    let index = number_after(line, at, b' ', 10);
+    if index.next <= at {
+        return value_at(line, at, b',', place);
+    }
+    value_at(line, index.next, b':', index.value as usize)
+}
+
+fn value_at(line: &[u8], at: usize, mark: u8, place: usize) -> Element {
+    let word = number_after(line, at, mark, 16);
+    let mut times = times_at(line, word.next);
+    if word.next <= at {
+        times.next = 0;
+    }
+    Element {
+        place: place,
+        word: word.value,
+        times: times.value,
         next: times.next,
     }
 }
 
-fn repeat_byte(memory: &mut [u8], slot: usize, from: usize, byte: u8, times: usize)
-    requires { ⌜ (from ≤ 4096) × (times ≤ 4096) ⌝ }
-{
-    let mut i: usize = 0;
-    while i < times {
-        set_byte(memory, slot, from + i, byte);
-        i += 1;
-    }
-}
-
-// Fills a slot with the bytes that the line has from a place on: how many they are, or more than a slot holds if the line is malformed.
-fn fill(memory: &mut [u8], slot: usize, line: &[u8], from: usize) -> usize {
+// Sets elements from a place of the line on.
+fn fill(memory: &mut [u64; 36864], slot: usize, line: &[u8], from: usize) -> bool {
     let mut at = from;
-    let mut n: usize = 0;
+    let mut place: usize = 0;
     while at < line.len() {
-        let item = item_after(line, at, b' ');
-        let times = item.times;
-        let next = item.next;
-        if next <= at {
-            return SLOT + 1;
-        }
-        if 255 < item.value {
-            return SLOT + 1;
-        }
-        if SLOT - n < times {
-            return SLOT + 1;
-        }
-        repeat_byte(memory, slot, n, item.value as u8, times);
-        n += times;
-        at = next;
-    }
-    n
-}
-
-fn set_bytes(memory: &mut [u8], sizes: &mut [usize; 8], slot: usize, line: &[u8], at: usize) -> bool {
-    let n = fill(memory, slot, line, at);
-    if SLOT < n {
-        return false;
-    }
-    set_size(sizes, slot, n);
-    true
-}
-
-fn set_word(table: &mut [u64], place: usize, word: u64) {
-    if place < table.len() {
-        table[place] = word;
-    }
-}
-
-fn repeat_word(table: &mut [u64], from: usize, word: u64, times: usize)
-    requires { ⌜ (from ≤ 4096) × (times ≤ 4096) ⌝ }
-{
-    let mut i: usize = 0;
-    while i < times {
-        set_word(table, from + i, word);
-        i += 1;
-    }
-}
-
-// Sets the words that the line has from a place on, each behind its index and a colon.
-fn fill_words(table: &mut [u64], line: &[u8], from: usize) -> bool {
-    let mut at = from;
-    while at < line.len() {
-        let place = number_after(line, at, b' ', 10);
-        let item = item_after(line, place.next, b':');
-        let times = item.times;
-        let next = item.next;
+        let element = element_at(line, at, place);
+        let next = element.next;
         if next <= at {
             return false;
         }
-        if SLOT < place.value as usize {
+        place = set_element(memory, slot, element.place, element.word, element.times);
+        if SLOT < place {
             return false;
         }
-        if SLOT < times {
-            return false;
-        }
-        repeat_word(table, place.value as usize, item.value, times);
         at = next;
     }
     true
 }
 
-// The table's size, and its words: those that are not named are 0.
-fn set_table(table: &mut [u64], sizes: &mut [usize; 8], line: &[u8], at: usize) -> bool {
+// A slot's size and elements: those that are not named are 0.
+fn set(memory: &mut [u64; 36864], sizes: &mut [usize; 9], slot: usize, line: &[u8], at: usize) -> bool {
     let size = number_after(line, at, b' ', 10);
     if size.next <= at {
         return false;
     }
-    set_size(sizes, TABLE, size.value as usize);
-    repeat_word(table, 0, 0, SLOT);
-    fill_words(table, line, size.next)
+    if 4096 < size.value {
+        return false;
+    }
+    set_size(sizes, slot, size.value as usize);
+    repeat(memory, slot, 0, 0, SLOT);
+    fill(memory, slot, line, size.next)
 }
 
-// The slot of a name, or SLOTS.
-fn slot_of(name: &[u8]) -> usize {
-    if check::same(name, b"table") {
-        return TABLE;
+// The last eight letters of the word that starts at a place, as a number.
+fn word_at(line: &[u8], at: usize) -> Number {
+    let mut value: u64 = 0;
+    let mut i = at;
+    while i < line.len() {
+        if line[i] == b' ' {
+            break;
+        }
+        value = (value << 8) | wide(line[i]) as u64;
+        i += 1;
     }
-    if check::same(name, b"encoding") {
-        return ENCODING;
+    Number {
+        value: value,
+        next: i,
     }
-    if check::same(name, b"header") {
-        return HEADER;
-    }
-    if check::same(name, b"estimator") {
-        return ESTIMATOR;
-    }
-    if check::same(name, b"verdicts") {
-        return VERDICTS;
-    }
-    if check::same(name, b"enforcer") {
-        return ENFORCER;
-    }
-    if check::same(name, b"output") {
-        return OUTPUT;
-    }
-    if check::same(name, b"released") {
-        return RELEASED;
-    }
-    SLOTS
 }
 
-fn put_answer(text: &mut [u8], at: usize, answer: u8) -> usize {
-    if answer == OPEN {
-        return put_all(text, at, b"open");
+fn slot_of(name: u64) -> usize {
+    match name {
+        0x7461626c65 => TABLE,
+        0x656e636f64696e67 => ENCODING,
+        0x686561646572 => HEADER,
+        0x7374696d61746f72 => ESTIMATOR,
+        0x7665726469637473 => VERDICTS,
+        0x656e666f72636572 => ENFORCER,
+        0x6f7574707574 => OUTPUT,
+        0x72656c6561736564 => RELEASED,
+        _ => NONE,
     }
-    put_decimal(text, at, answer as u64)
 }
 
 // The line of a call once more, and its answer.
-fn answered(line: &[u8], answer: u8) {
-    let mut text = [0u8; 4096];
-    let mut at = put_all(&mut text, 0, line);
-    at = put_all(&mut text, at, b": ");
-    at = put_answer(&mut text, at, answer);
-    at = put(&mut text, at, b'\n');
-    flush(&text, at);
+fn show_answer(line: &[u8], answer: u8) {
+    io::write_all(1, line);
+    if answer == OPEN {
+        io::write_all(1, b": open\n");
+        return;
+    }
+    io::write_all(1, b": ");
+    io::print_decimal(1, answer as u64);
+    io::write_all(1, b"\n");
 }
 
-fn show_verifier(memory: &[u8], sizes: &[usize; 8]) {
-    show_slot(b"estimator", memory, sizes, ESTIMATOR);
-    show_slot(b"verdicts", memory, sizes, VERDICTS);
+fn show_call(line: &[u8], call: u64, answer: u8, memory: &[u64; 36864], sizes: &[usize; 9]) {
+    let slots = slots_of(call);
+    show_answer(line, answer);
+    if call == DECODE {
+        show(memory, sizes, TABLE);
+    }
+    show(memory, sizes, slots.first);
+    show(memory, sizes, slots.second);
+    show(memory, sizes, slots.third);
 }
 
-// A call of a function that takes slices only.
-fn call(line: &[u8], memory: &mut [u8], sizes: &[usize; 8], table: &mut [u64]) -> bool {
-    if check::same(line, b"decode") {
-        answered(line, decode(memory, sizes, table));
-        show_words(table);
-        show_slot(b"header", memory, sizes, HEADER);
-        return true;
+fn make_call(line: &[u8], open: bool, call: u64, byte: u8, memory: &mut [u64; 36864], sizes: &[usize; 9]) {
+    if open {
+        show_answer(line, open_answer_of(call, byte, memory, sizes));
+        return;
     }
-    if check::same(line, b"fresh") {
-        answered(line, fresh(memory, sizes, table));
-        show_verifier(memory, sizes);
-        return true;
-    }
-    false
+    let answer = answer_of(call, byte, memory, sizes);
+    show_call(line, call, answer, memory, sizes);
 }
 
-// A call of a function that takes a byte too.
-fn byte_call(name: &[u8], byte: u8, line: &[u8], memory: &mut [u8], sizes: &[usize; 8], table: &[u64]) -> bool {
-    if check::same(name, b"accept") {
-        answered(line, accept(memory, sizes, table, byte));
-        show_verifier(memory, sizes);
-        return true;
+// Whether the line has, from a place on, a call and the byte that it takes, if it takes one.
+fn called(line: &[u8], at: usize, open: bool, memory: &mut [u64; 36864], sizes: &[usize; 9]) -> bool {
+    let word = word_at(line, at);
+    let call = word.value;
+    let byte = number_after(line, word.next, b' ', 10);
+    let slots = slots_of(call);
+    if slots.first == NONE {
+        return false;
     }
-    if check::same(name, b"start") {
-        answered(line, start(memory, sizes, table, byte));
-        show_slot(b"enforcer", memory, sizes, ENFORCER);
-        return true;
+    if slots.byte != (word.next < byte.next) {
+        return false;
     }
-    if check::same(name, b"offer") {
-        answered(line, offer(memory, sizes, table, byte));
-        show_slot(b"enforcer", memory, sizes, ENFORCER);
-        show_slot(b"output", memory, sizes, OUTPUT);
-        show_slot(b"released", memory, sizes, RELEASED);
-        return true;
-    }
-    if check::same(name, b"open-accept") {
-        answered(line, open_accept(memory, sizes, table, byte));
-        return true;
-    }
-    if check::same(name, b"open-offer") {
-        answered(line, open_offer(memory, sizes, table, byte));
-        return true;
-    }
-    false
-}
-
-// Where the first word of a line ends.
-fn word_end(line: &[u8]) -> usize
-    ensures { λ r. ⌜ r ≤ length (now (line .entry)) ⌝ }
-{
-    let mut i: usize = 0;
-    while i < line.len() {
-        if line[i] == b' ' {
-            return i;
-        }
-        i += 1;
-    }
-    i
-}
-
-// A call, with the words of the table that are lent: whether the line is one.
-fn called(line: &[u8], end: usize, memory: &mut [u8], sizes: &[usize; 8], table: &mut [u64]) -> bool
-    requires { ⌜ end ≤ length (now line) ⌝ }
-{
-    if end == line.len() {
-        return call(line, memory, sizes, table);
-    }
-    let byte = number_after(line, end, b' ', 10);
-    if byte.next != line.len() {
+    if byte.next < line.len() {
         return false;
     }
     if 255 < byte.value {
         return false;
     }
-    byte_call(&line[0..end], byte.value as u8, line, memory, sizes, table)
+    make_call(line, open, call, byte.value as u8, memory, sizes);
+    true
 }
 
 // Whether the line is understood.
-fn obeyed(line: &[u8], memory: &mut [u8], sizes: &mut [usize; 8], table: &mut [u64]) -> bool {
-    let end = word_end(line);
-    let slot = slot_of(&line[0..end]);
-    if slot == TABLE {
-        return set_table(table, sizes, line, end);
+fn obeyed(line: &[u8], memory: &mut [u64; 36864], sizes: &mut [usize; 9]) -> bool {
+    let word = word_at(line, 0);
+    let slot = slot_of(word.value);
+    let end = word.next;
+    if slot < NONE {
+        return set(memory, sizes, slot, line, end);
     }
-    if slot < SLOTS {
-        return set_bytes(memory, sizes, slot, line, end);
+    if word.value == OPEN_WORD {
+        if end < line.len() {
+            return called(line, end + 1, true, memory, sizes);
+        }
     }
-    let words = size_of(sizes, TABLE);
-    if table.len() < words {
-        return false;
-    }
-    called(line, end, memory, sizes, &mut table[0..words])
+    called(line, 0, false, memory, sizes)
 }
 
 // An empty line, or one that says something to the reader.
@@ -784,13 +676,13 @@ fn comment(line: &[u8]) -> bool {
     line[0] == b'#'
 }
 
-fn run(line: &[u8], memory: &mut [u8], sizes: &mut [usize; 8], table: &mut [u64]) {
+fn run(line: &[u8], memory: &mut [u64; 36864], sizes: &mut [usize; 9]) {
     if comment(line) {
         io::write_all(1, line);
         io::write_all(1, b"\n");
         return;
     }
-    if !obeyed(line, memory, sizes, table) {
+    if !obeyed(line, memory, sizes) {
         io::write_all(1, b"?\n");
     }
 }
@@ -809,11 +701,11 @@ fn line_end(input: &[u8], from: usize) -> usize
     i
 }
 
-fn all(input: &[u8], memory: &mut [u8], sizes: &mut [usize; 8], table: &mut [u64]) {
+fn all(input: &[u8], memory: &mut [u64; 36864], sizes: &mut [usize; 9]) {
     let mut at: usize = 0;
     while at < input.len() {
         let end = line_end(input, at);
-        run(&input[at..end], memory, sizes, table);
+        run(&input[at..end], memory, sizes);
         at = end + 1;
     }
 }
@@ -827,9 +719,8 @@ fn room() -> [u8; 1048576]
 
 fn main() {
     let mut input = room();
-    let mut memory = [0u8; 32768];
-    let mut sizes = [0usize; 8];
-    let mut table = [0u64; 4096];
+    let mut memory = [0u64; 36864];
+    let mut sizes = [0usize; 9];
     let n = io::read_full(0, &mut input);
-    all(&input[0..n], &mut memory, &mut sizes, &mut table);
+    all(&input[0..n], &mut memory, &mut sizes);
 }

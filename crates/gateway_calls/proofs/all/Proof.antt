@@ -1,16 +1,15 @@
 -- `gateway_calls::all` is safe and ends.
-use Prim.Native.Nat.{_-_}
-use mathlib.Core.Path.{_≡_}
+use Prim.Native.Nat.{_≤_, _-_}
 use lib.ListN.{length}
 use borrow.Author.Needs.{needs}
 use Rattle.gateway_calls.proofs.all.Statement.{statement}
 use Rattle.gateway_calls.proofs.all.Tie as tie
 
 abbrev Inv-loop : tie.InvT-loop
-Inv-loop input memory₀ sizes₀ table₀ at₀ memory sizes table at = (length memory ≡ length memory₀) × (length table ≡ length table₀)
+Inv-loop input memory₀ sizes₀ at₀ memory sizes at = 0 ≤ at
 
 abbrev μ-loop : tie.MeasureT-loop
-μ-loop input memory₀ sizes₀ table₀ at₀ memory sizes table at = length input - at
+μ-loop input memory₀ sizes₀ at₀ memory sizes at = length input - at
 
 loop-holds : tie.Need-loop-holds Inv-loop μ-loop
 loop-holds c = search needs
@@ -39,12 +38,6 @@ loop-less c = search needs
 loop-again : tie.Need-loop-again Inv-loop μ-loop
 loop-again c = search needs
 
-same-length : tie.Need-same-length Inv-loop μ-loop
-same-length c = search needs
-
-same-length-2 : tie.Need-same-length-2 Inv-loop μ-loop
-same-length-2 c = search needs
-
 returns : tie.Need-returns Inv-loop μ-loop
 returns c = search needs
 
@@ -63,6 +56,4 @@ all-spec =
     add-at
     loop-less
     loop-again
-    same-length
-    same-length-2
     returns)

@@ -1,13 +1,11 @@
 -- `gateway_calls::keep` is safe and ends.
 use Prim.Native.Nat.{_≤_, _-_}
-use mathlib.Core.Path.{_≡_}
-use lib.ListN.{length}
 use borrow.Author.Needs.{needs}
 use Rattle.gateway_calls.proofs.keep.Statement.{statement}
 use Rattle.gateway_calls.proofs.keep.Tie as tie
 
 abbrev Inv-loop : tie.InvT-loop
-Inv-loop memory₀ slot bytes i₀ memory i = (length memory ≡ length memory₀) × (i ≤ 4096)
+Inv-loop memory₀ slot bytes i₀ memory i = i ≤ 4096
 
 abbrev μ-loop : tie.MeasureT-loop
 μ-loop memory₀ slot bytes i₀ memory i = 4096 - i
@@ -15,11 +13,14 @@ abbrev μ-loop : tie.MeasureT-loop
 loop-holds : tie.Need-loop-holds Inv-loop μ-loop
 loop-holds c = search needs
 
-element-copy-out-set-byte : tie.Need-element-copy-out-set-byte Inv-loop μ-loop
-element-copy-out-set-byte c = search needs
+element-copy-out-wide : tie.Need-element-copy-out-wide Inv-loop μ-loop
+element-copy-out-wide c = search needs
 
-set-byte-requires : tie.Need-set-byte-requires Inv-loop μ-loop
-set-byte-requires c κs = search needs
+wide-requires : tie.Need-wide-requires Inv-loop μ-loop
+wide-requires c κs = search needs
+
+set-word-requires : tie.Need-set-word-requires Inv-loop μ-loop
+set-word-requires c κs = search needs
 
 add-i : tie.Need-add-i Inv-loop μ-loop
 add-i c = search needs
@@ -29,9 +30,6 @@ loop-less c = search needs
 
 loop-again : tie.Need-loop-again Inv-loop μ-loop
 loop-again c = search needs
-
-same-length : tie.Need-same-length Inv-loop μ-loop
-same-length c = search needs
 
 returns : tie.Need-returns Inv-loop μ-loop
 returns c = search needs
@@ -43,10 +41,10 @@ keep-spec =
     Inv-loop
     μ-loop
     loop-holds
-    element-copy-out-set-byte
-    set-byte-requires
+    element-copy-out-wide
+    wide-requires
+    set-word-requires
     add-i
     loop-less
     loop-again
-    same-length
     returns)

@@ -19,11 +19,11 @@ add-byte-of c = search needs
 byte-of-requires : tie.Need-byte-of-requires Inv-loop μ-loop
 byte-of-requires c κs = search needs
 
-add-byte-in : tie.Need-add-byte-in Inv-loop μ-loop
-add-byte-in c = search needs
+add-if1 : tie.Need-add-if1 Inv-loop μ-loop
+add-if1 c = search needs
 
-byte-in-requires : tie.Need-byte-in-requires Inv-loop μ-loop
-byte-in-requires c κs = search needs
+element-copy-out-if1 : tie.Need-element-copy-out-if1 Inv-loop μ-loop
+element-copy-out-if1 c = search needs
 
 returns : tie.Need-returns Inv-loop μ-loop
 returns c = search needs
@@ -49,8 +49,8 @@ matches-spec =
     loop-holds
     add-byte-of
     byte-of-requires
-    add-byte-in
-    byte-in-requires
+    add-if1
+    element-copy-out-if1
     returns
     add-i
     loop-less

@@ -1,15 +1,14 @@
 -- `gateway_calls::run_at` is safe and ends.
 use Prim.Native.Nat.{_≤_, _<_, _-_}
-use lib.ListN.{length}
 use borrow.Author.Needs.{needs}
 use Rattle.gateway_calls.proofs.run_at.Statement.{statement}
 use Rattle.gateway_calls.proofs.run_at.Tie as tie
 
 abbrev Inv-loop : tie.InvT-loop
-Inv-loop bytes at i₀ i = (at < i) × (i ≤ length bytes)
+Inv-loop memory slot at size i₀ i = (at < i) × (i ≤ size)
 
 abbrev μ-loop : tie.MeasureT-loop
-μ-loop bytes at i₀ i = length bytes - i
+μ-loop memory slot at size i₀ i = size - i
 
 add-i : tie.Need-add-i Inv-loop μ-loop
 add-i c = search needs
@@ -17,11 +16,11 @@ add-i c = search needs
 loop-holds : tie.Need-loop-holds Inv-loop μ-loop
 loop-holds c = search needs
 
-shared-slice-read-if1 : tie.Need-shared-slice-read-if1 Inv-loop μ-loop
-shared-slice-read-if1 c = search needs
+word-of-requires : tie.Need-word-of-requires Inv-loop μ-loop
+word-of-requires c κs = search needs
 
-shared-slice-read-if1-2 : tie.Need-shared-slice-read-if1-2 Inv-loop μ-loop
-shared-slice-read-if1-2 c = search needs
+word-of-requires-2 : tie.Need-word-of-requires-2 Inv-loop μ-loop
+word-of-requires-2 c κs = search needs
 
 sub-result : tie.Need-sub-result Inv-loop μ-loop
 sub-result c = search needs
@@ -52,8 +51,8 @@ run-at-spec =
     μ-loop
     add-i
     loop-holds
-    shared-slice-read-if1
-    shared-slice-read-if1-2
+    word-of-requires
+    word-of-requires-2
     sub-result
     returns
     add-i-2

@@ -1,16 +1,14 @@
--- `gateway_calls::repeat_word` is safe and ends.
+-- `gateway_calls::repeat` is safe and ends.
 use Prim.Native.Nat.{_≤_, _-_}
-use mathlib.Core.Path.{_≡_}
-use lib.ListN.{length}
 use borrow.Author.Needs.{needs}
-use Rattle.gateway_calls.proofs.repeat_word.Statement.{statement}
-use Rattle.gateway_calls.proofs.repeat_word.Tie as tie
+use Rattle.gateway_calls.proofs.repeat.Statement.{statement}
+use Rattle.gateway_calls.proofs.repeat.Tie as tie
 
 abbrev Inv-loop : tie.InvT-loop
-Inv-loop table₀ from word times i₀ table i = (length table ≡ length table₀) × (i ≤ times)
+Inv-loop memory₀ slot from word times i₀ memory i = i ≤ times
 
 abbrev μ-loop : tie.MeasureT-loop
-μ-loop table₀ from word times i₀ table i = times - i
+μ-loop memory₀ slot from word times i₀ memory i = times - i
 
 loop-holds : tie.Need-loop-holds Inv-loop μ-loop
 loop-holds c = search needs
@@ -30,14 +28,11 @@ loop-less c = search needs
 loop-again : tie.Need-loop-again Inv-loop μ-loop
 loop-again c = search needs
 
-same-length : tie.Need-same-length Inv-loop μ-loop
-same-length c = search needs
-
 returns : tie.Need-returns Inv-loop μ-loop
 returns c = search needs
 
-pub repeat-word-spec : {M : Type 1} → statement M
-repeat-word-spec =
+pub repeat-spec : {M : Type 1} → statement M
+repeat-spec =
     tie.close
     (tie.spec
     Inv-loop
@@ -48,5 +43,4 @@ repeat-word-spec =
     add-i
     loop-less
     loop-again
-    same-length
     returns)

@@ -1,7 +1,7 @@
 // Calls of the gateway's functions, as its standard input lists them: one line a command, and after each call its answer and every slice that the
 // function was lent to write to, whole. tests/README.md has the commands; tests/gateway_calls.py writes the input and computes the output.
 //
-// A function is added by its word, a line of `slots_of` with what it is lent, and a call in `apply`.
+// A function is added by its word, what it is lent in `slots_of`, and its call in `apply`.
 ghost use Prim.Native.Nat.{_≤_, _<_, _+_};
 ghost use mathlib.Core.Path.{_≡_};
 ghost use lib.ListN.{length};
@@ -146,13 +146,21 @@ fn keep(memory: &mut [u64; 36864], slot: usize, bytes: &[u8; 4096]) {
     }
 }
 
-// Whether n bytes of a slot are as those of a copy, each from a place on.
-fn matches(memory: &[u64; 36864], slot: usize, from: usize, bytes: &[u8; 4096], at: usize, n: usize) -> bool
-    requires { ⌜ (from ≤ 4096) × (at + n ≤ 4096) ⌝ }
+// Whether n words of a slot are as those of a slot of another memory, each from a place on.
+fn matches(
+    memory: &[u64; 36864],
+    slot: usize,
+    from: usize,
+    other: &[u64; 36864],
+    there: usize,
+    at: usize,
+    n: usize,
+) -> bool
+    requires { ⌜ (from ≤ 4096) × (at ≤ 4096) × (n ≤ 4096) ⌝ }
 {
     let mut i: usize = 0;
     while i < n {
-        if byte_of(memory, slot, from + i) != bytes[at + i] {
+        if word_of(memory, slot, from + i) != word_of(other, there, at + i) {
             return false;
         }
         i += 1;
@@ -262,7 +270,23 @@ fn slots_of(call: u64) -> Slots {
     slots
 }
 
+// The functions, by how many slices they write to.
+fn apply1(call: u64, byte: u8, table: &mut [u64], input: &[u8], first: &mut [u8]) -> u8 {
+    if call == DECODE {
+        return gateway::opacity_decode(input, table, first);
+    }
+    gateway::opacity_start(table, input, byte, first)
+}
+
+fn apply2(call: u64, byte: u8, table: &[u64], input: &[u8], first: &mut [u8], second: &mut [u8]) -> u8 {
+    if call == FRESH {
+        return gateway::opacity_fresh(table, input, first, second);
+    }
+    gateway::opacity_accept(table, input, byte, first, second)
+}
+
 fn apply(
+    slots: Slots,
     call: u64,
     byte: u8,
     table: &mut [u64],
@@ -271,17 +295,11 @@ fn apply(
     second: &mut [u8],
     third: &mut [u8],
 ) -> u8 {
-    if call == DECODE {
-        return gateway::opacity_decode(input, table, first);
+    if slots.second == NONE {
+        return apply1(call, byte, table, input, first);
     }
-    if call == FRESH {
-        return gateway::opacity_fresh(table, input, first, second);
-    }
-    if call == ACCEPT {
-        return gateway::opacity_accept(table, input, byte, first, second);
-    }
-    if call == START {
-        return gateway::opacity_start(table, input, byte, first);
+    if slots.third == NONE {
+        return apply2(call, byte, table, input, first, second);
     }
     gateway::opacity_offer(table, input, byte, first, second, third)
 }
@@ -305,7 +323,7 @@ fn lend(
     let n1 = size_of(sizes, slots.first);
     let n2 = size_of(sizes, slots.second);
     let n3 = size_of(sizes, slots.third);
-    apply(call, byte, &mut table[0..words], &input[0..n], &mut first[0..n1], &mut second[0..n2], &mut third[0..n3])
+    apply(slots, call, byte, &mut table[0..words], &input[0..n], &mut first[0..n1], &mut second[0..n2], &mut third[0..n3])
 }
 
 // A call: its answer, after which the memory is as the function left it.
@@ -340,62 +358,49 @@ fn verdicts_allowed(memory: &[u64; 36864]) -> bool {
     bounded(byte_of(memory, VERDICTS, 0), k) & bounded(byte_of(memory, VERDICTS, 1), k)
 }
 
+fn unchanged(memory: &[u64; 36864], slot: usize, before: &[u64; 36864]) -> bool {
+    matches(memory, slot, 0, before, slot, 0, SLOT)
+}
+
 // Whether, of the events that were pending and the new one behind them, the first ones stand at the front of the output, with what it had behind
 // them, and the others are pending.
-fn release_allowed(memory: &[u64; 36864], event: u8, enforcer: &[u8; 4096], output: &[u8; 4096]) -> bool {
-    let count = wide(enforcer[PENDING]);
-    let mut queue = *enforcer;
-    queue[PENDING + 1 + count] = event;
+fn release_allowed(memory: &[u64; 36864], event: u8, before: &[u64; 36864]) -> bool {
+    let count = wide(byte_of(before, ENFORCER, PENDING));
     let released = wide(byte_of(memory, RELEASED, 0));
     let pending = wide(byte_of(memory, ENFORCER, PENDING));
     if released + pending != count + 1 {
         return false;
     }
-    let front = matches(memory, OUTPUT, 0, &queue, PENDING + 1, released);
-    let behind = matches(memory, OUTPUT, released, output, released, SLOT - released);
-    let others = matches(memory, ENFORCER, PENDING + 1, &queue, PENDING + 1 + released, pending);
+    let mut queue = *before;
+    set_word(&mut queue, ENFORCER, PENDING + 1 + count, wide(event) as u64);
+    let front = matches(memory, OUTPUT, 0, &queue, ENFORCER, PENDING + 1, released);
+    let behind = matches(memory, OUTPUT, released, before, OUTPUT, released, SLOT - released);
+    let others = matches(memory, ENFORCER, PENDING + 1, &queue, ENFORCER, PENDING + 1 + released, pending);
     front & behind & others
 }
 
-fn unchanged(memory: &[u64; 36864], slot: usize, bytes: &[u8; 4096]) -> bool {
-    matches(memory, slot, 0, bytes, 0, SLOT)
-}
-
 // Whether what a call answered and left is allowed.
-fn allowed(
-    call: u64,
-    event: u8,
-    answer: u8,
-    memory: &[u64; 36864],
-    first: &[u8; 4096],
-    second: &[u8; 4096],
-    third: &[u8; 4096],
-) -> bool {
-    let slots = slots_of(call);
+fn allowed(call: u64, event: u8, answer: u8, memory: &[u64; 36864], before: &[u64; 36864]) -> bool {
     if answer == 7 {
-        let states = unchanged(memory, slots.first, first) & unchanged(memory, slots.second, second);
-        return states & unchanged(memory, slots.third, third);
+        let slots = slots_of(call);
+        let states = unchanged(memory, slots.first, before) & unchanged(memory, slots.second, before);
+        return states & unchanged(memory, slots.third, before);
     }
     if answer != 0 {
         return false;
     }
     if call == OFFER {
-        return release_allowed(memory, event, first, second);
+        return release_allowed(memory, event, before);
     }
     verdicts_allowed(memory)
 }
 
 fn open_answer_of(call: u64, event: u8, memory: &mut [u64; 36864], sizes: &[usize; 9]) -> u8 {
-    let slots = slots_of(call);
-    let first = copy_of(memory, slots.first);
-    let second = copy_of(memory, slots.second);
-    let third = copy_of(memory, slots.third);
+    let before = *memory;
     let answer = answer_of(call, event, memory, sizes);
-    let fine = allowed(call, event, answer, memory, &first, &second, &third);
+    let fine = allowed(call, event, answer, memory, &before);
     let within = answer_of(call, 255, memory, sizes) == 6;
-    keep(memory, slots.first, &first);
-    keep(memory, slots.second, &second);
-    keep(memory, slots.third, &third);
+    *memory = before;
     if fine & within {
         return OPEN;
     }

@@ -5,25 +5,25 @@ use Rattle.gateway_calls.proofs.matches.Statement.{statement}
 use Rattle.gateway_calls.proofs.matches.Tie as tie
 
 abbrev Inv-loop : tie.InvT-loop
-Inv-loop memory slot from bytes at n i₀ i = i ≤ n
+Inv-loop memory slot from other there at n i₀ i = i ≤ n
 
 abbrev μ-loop : tie.MeasureT-loop
-μ-loop memory slot from bytes at n i₀ i = n - i
+μ-loop memory slot from other there at n i₀ i = n - i
 
 loop-holds : tie.Need-loop-holds Inv-loop μ-loop
 loop-holds c = search needs
 
-add-byte-of : tie.Need-add-byte-of Inv-loop μ-loop
-add-byte-of c = search needs
+add-word-of : tie.Need-add-word-of Inv-loop μ-loop
+add-word-of c = search needs
 
-byte-of-requires : tie.Need-byte-of-requires Inv-loop μ-loop
-byte-of-requires c κs = search needs
+word-of-requires : tie.Need-word-of-requires Inv-loop μ-loop
+word-of-requires c κs = search needs
 
-add-if1 : tie.Need-add-if1 Inv-loop μ-loop
-add-if1 c = search needs
+add-word-of-2 : tie.Need-add-word-of-2 Inv-loop μ-loop
+add-word-of-2 c = search needs
 
-element-copy-out-if1 : tie.Need-element-copy-out-if1 Inv-loop μ-loop
-element-copy-out-if1 c = search needs
+word-of-requires-2 : tie.Need-word-of-requires-2 Inv-loop μ-loop
+word-of-requires-2 c κs = search needs
 
 returns : tie.Need-returns Inv-loop μ-loop
 returns c = search needs
@@ -47,10 +47,10 @@ matches-spec =
     Inv-loop
     μ-loop
     loop-holds
-    add-byte-of
-    byte-of-requires
-    add-if1
-    element-copy-out-if1
+    add-word-of
+    word-of-requires
+    add-word-of-2
+    word-of-requires-2
     returns
     add-i
     loop-less

@@ -9,23 +9,36 @@ ghost use lib.ListN.{length};
 // The slots of the memory, one for each slice that is lent: SLOT words each, of which the first ones are lent, by the slot's size. Only the table's are
 // words; the others are lent as bytes.
 const SLOT: usize = 4096;
+
 const TABLE: usize = 0;
+
 const ENCODING: usize = 1;
+
 const HEADER: usize = 2;
+
 const ESTIMATOR: usize = 3;
+
 const VERDICTS: usize = 4;
+
 const ENFORCER: usize = 5;
+
 const OUTPUT: usize = 6;
+
 const RELEASED: usize = 7;
 // What is lent where a function takes nothing; its size stays 0.
 const NONE: usize = 8;
 
 // The words of the commands, as `word_at` reads them: their last eight letters.
 const OPEN_WORD: u64 = 0x6f70656e;
+
 const DECODE: u64 = 0x6465636f6465;
+
 const FRESH: u64 = 0x6672657368;
+
 const ACCEPT: u64 = 0x616363657074;
+
 const START: u64 = 0x7374617274;
+
 const OFFER: u64 = 0x6f66666572;
 
 // Where an enforcer has the number of its pending events, and behind it those events.
@@ -228,7 +241,10 @@ fn show_name(names: &[u8], slot: usize) {
 fn show(memory: &[u64; 36864], sizes: &[usize; 9], slot: usize) {
     if slot < NONE {
         let size = size_of(sizes, slot);
-        show_name(b"table    encoding header   estimatorverdicts enforcer output   released ", slot);
+        show_name(
+            b"table    encoding header   estimatorverdicts enforcer output   released ",
+            slot,
+        );
         io::write_all(1, b" ");
         io::print_decimal(1, size as u64);
         show_runs(memory, slot, size);
@@ -278,7 +294,14 @@ fn apply1(call: u64, byte: u8, table: &mut [u64], input: &[u8], first: &mut [u8]
     gateway::opacity_start(table, input, byte, first)
 }
 
-fn apply2(call: u64, byte: u8, table: &[u64], input: &[u8], first: &mut [u8], second: &mut [u8]) -> u8 {
+fn apply2(
+    call: u64,
+    byte: u8,
+    table: &[u64],
+    input: &[u8],
+    first: &mut [u8],
+    second: &mut [u8],
+) -> u8 {
     if call == FRESH {
         return gateway::opacity_fresh(table, input, first, second);
     }
@@ -323,7 +346,16 @@ fn lend(
     let n1 = size_of(sizes, slots.first);
     let n2 = size_of(sizes, slots.second);
     let n3 = size_of(sizes, slots.third);
-    apply(slots, call, byte, &mut table[0..words], &input[0..n], &mut first[0..n1], &mut second[0..n2], &mut third[0..n3])
+    apply(
+        slots,
+        call,
+        byte,
+        &mut table[0..words],
+        &input[0..n],
+        &mut first[0..n1],
+        &mut second[0..n2],
+        &mut third[0..n3],
+    )
 }
 
 // A call: its answer, after which the memory is as the function left it.
@@ -334,7 +366,16 @@ fn answer_of(call: u64, byte: u8, memory: &mut [u64; 36864], sizes: &[usize; 9])
     let mut first = copy_of(memory, slots.first);
     let mut second = copy_of(memory, slots.second);
     let mut third = copy_of(memory, slots.third);
-    let answer = lend(call, byte, sizes, &mut table, &input, &mut first, &mut second, &mut third);
+    let answer = lend(
+        call,
+        byte,
+        sizes,
+        &mut table,
+        &input,
+        &mut first,
+        &mut second,
+        &mut third,
+    );
     keep_table(memory, &table);
     keep(memory, slots.first, &first);
     keep(memory, slots.second, &second);
@@ -372,10 +413,31 @@ fn release_allowed(memory: &[u64; 36864], event: u8, before: &[u64; 36864]) -> b
         return false;
     }
     let mut queue = *before;
-    set_word(&mut queue, ENFORCER, PENDING + 1 + count, wide(event) as u64);
+    set_word(
+        &mut queue,
+        ENFORCER,
+        PENDING + 1 + count,
+        wide(event) as u64,
+    );
     let front = matches(memory, OUTPUT, 0, &queue, ENFORCER, PENDING + 1, released);
-    let behind = matches(memory, OUTPUT, released, before, OUTPUT, released, SLOT - released);
-    let others = matches(memory, ENFORCER, PENDING + 1, &queue, ENFORCER, PENDING + 1 + released, pending);
+    let behind = matches(
+        memory,
+        OUTPUT,
+        released,
+        before,
+        OUTPUT,
+        released,
+        SLOT - released,
+    );
+    let others = matches(
+        memory,
+        ENFORCER,
+        PENDING + 1,
+        &queue,
+        ENFORCER,
+        PENDING + 1 + released,
+        pending,
+    );
     front & behind & others
 }
 
@@ -383,7 +445,8 @@ fn release_allowed(memory: &[u64; 36864], event: u8, before: &[u64; 36864]) -> b
 fn allowed(call: u64, event: u8, answer: u8, memory: &[u64; 36864], before: &[u64; 36864]) -> bool {
     if answer == 7 {
         let slots = slots_of(call);
-        let states = unchanged(memory, slots.first, before) & unchanged(memory, slots.second, before);
+        let states = unchanged(memory, slots.first, before)
+            & unchanged(memory, slots.second, before);
         return states & unchanged(memory, slots.third, before);
     }
     if answer != 0 {
@@ -470,20 +533,14 @@ fn number_after(line: &[u8], at: usize, mark: u8, base: u8) -> Number
             }
         }
     }
-    Number {
-        value: 0,
-        next: at,
-    }
+    Number { value: 0, next: at }
 }
 
 // How many times an element is meant.
 fn times_at(line: &[u8], at: usize) -> Number {
     let times = number_after(line, at, b'*', 10);
     if times.next <= at {
-        return Number {
-            value: 1,
-            next: at,
-        };
+        return Number { value: 1, next: at };
     }
     times
 }
@@ -499,7 +556,13 @@ fn repeat(memory: &mut [u64; 36864], slot: usize, from: usize, word: u64, times:
 }
 
 // Sets an element so many times: the place behind them, or one behind the slot if they do not fit, or it is no byte.
-fn set_element(memory: &mut [u64; 36864], slot: usize, place: usize, word: u64, times: u64) -> usize {
+fn set_element(
+    memory: &mut [u64; 36864],
+    slot: usize,
+    place: usize,
+    word: u64,
+    times: u64,
+) -> usize {
     if SLOT < place {
         return SLOT + 1;
     }
@@ -559,7 +622,13 @@ fn fill(memory: &mut [u64; 36864], slot: usize, line: &[u8], from: usize) -> boo
 }
 
 // A slot's size and elements: those that are not named are 0.
-fn set(memory: &mut [u64; 36864], sizes: &mut [usize; 9], slot: usize, line: &[u8], at: usize) -> bool {
+fn set(
+    memory: &mut [u64; 36864],
+    sizes: &mut [usize; 9],
+    slot: usize,
+    line: &[u8],
+    at: usize,
+) -> bool {
     let size = number_after(line, at, b' ', 10);
     if size.next <= at {
         return false;
@@ -626,7 +695,14 @@ fn show_call(line: &[u8], call: u64, answer: u8, memory: &[u64; 36864], sizes: &
     show(memory, sizes, slots.third);
 }
 
-fn make_call(line: &[u8], open: bool, call: u64, byte: u8, memory: &mut [u64; 36864], sizes: &[usize; 9]) {
+fn make_call(
+    line: &[u8],
+    open: bool,
+    call: u64,
+    byte: u8,
+    memory: &mut [u64; 36864],
+    sizes: &[usize; 9],
+) {
     if open {
         show_answer(line, open_answer_of(call, byte, memory, sizes));
         return;
@@ -636,7 +712,13 @@ fn make_call(line: &[u8], open: bool, call: u64, byte: u8, memory: &mut [u64; 36
 }
 
 // Whether the line has, from a place on, a call and the byte that it takes, if it takes one.
-fn called(line: &[u8], at: usize, open: bool, memory: &mut [u64; 36864], sizes: &[usize; 9]) -> bool {
+fn called(
+    line: &[u8],
+    at: usize,
+    open: bool,
+    memory: &mut [u64; 36864],
+    sizes: &[usize; 9],
+) -> bool {
     let word = word_at(line, at);
     let call = word.value;
     let byte = number_after(line, word.next, b' ', 10);

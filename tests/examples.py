@@ -10,7 +10,7 @@ T = Automaton(1, 0, 0, 0, {0}, set(), [(0, 0, 1)])
 ONE = Automaton(0, 0, 0, 0, {0}, set(), [])
 U = Automaton(1, 1, 0, 0, {1}, {1}, [(0, 1, 1), (1, 1, 0)])
 
-# a run that stays secret-free is there for each position, and none for all of them: strong leaks, and no weak one
+# each run passes the secret state and leaves it unobserved: leaks under strong, and none under weak
 STRONG_ONLY = Automaton(2, 2, 2, 0, {1}, {1, 2}, [(0, 1, 1), (1, 0, 2), (2, 1, 0), (0, 2, 0), (2, 2, 2)])
 
 # states 60 to 63, event 31, K 15 and a cycle of unobservable transitions; every transition of all, all states secret and none

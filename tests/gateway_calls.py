@@ -11,7 +11,7 @@ from calls import Calls
 from examples import ALL_SECRET, CORNERS, NONE_SECRET, ONE, P, P0, P1, P_ENCODING, Q, Q_ENCODING, STRONG_ONLY, T, U
 from generate import any_bytes, flipped_bits, further_bytes, out_of_range, padding_bits, random_automaton, random_events, reserved_bit, short_encoding
 from logs import encoded
-from runs import Listing, TooManyRuns
+from runs import Automaton, Listing, TooManyRuns
 from saved import WORDS, estimator_bytes, header_of, table_of
 
 RANDOM, DAMAGED, OPEN = 150, 80, 40
@@ -155,6 +155,8 @@ def enforcers(calls):
     for name, automaton, offered in (
         ("the one state 0, secret", ONE, (1,)),
         ("T", T, (1,)),
+        ("the one state 0, secret, event 1 observable", Automaton(0, 1, 0, 0, {0}, {1}, []), (1,)),
+        ("T, event 1 observable", Automaton(1, 1, 0, 0, {0}, {1}, T.transitions), (1,)),
         ("U", U, (1, 1, 1)),
         ("Q", Q, (1,)),
         ("weak and strong differ", STRONG_ONLY, (1, 1, 1, 2, 1, 1, 2, 2, 2, 1)),

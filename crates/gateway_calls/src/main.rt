@@ -6,8 +6,8 @@ ghost use Prim.Native.Nat.{_≤_, _<_, _+_};
 ghost use mathlib.Core.Path.{_≡_};
 ghost use lib.ListN.{length};
 
-// The slots of the memory, one for each slice that is lent: SLOT words each, of which the first ones are lent, by the slot's size. Only the table's are
-// words; the others are lent as bytes.
+// The slots of the memory, one for each slice that is lent: SLOT words each, of which the first ones are lent, by the slot's size. Only those of the
+// table are words; the others are lent as bytes.
 const SLOT: usize = 4096;
 
 const TABLE: usize = 0;

@@ -10,6 +10,9 @@ T = Automaton(1, 0, 0, 0, {0}, set(), [(0, 0, 1)])
 ONE = Automaton(0, 0, 0, 0, {0}, set(), [])
 U = Automaton(1, 1, 0, 0, {1}, {1}, [(0, 1, 1), (1, 1, 0)])
 
+# each run passes the secret state and leaves it unobserved: leaks under strong, and none under weak
+STRONG_ONLY = Automaton(2, 2, 2, 0, {1}, {1, 2}, [(0, 1, 1), (1, 0, 2), (2, 1, 0), (0, 2, 0), (2, 2, 2)])
+
 # states 60 to 63, event 31, K 15 and a cycle of unobservable transitions; every transition of all, all states secret and none
 CORNERS = Automaton(63, 31, 15, 63, {62}, {31}, [(63, 31, 62), (62, 31, 61), (61, 31, 61), (61, 0, 60), (60, 0, 61)])
 EVERY = [(source, event, target) for source in range(64) for event in range(32) for target in range(64)]

@@ -82,6 +82,8 @@ class Listing:
         first = (automaton.initial, frozenset({(0, automaton.initial in automaton.secret)}))
         # by the length of the prefix; those that no question asks for any more are left out
         self.compatible = {0: continued(automaton, {first}, 0, limit)}
+        # by the length of the prefix: where its runs are right after their last observable event, or else at their start
+        self.entered = [{automaton.initial}]
 
     def accept(self, event):
         """Adds the event to the trace, and says so, if some run is compatible with it."""
@@ -94,6 +96,7 @@ class Listing:
         if not runs:
             return False
         self.trace.append(event)
+        self.entered.append({end for end, _ in runs})
         self.compatible[n] = continued(self.automaton, runs, n, self.limit)
         self.compatible.pop(oldest - 1, None)
         return True
@@ -118,15 +121,15 @@ class Listing:
                 return steps
         return None
 
-    def weak_safe(self, prefix):
-        """Whether the prefix of this length is safe under weak."""
-        n = len(self.trace)
+    def weak_safe(self, prefix, further=0):
+        """Whether the prefix of this length is safe under weak, or will be with so many further events."""
+        n = len(self.trace) + further
         # the counts j <= prefix with n - j <= K
         return not any(sure_at(self.positions(prefix), j) for j in range(max(0, n - self.automaton.k), prefix + 1))
 
-    def strong_safe(self, prefix):
-        """Whether the prefix of this length is safe under strong."""
-        n = len(self.trace)
+    def strong_safe(self, prefix, further=0):
+        """The same under strong."""
+        n = len(self.trace) + further
         return n - prefix > self.automaton.k or any(
             not any(secret and n - count <= self.automaton.k for count, secret in positions) for positions in self.positions(prefix)
         )

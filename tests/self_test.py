@@ -7,10 +7,12 @@ left out: each run as its list of transitions.
 import random
 import sys
 
+from calls import elements
 from examples import ENCODINGS, EXAMPLES, OPENINGS, P, P_ENCODING, Q, Q_ENCODING
 from generate import random_automaton, random_trace, with_length
 from logs import encoded, output
 from runs import Listing, TooManyRuns
+from saved import grown_enforcer, grown_estimator, verdict_bytes
 
 
 def test_examples():
@@ -24,6 +26,16 @@ def test_examples():
         listing = Listing(automaton)
         assert (listing.weak(), listing.strong()) == (weak, strong)
         assert (listing.weak_safe(0), listing.strong_safe(0)) == (weak_safe, strong_safe)
+
+
+def test_saved():
+    """P after 1 2, by hand. Right after 1 2 a run is in 0, right after 1 in 1 or 3, and it starts in 0; 2 is pending and waits for two events."""
+    listing = Listing(P)
+    assert listing.accept(1) and listing.accept(2)
+    assert elements(grown_estimator(listing)) == "144 0:2*2,1 16:1 24:a 32:1"
+    assert verdict_bytes(listing) == bytes((1, 1))
+    assert elements(grown_enforcer(listing, 0)) == "178 0:2*2,1 16:1 24:a 32:1 145:1,2 162:2"
+    assert elements(grown_enforcer(listing, 1)) == "178 0:2*2,1 16:1 24:a 32:1 144:1*2,2 162:2"
 
 
 def every_run(automaton, trace, bound):
@@ -63,6 +75,13 @@ def facts(automaton, trace, most):
     return found, further
 
 
+def entered(automaton, trace):
+    """Where the runs that end with their last observable event, or are empty, end."""
+    if not trace:
+        return {automaton.initial}
+    return {run[-1][1] for run in every_run(automaton, trace, automaton.bound()) if run[-1][0] in automaton.observable}
+
+
 def test_merging(count, seed):
     """The merged runs are those that are listed one by one, and no verdict changes with a higher bound."""
     compared = 0
@@ -79,6 +98,7 @@ def test_merging(count, seed):
             continue
         compared += 1
         assert listing.compatible[len(trace)] == both[0], (seed, i)
+        assert listing.entered[len(trace)] == entered(automaton, trace), (seed, i)
         verdicts = listing.weak(), listing.strong(), listing.weak_safe(len(trace)), listing.strong_safe(len(trace))
         listing.compatible[len(trace)] = both[1]
         assert verdicts == (listing.weak(), listing.strong(), listing.weak_safe(len(trace)), listing.strong_safe(len(trace))), (seed, i)
@@ -87,6 +107,7 @@ def test_merging(count, seed):
 
 if __name__ == "__main__":
     test_examples()
+    test_saved()
     compared = test_merging(400, 1)
     print(f"examples as expected, {compared} listings compared run by run")
     sys.exit(0)

@@ -1,0 +1,126 @@
+-- `gateway_calls::lend` is safe: a size is at most a slot's, which is the length of each copy.
+use Prim.Native.Nat.{ℕ, _≤_}
+use mathlib.Core.Path.{_≡_}
+use native.Mathlib.Omega.{arith}
+use borrow.Author.Needs.{needs}
+use Rattle.gateway_calls.proofs.lend.Statement.{statement}
+use Rattle.gateway_calls.proofs.lend.Tie as tie
+
+fits : {n l : ℕ} → n ≤ 4096 → 4096 ≡ l → n ≤ l
+fits small size = omega arith
+
+least : {n : ℕ} → 0 ≤ n
+least = omega arith
+
+slots-of-requires : tie.Need-slots-of-requires
+slots-of-requires c κs = tt
+
+size-of-requires : tie.Need-size-of-requires
+size-of-requires c κs = tt
+
+size-of-requires-2 : tie.Need-size-of-requires-2
+size-of-requires-2 c κs = tt
+
+size-of-requires-3 : tie.Need-size-of-requires-3
+size-of-requires-3 c κs = tt
+
+size-of-requires-4 : tie.Need-size-of-requires-4
+size-of-requires-4 c κs = tt
+
+size-of-requires-5 : tie.Need-size-of-requires-5
+size-of-requires-5 c κs = tt
+
+sub-apply : tie.Need-sub-apply
+sub-apply c = least
+
+part-apply-start : tie.Need-part-apply-start
+part-apply-start c = least
+
+part-apply-end : tie.Need-part-apply-end
+part-apply-end c = fits (c .before .before .before .before .size-of .ensures) (c .before .before .before .before .before .before .before .before .before .before .before .pre .0)
+
+sub-apply-2 : tie.Need-sub-apply-2
+sub-apply-2 c = least
+
+part-apply-start-2 : tie.Need-part-apply-start-2
+part-apply-start-2 c = least
+
+part-apply-end-2 : tie.Need-part-apply-end-2
+part-apply-end-2 c = fits (c .before .before .before .before .size-of2 .ensures) (c .before .before .before .before .before .before .before .before .before .before .before .before .pre .1)
+
+sub-apply-3 : tie.Need-sub-apply-3
+sub-apply-3 c = least
+
+part-apply-start-3 : tie.Need-part-apply-start-3
+part-apply-start-3 c = least
+
+part-apply-end-3 : tie.Need-part-apply-end-3
+part-apply-end-3 c = fits (c .before .before .before .before .size-of3 .ensures) (c .before .before .before .before .before .before .before .before .before .before .before .before .before .pre .2)
+
+sub-apply-4 : tie.Need-sub-apply-4
+sub-apply-4 c = least
+
+part-apply-start-4 : tie.Need-part-apply-start-4
+part-apply-start-4 c = least
+
+part-apply-end-4 : tie.Need-part-apply-end-4
+part-apply-end-4 c = fits (c .before .before .before .before .size-of4 .ensures) (c .before .before .before .before .before .before .before .before .before .before .before .before .before .before .pre .3)
+
+sub-apply-5 : tie.Need-sub-apply-5
+sub-apply-5 c = least
+
+part-apply-start-5 : tie.Need-part-apply-start-5
+part-apply-start-5 c = least
+
+part-apply-end-5 : tie.Need-part-apply-end-5
+part-apply-end-5 c = fits (c .before .before .before .before .size-of5 .ensures) (c .before .before .before .before .before .before .before .before .before .before .before .before .before .before .before .pre .4)
+
+apply-requires : tie.Need-apply-requires
+apply-requires c κs = tt
+
+same-length : tie.Need-same-length
+same-length c = search needs
+
+same-length-2 : tie.Need-same-length-2
+same-length-2 c = search needs
+
+same-length-3 : tie.Need-same-length-3
+same-length-3 c = search needs
+
+same-length-4 : tie.Need-same-length-4
+same-length-4 c = search needs
+
+returns : tie.Need-returns
+returns c = search needs
+
+pub lend-spec : {M : Type 1} → statement M
+lend-spec =
+    tie.close
+    (tie.spec
+    slots-of-requires
+    size-of-requires
+    size-of-requires-2
+    size-of-requires-3
+    size-of-requires-4
+    size-of-requires-5
+    sub-apply
+    part-apply-start
+    part-apply-end
+    sub-apply-2
+    part-apply-start-2
+    part-apply-end-2
+    sub-apply-3
+    part-apply-start-3
+    part-apply-end-3
+    sub-apply-4
+    part-apply-start-4
+    part-apply-end-4
+    sub-apply-5
+    part-apply-start-5
+    part-apply-end-5
+    apply-requires
+    same-length
+    same-length-2
+    same-length-3
+    same-length-4
+    returns)

@@ -1,0 +1,471 @@
+"""Writes the calls that crates/gateway_calls makes, and what it prints for them, as the lister expects it: `python3 tests/gateway_calls.py`.
+
+With `--check` nothing is written, and the exit status is 1 where the stored files differ from what would be written.
+"""
+
+import pathlib
+import random
+import sys
+
+from calls import Calls
+from examples import ALL_SECRET, CORNERS, NONE_SECRET, ONE, P, P0, P1, P_ENCODING, Q, Q_ENCODING, STRONG_ONLY, T, U
+from generate import any_bytes, flipped_bits, further_bytes, out_of_range, padding_bits, random_automaton, random_events, reserved_bit, short_encoding
+from logs import encoded
+from runs import Automaton, Listing, TooManyRuns
+from saved import WORDS, estimator_bytes, header_of, table_of
+
+RANDOM, DAMAGED, OPEN = 150, 80, 40
+SEED = 5
+FOLDER = pathlib.Path(__file__).resolve().parent.parent / "crates" / "gateway_calls"
+
+# what is lent to be written over: bytes that no function writes, and for an output a different one in each place
+HEADER, ESTIMATOR, VERDICTS, ENFORCER, RELEASED = b"\xee" * 14, b"\xee" * 144, b"\xee" * 2, b"\xee" * 178, b"\xee"
+OUTPUT = bytes(range(0xA0, 0xB1))
+SIZES = {"header": 14, "estimator": 144, "verdicts": 2, "enforcer": 178, "released": 1}
+
+
+def changed(data, at, byte):
+    """The bytes with one of them changed."""
+    return data[:at] + bytes([byte]) + data[at + 1 :]
+
+
+def resized(data, size):
+    """The bytes cut, or with more behind them."""
+    return data[:size] + b"\xdd" * (size - len(data))
+
+
+def lend_all(calls):
+    """Slices of the right sizes."""
+    calls.put(estimator=ESTIMATOR, verdicts=VERDICTS, enforcer=ENFORCER, output=OUTPUT, released=RELEASED)
+
+
+# decoding
+
+
+def decodings(calls):
+    """P and Q, damaged forms of them, the smallest and the longest encoding, over a table that holds other words."""
+    calls.say("decode: P and Q, and damaged forms of them")
+    calls.put_table([1] + [0] * (WORDS - 2) + [7])
+    calls.put(header=HEADER)
+    q, smallest = Q_ENCODING, bytes((0, 0, 0, 0, 0xC0))
+    longest = changed(changed(b"\xff" * 2190, 3, 0xFE), 2189, 0xFE)
+    damaged = [changed(q, at, byte) for at, byte in ((8, 0x05), (3, 0x05), (2, 0x18), (5, 0x61), (5, 0x02), (6, 0x0C))]
+    damaged += [q[:8], q + b"\0", changed(q, 2, 0x18)[:3], q[:7] + b"\x00\x82", q[:7] + b"\x00\x84"]
+    for data in [P_ENCODING[:15], b"", P_ENCODING, q] + damaged:
+        calls.put(encoding=data)
+        calls.decode()
+    calls.say("the smallest and the longest encoding, with a padding bit, cut, and a byte longer")
+    for data in (smallest, changed(smallest, 4, 0xC1), smallest[:4], changed(longest, 2189, 0xFF), longest[:2189], longest, longest + b"\0"):
+        calls.put(encoding=data)
+        calls.decode()
+    calls.say("tables and headers of other sizes")
+    calls.put(encoding=P_ENCODING)
+    for size in (2049, 2047, 0, 2048):
+        calls.put_table([0] * min(size, 2046) + [5] * (2046 < size) + [0] * (size - 2047))
+        calls.decode()
+    for size in (13, 15, 0):
+        calls.put_table([0] * 2046 + [5, 0])
+        calls.put(header=resized(HEADER, size))
+        calls.decode()
+
+
+def random_decodings(calls):
+    """Random encodings, whole and damaged."""
+    damages = (reserved_bit, padding_bits, further_bytes, short_encoding, flipped_bits, flipped_bits, out_of_range, any_bytes)
+    calls.say("decode: random encodings, whole and damaged")
+    for i in range(DAMAGED):
+        rng = random.Random(f"encoding {SEED} {i}")
+        automaton = random_automaton(rng)
+        log = rng.choice(damages)(rng, automaton, b"")
+        calls.put(encoding=log[2:], header=HEADER)
+        calls.decode()
+
+
+# chains of calls
+
+
+def decode(calls, automaton):
+    """The table and the header of an automaton, by its encoding."""
+    calls.put_table([0] * WORDS)
+    calls.put(encoding=encoded(automaton), header=HEADER)
+    calls.decode()
+
+
+def observe(calls, offered):
+    """A fresh estimator, and each byte in turn."""
+    calls.put(estimator=ESTIMATOR, verdicts=VERDICTS)
+    calls.fresh()
+    for byte in offered:
+        calls.accept(byte)
+
+
+def enforce(calls, notion, offered, output=OUTPUT):
+    """A started enforcer, and each byte in turn, with an output that is lent anew or stays as the last offer left it."""
+    calls.put(enforcer=ENFORCER, released=RELEASED, output=output)
+    calls.start(notion)
+    for byte in offered:
+        if output == OUTPUT and calls.slices["output"] != OUTPUT:
+            calls.put(output=OUTPUT)
+        calls.offer(byte)
+
+
+def verifiers(calls):
+    """01's examples: verdicts."""
+    calls.say("verdicts: an encoding that is refused leaves a header that is none")
+    calls.put_table([0] * WORDS)
+    calls.put(encoding=P_ENCODING[:15], header=HEADER)
+    calls.decode()
+    observe(calls, (1,))
+    for name, automaton, offered in (
+        ("Q", Q, (1, 1, 1)),
+        ("T", T, (1,)),
+        ("the one state 0, secret", ONE, (1,)),
+        ("U", U, (1, 1, 1)),
+        ("P", P, (1, 2, 2, 0, 200, 1, 1)),
+    ):
+        calls.say(f"verdicts: {name}")
+        decode(calls, automaton)
+        observe(calls, offered)
+    for automaton in (P1, P0):
+        calls.say(f"verdicts: P with K {automaton.k}")
+        calls.put(header=header_of(automaton))
+        observe(calls, (1, 2, 2, 0, 200, 1, 1))
+    calls.say("verdicts: states 60 to 63, event 31, K 15 and a cycle of unobservable transitions")
+    calls.lend(CORNERS)
+    observe(calls, (0, 32, 255) + (31,) * 18)
+    decode(calls, CORNERS)
+    observe(calls, (31, 31))
+    calls.say("verdicts: every transition, and every state secret; then none")
+    calls.lend(ALL_SECRET)
+    observe(calls, (31, 0, 31))
+    calls.put(header=header_of(NONE_SECRET))
+    observe(calls, (31, 0, 31))
+
+
+def enforcers(calls):
+    """01's examples: enforcers."""
+    for automaton in (P, P1, P0):
+        for notion in (0, 1):
+            calls.say(f"enforcer: P with K {automaton.k}, notion {notion}")
+            calls.lend(automaton)
+            enforce(calls, notion, (1, 2, 2, 0, 200))
+            for byte, size in ((1, 16), (2, 0), (1, 18), (1, 17)):
+                calls.put(output=resized(OUTPUT, size))
+                calls.offer(byte)
+    for name, automaton, offered in (
+        ("the one state 0, secret", ONE, (1,)),
+        ("T", T, (1,)),
+        ("the one state 0, secret, event 1 observable", Automaton(0, 1, 0, 0, {0}, {1}, []), (1,)),
+        ("T, event 1 observable", Automaton(1, 1, 0, 0, {0}, {1}, T.transitions), (1,)),
+        ("U", U, (1, 1, 1)),
+        ("Q", Q, (1,)),
+        ("weak and strong differ", STRONG_ONLY, (1, 1, 1, 2, 1, 1, 2, 2, 2, 1)),
+        ("states 60 to 63, event 31 and K 15", CORNERS, (0, 32) + (31,) * 18),
+        ("every transition, every state secret", ALL_SECRET, (31,)),
+        ("every transition, no state secret", NONE_SECRET, (31, 0, 31)),
+    ):
+        for notion in (0, 1):
+            calls.say(f"enforcer: {name}, notion {notion}")
+            calls.lend(automaton)
+            enforce(calls, notion, offered)
+    calls.say("verdicts: weak and strong differ")
+    calls.lend(STRONG_ONLY)
+    observe(calls, (1, 1, 1, 2, 1, 1, 2, 2, 2, 1))
+
+
+# refusals
+
+
+def refuse_all(calls, call, slices, incompatible):
+    """Every refusal that a call on good slices can get: 6, 7, and 9 by each slice; the slices are as they were."""
+    for byte in (0, 200, 255) + incompatible:
+        call(byte)
+    for name in slices:
+        good = calls.slices[name]
+        calls.put(**{name: good[:-1]})
+        call(1)
+        calls.put(**{name: good})
+
+
+def refused_everywhere(calls):
+    """Refused calls before, between and after the calls of a list, which go on as if they had not been."""
+    incompatible = {0: (2,), 1: (), 2: (2,), 3: (2,), 4: (2,)}
+    calls.say("refused calls in every place of a list")
+    calls.lend(P)
+    calls.put(estimator=ESTIMATOR, verdicts=VERDICTS)
+    calls.fresh()
+    for place, byte in enumerate((1, 2, 1, 1, None)):
+        refuse_all(calls, calls.accept, ("header", "estimator", "verdicts"), incompatible[place])
+        if byte is not None:
+            calls.accept(byte)
+    for notion in (0, 1):
+        calls.put(enforcer=ENFORCER, output=OUTPUT, released=RELEASED)
+        calls.start(notion)
+        for place, byte in enumerate((1, 2, 1, 1, None)):
+            calls.put(output=OUTPUT[:16])
+            calls.offer(1)
+            calls.put(output=OUTPUT)
+            refuse_all(calls, calls.offer, ("header", "enforcer", "released"), incompatible[place])
+            if byte is not None:
+                calls.offer(byte)
+
+
+FUNCTIONS = (
+    ("decode", (), ("header",)),
+    ("fresh", (), ("header", "estimator", "verdicts")),
+    ("accept", (1,), ("header", "estimator", "verdicts")),
+    ("start", (0,), ("header", "enforcer")),
+    ("offer", (1,), ("header", "enforcer", "released")),
+)
+
+
+def wrong_sizes(calls):
+    """Each slice of each function one shorter, one longer and empty, and 9 before 10, 6 and 7."""
+    calls.say("slices of other sizes")
+    for function, arguments, names in FUNCTIONS:
+        for name in ("table",) + names:
+            for off in (-1, 1, None):
+                ready(calls, function)
+                if name == "table":
+                    words = list(calls.table)
+                    calls.put_table([] if off is None else words[:-1] if off < 0 else words + [3])
+                else:
+                    calls.put(**{name: resized(calls.slices[name], 0 if off is None else SIZES[name] + off)})
+                assert getattr(calls, function)(*arguments) == 9
+    calls.say("9 before 10 and 6")
+    ready(calls, "offer")
+    calls.put(output=OUTPUT[:16], released=b"")
+    calls.offer(200)
+    calls.put(released=RELEASED)
+    calls.offer(200)
+
+
+def ready(calls, function):
+    """P, and slices on which the function answers 0."""
+    calls.put_table(table_of(P))
+    calls.put(encoding=P_ENCODING, header=header_of(P))
+    lend_all(calls)
+    if function == "accept":
+        calls.fresh()
+    if function == "offer":
+        calls.start(0)
+
+
+def outside_limits(calls):
+    """K, initial states and notions outside their limits."""
+    calls.say("K 16 and 255, initial state 64 and 255, notion 2 and 255")
+    for at, byte in ((1, 16), (1, 255), (0, 64), (0, 255)):
+        calls.lend(P)
+        lend_all(calls)
+        calls.fresh()
+        calls.start(0)
+        calls.put(header=changed(header_of(P), at, byte))
+        calls.accept(1)
+        calls.offer(1)
+        lend_all(calls)
+        for notion in (0, 1):
+            calls.start(notion)
+        calls.fresh()
+        calls.accept(1)
+        calls.offer(1)
+    calls.lend(P)
+    lend_all(calls)
+    for notion in (2, 255):
+        calls.start(notion)
+
+
+def damaged_states(calls):
+    """Saved states that no call wrote: outside their limits, or odd only in places that are not used."""
+    calls.say("estimators outside their limits, and odd ones within them")
+    calls.lend(P)
+    calls.put(estimator=ESTIMATOR, verdicts=VERDICTS)
+    calls.accept(200)
+    for count, event, entry in ((3, 1, 1), (255, 1, 1), (1, 32, 1), (2, 255, 1), (2, 31, 1), (0, 32, 1)):
+        calls.put(estimator=bytes([count] + [event] * 15) + bytes((entry, 0, 0, 0, 0, 0, 0, 0)) * 16)
+        calls.accept(200)
+        if not calls.estimator_sound(calls.slices["estimator"]):
+            calls.accept(1)
+    good = estimator_bytes([2, 1], [{0}, {1, 3}, {0}])
+    for at in range(16):
+        calls.put(estimator=changed(good, at, 32))
+        calls.accept(0)
+    calls.say("enforcers outside their limits, and odd ones within them")
+    calls.put(enforcer=ENFORCER, output=OUTPUT, released=RELEASED)
+    calls.offer(200)
+    for place in range(4):
+        calls.put(enforcer=ENFORCER, output=OUTPUT, released=RELEASED)
+        calls.start(1)
+        for byte in (1, 2, 1)[:place]:
+            calls.offer(byte)
+        good = calls.slices["enforcer"]
+        for at, byte in (
+            [(0, 3), (1, 32), (2, 32), (3, 32), (144, 2), (144, 255), (145, 4), (145, 16), (145, 255)]
+            + [(146 + i, 32) for i in (0, 1, 2, 15)]
+            + [(162, 200), (177, 255)]
+        ):
+            calls.put(enforcer=changed(good, at, byte), output=OUTPUT, released=RELEASED)
+            calls.offer(200)
+            if not calls.enforcer_sound(calls.slices["enforcer"]):
+                calls.offer(1)
+        calls.put(enforcer=good)
+
+
+# answers that are left open
+
+
+def open_states(calls):
+    """States within their limits that did not grow from a fresh one."""
+    calls.say("states within their limits that did not grow from a fresh one: every answer that is allowed is `open`")
+    calls.lend(P)
+    lend_all(calls)
+    for count, event, entry in ((2, 31, 0), (0, 255, 255), (2, 0, 255), (1, 1, 255)):
+        calls.put(estimator=bytes([count] + [event] * 15) + bytes([entry]) * 128)
+        for byte in (1, 2):
+            calls.open("accept", byte)
+    one = bytes((0, 1)) + bytes(8) + bytes((2, 0, 0, 0))  # K 1, no state secret, event 1 observable: one state that takes event 1
+    calls.put_table([0] * 64 + [1] + [0] * 1983)
+    calls.put(header=one, output=OUTPUT, released=RELEASED)
+    calls.start(0)
+    begun = calls.slices["enforcer"][:144]
+    for notion in (0, 1):
+        for count, event in ((3, 31), (2, 32)):
+            calls.put(enforcer=begun + bytes([notion, count] + [event] * 16 + [200] * 16))
+            calls.offer(1)
+        for count, event in ((0, 31), (1, 31), (2, 31), (0, 32)):
+            calls.put(enforcer=begun + bytes([notion, count] + [event] * 16 + [200] * 16))
+            calls.offer(200)
+            calls.open("offer", 1)
+
+
+def random_state(rng, k):
+    """An estimator within its limits that says anything."""
+    few = [set(rng.sample(range(64), rng.choice((0, 1, 2, 30, 64)))) for _ in range(16)]
+    count, some = rng.randrange(k + 1), rng.choice((4, 32))
+    return changed(estimator_bytes([rng.randrange(some) for _ in range(15)], few), 0, count)
+
+
+def random_open(calls):
+    """The same on random automata."""
+    for i in range(OPEN):
+        rng = random.Random(f"open {SEED} {i}")
+        automaton = random_automaton(rng)
+        if not automaton.observable:
+            continue
+        calls.lend(automaton)
+        lend_all(calls)
+        for _ in range(2):
+            calls.put(estimator=random_state(rng, automaton.k))
+            calls.open("accept", rng.choice(sorted(automaton.observable)))
+            rest = [rng.randrange(2), rng.randrange(automaton.k + 2)] + [rng.randrange(32) for _ in range(16)]
+            waits = [rng.choice((0, 1, 2, 17, rng.randrange(256))) for _ in range(16)]
+            calls.put(enforcer=random_state(rng, automaton.k) + bytes(rest + waits), output=resized(OUTPUT, rng.randrange(17, 20)))
+            calls.open("offer", rng.choice(sorted(automaton.observable)))
+
+
+# random automata
+
+
+def random_case(i):
+    """An automaton and bytes to offer, among them refused ones. Every other one has a trace on which weak and strong differ."""
+    rng = random.Random(f"chains {SEED} {i}")
+    while True:
+        automaton = random_automaton(rng)
+        events = random_events(rng, automaton, rng.choice((2, 4, 6, 8, 12)))[:12]
+        listing, differ = Listing(automaton), 0
+        try:
+            for event in events:
+                if event in automaton.observable and listing.accept(event):
+                    differ += listing.weak() != listing.strong()
+        except TooManyRuns:
+            continue
+        if i % 2 == 0 or differ:
+            return automaton, events
+
+
+def random_chains(calls):
+    """Random automata, each with an estimator and an enforcer under either notion."""
+    for i in range(RANDOM):
+        automaton, events = random_case(i)
+        calls.say(f"random automaton {i}")
+        decode(calls, automaton)
+        observe(calls, events)
+        for notion in (0, 1):
+            enforce(calls, notion, events, b"\xee" * 17)
+
+
+def misread(calls):
+    """Lines that are not understood."""
+    calls.say("lines that are not understood")
+    for line in (
+        "x",
+        " decode",
+        "decode ",
+        "decode 1",
+        "fresh 0",
+        "accept",
+        "accept x",
+        "accept 256",
+        "accept 1 2",
+        "accept  1",
+        "accept 99999999999999999999999999",
+        "offers 1",
+        "open",
+        "open ",
+        "open open",
+        "open accept",
+        "open header 1",
+        "header",
+        "header x",
+        "header 4097",
+        "header 14 0",
+        "header 14 0:",
+        "header 14 0:g",
+        "header 14 0:100",
+        "header 14 0:1*",
+        "header 14 0:1*4097",
+        "header 14 4096:1",
+        "header 14 0:1,",
+        "header 14 0:1 ",
+        "header 14  0:1",
+        "header 14 0:100 0:1",
+        "table 2048 0:11111111111111111",
+    ):
+        calls.misread(line)
+    ready(calls, "accept")
+    calls.accept(1)
+
+
+def stored():
+    """The input and the output."""
+    calls = Calls()
+    for part in (
+        decodings,
+        verifiers,
+        enforcers,
+        refused_everywhere,
+        wrong_sizes,
+        outside_limits,
+        damaged_states,
+        open_states,
+        misread,
+        random_decodings,
+        random_open,
+        random_chains,
+    ):
+        part(calls)
+    return {"stdin": "".join(line + "\n" for line in calls.lines).encode(), "stdout": "".join(line + "\n" for line in calls.printed).encode()}
+
+
+def main():
+    """Writes the files, or compares them."""
+    files = stored()
+    if "--check" in sys.argv[1:]:
+        return int(any((FOLDER / name).read_bytes() != data for name, data in files.items()))
+    for name, data in files.items():
+        (FOLDER / name).write_bytes(data)
+        print(f"{name}: {data.count(10)} lines, {len(data)} bytes")
+    return 0
+
+
+if __name__ == "__main__":
+    sys.exit(main())

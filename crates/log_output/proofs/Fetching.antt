@@ -6,7 +6,12 @@ use Prim.Native.Nat.{ℕ, _+_, _-_, _≤_, _<_}
 use native.Mathlib.Omega.{arith}
 use lib.ListN.{length, take}
 use lib.Seq.{length-take-le}
-use mathlib.Core.Bool.{Bool, true}
+use mathlib.Core.Bool.{Bool, true, false}
+use lib.Dec.{T}
+use lib.IntN.{ℤ, pos, negsuc}
+use lib.Signed.{ltZ}
+use borrow.Author.Tests.{ltb-true}
+use Rattle.io.specs.Counts.{clamped}
 use Rattle.stateset.specs.Set.{Decided}
 use Rattle.stateset.proofs.Decides.{holds}
 use Rattle.monitor.specs.Opening.{frontSize}
@@ -15,33 +20,78 @@ use Rattle.log_output.specs.declared.Status.{Status}
 use Rattle.log_output.specs.declared.Status.the-variants.{Going, Ended, Failed, Closed}
 use Rattle.log_output.specs.declared.Progress.{Progress}
 use Rattle.log_output.specs.declared.Fetched.{Fetched}
+use Rattle.log_output.specs.declared.Fetched.the-variants as fetched
+use Rattle.log_output.specs.declared.Gathered.{Gathered}
+use Rattle.log_output.specs.declared.Gathered.the-variants as gathered
 use Rattle.log_output.specs.declared.Reading.{Reading}
 use Rattle.log_output.specs.declared.Rest.{Rest}
 use Rattle.log_output.specs.Progressing.{Usable, Followed}
-use Rattle.log_output.specs.Feeding.{withStatus, WrittenOut, emptied, closed, Turning, unwritten, ended, failed, brought-some, Feeding, stopped, last, more, Fed, Limit}
+use Rattle.log_output.specs.Feeding.{FoundBy, Found, There, Brought, gatheredBy, withStatus, WrittenOut, emptied, closed, TakenIn, followed-all, no-more, not-fetched, Turning, unwritten, ended, failed, brought-some, Feeding, stopped, last, more, Fed, Limit, Ran, Monitors, ran}
 use Rattle.log_output.proofs.Keeping.{ended-not, failed-not, closed-not}
 
 pub some-least : {r a b : ℕ} → (r ≡ a) ⊎ (r ≡ b) → 0 < a → 0 < b → 0 < r
 some-least (inl e) ha hb = omega arith
 some-least (inr e) ha hb = omega arith
 
+-- what the system answered
+pub found-failed : (z : ℤ) (lent : ℕ) → ltZ z (pos 0) ≡ true → FoundBy z lent fetched.Failed
+found-failed (pos k) lent e = absurd (omega (arith, ltb-true k 0 e))
+found-failed (negsuc k) lent e = tt
+
+pub found-end : (z : ℤ) (lent n : ℕ) → ltZ z (pos 0) ≡ false → n ≡ clamped z lent → n ≡ 0 → FoundBy z lent fetched.End
+found-end (pos k) lent n e is none = sym is ∙ none
+found-end (negsuc k) lent n e is none = absurd (subst T e tt)
+
+pub found-some : (z : ℤ) (lent n : ℕ) → ltZ z (pos 0) ≡ false → n ≡ clamped z lent → (n ≡ 0 → ⊥) → FoundBy z lent (fetched.Bytes n)
+found-some (pos k) lent n e is some = (is, omega (arith, some))
+found-some (negsuc k) lent n e is some = absurd (subst T e tt)
+
+-- so a read brings no more than there is space for, and no more than may follow
+pub brings : {z : ℤ} {size left room : ℕ} {r : Fetched} → Found z room r → room ≤ size → room ≤ left → Brought size left r
+brings {z} {size} {left} {room} {r} f a b = go z r (f .by)
+  where
+    go : (y : ℤ) (x : Fetched) → FoundBy y room x → Brought size left x
+    go (pos k) (fetched.Bytes n) g = (g .1, omega (arith, g .0), omega (arith, g .0))
+    go (pos k) fetched.End g = tt
+    go (pos k) fetched.Failed g = tt
+    go (negsuc k) (fetched.Bytes n) g = absurd g
+    go (negsuc k) fetched.End g = tt
+    go (negsuc k) fetched.Failed g = tt
+
+pub is-there : (size left most : ℕ) (r : Fetched) → Brought size left r → size ≤ most → There most r
+is-there size left most (fetched.Bytes n) f h = omega (arith, f .1)
+is-there size left most fetched.End f h = tt
+is-there size left most fetched.Failed f h = tt
+
 -- the first bytes have an event among them
 pub opens-by : (input : List ℕ) (n : ℕ) (b : Bool) → n ≤ length input → b ≡ true → Decided b (frontSize (take (n - 0) input) < length (take (n - 0) input))
     → frontSize (take n input) < n
 opens-by input n b h e d = let z : n - 0 ≡ n = omega arith in let f = rw z at (holds b e d) in omega (arith, length-take-le n input h)
 
-pub ended-turn : {t : List ℕ} {h : Header} {left : ℕ} {p q x : Progress} {out input : List ℕ} → x ≡ withStatus q Ended → WrittenOut p out q → q .status ≡ Going
-    → Turning t h left p out input (record { progress = x; brought = 0 }) out
-ended-turn {t} {h} {left} {p} {q} {x} {out} {input} e w g = subst (λ (y : Progress). Turning t h left p out input (record { progress = y; brought = 0 }) out) (sym e) (ended w g)
-
-pub failed-turn : {t : List ℕ} {h : Header} {left : ℕ} {p q x : Progress} {out input : List ℕ} → x ≡ withStatus q Failed → WrittenOut p out q → q .status ≡ Going
-    → Turning t h left p out input (record { progress = x; brought = 0 }) out
-failed-turn {t} {h} {left} {p} {q} {x} {out} {input} e w g = subst (λ (y : Progress). Turning t h left p out input (record { progress = y; brought = 0 }) out) (sym e) (failed w g)
-
 -- the part of the input from its start on
 pub whole-front : {t : List ℕ} {h : Header} {q r : Progress} (n : ℕ) (input : List ℕ) {out out′ : List ℕ} → (Usable t h q out → Followed t h q (take (n - 0) input) out r out′)
     → Usable t h q out → Followed t h q (take n input) out r out′
 whole-front {t} {h} {q} {r} n input {out} {out′} f u = let e : n - 0 ≡ n = omega arith in subst (λ (k : ℕ). Followed t h q (take k input) out r out′) e (f u)
+
+-- one more read
+pub taken-turn : {t : List ℕ} {h : Header} {left : ℕ} {p q : Progress} {out input out′ : List ℕ} {f : Fetched} {r : Reading} → TakenIn t h q out input f r out′ → WrittenOut p out q
+    → q .status ≡ Going → Brought (length input) left f → Turning t h left p out input r out′
+taken-turn (followed-all x) w g b = brought-some w g (b .0) (b .1) (b .2) x
+taken-turn no-more w g b = ended w g
+taken-turn not-fetched w g b = failed w g
+
+-- the first bytes after one more read
+pub gathered-more : (f : Fetched) (have n space left : ℕ) → gatheredBy f have ≡ gathered.Bytes n → Brought space left f → (have < n) × (n ≤ have + space) × (n ≤ have + left)
+gathered-more (fetched.Bytes m) have n space left e b =
+    let is : have + m ≡ n = cc in
+    (omega (arith, b .0), omega (arith, b .1), omega (arith, b .2))
+gathered-more fetched.End have n space left e b = let z : _≡_ {A = ℕ} 0 1 = cc in absurd (omega arith)
+gathered-more fetched.Failed have n space left e b = let z : _≡_ {A = ℕ} 0 1 = cc in absurd (omega arith)
+
+pub gathered-all : (f : Fetched) (have n : ℕ) → gatheredBy f have ≡ gathered.All n → have ≡ n
+gathered-all (fetched.Bytes m) have n e = let z : _≡_ {A = ℕ} 0 1 = cc in absurd (omega arith)
+gathered-all fetched.End have n e = cc
+gathered-all fetched.Failed have n e = let z : _≡_ {A = ℕ} 0 1 = cc in absurd (omega arith)
 
 pub brought-le : {t : List ℕ} {h : Header} {left : ℕ} {p : Progress} {out input : List ℕ} {r : Reading} {out′ : List ℕ} → Turning t h left p out input r out′ → r .brought ≤ left
 brought-le (unwritten w n) = omega arith
@@ -96,3 +146,7 @@ limits p size {a} {r} e h k c = record { allowed = omega arith; there = k; reach
     go : (r ≡ a) ⊎ (r ≡ size) → (r ≡ 4294967295 - p .monitor .offered) ⊎ (r ≡ size)
     go (inl x) = inl (x ∙ e)
     go (inr x) = inr x
+
+-- a log whose first bytes were gathered
+pub runs : (input : List ℕ) {n size : ℕ} {out out′ : List ℕ} → n ≤ length input → n ≤ size → Ran (take (n - 0) input) out (size - n) out′ → Monitors size out out′
+runs input {n} h few r = let z : n - 0 ≡ n = omega arith in ran (ap (λ (k : ℕ). length (take k input)) z ∙ length-take-le n input h) few r

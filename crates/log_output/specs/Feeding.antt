@@ -2,7 +2,8 @@
 -- lent input after it, as many as it answered. That they are the input's, and that a line that was written out is out, is tested.
 use mathlib.Core.Path.{_≡_}
 use mathlib.Core.List.{List, [], _++_}
-use Prim.Native.Nat.{ℕ, _+_, _-_, _≤_, _<_}
+use Prim.Native.Nat.{ℕ, _+_, _-_, _≤_, _<_, min}
+use lib.IntN.{ℤ, pos, negsuc}
 use mathlib.Core.Logic.{_⊎_}
 use lib.ListN.{length, take}
 use Rattle.automaton.specs.declared.Header.{Header}
@@ -23,6 +24,24 @@ use Rattle.log_output.specs.declared.Monitored.{Monitored}
 use Rattle.log_output.specs.Progressing.{Usable, Followed}
 use Rattle.log_output.specs.Whole.{RefusalLine, EndLine, Begins, Finished, HasPrinted}
 
+-- what a read finds, by what the system answered: a negative number is a failure, 0 the end of the input, and else so many bytes of those that were lent
+abbrev pub FoundBy : ℤ → ℕ → Fetched → Type 0
+FoundBy (pos k) lent (fetched.Bytes n) = (n ≡ min k lent) × (0 < n)
+FoundBy (pos k) lent fetched.End = min k lent ≡ 0
+FoundBy (pos k) lent fetched.Failed = ⊥
+FoundBy (negsuc k) lent (fetched.Bytes n) = ⊥
+FoundBy (negsuc k) lent fetched.End = ⊥
+FoundBy (negsuc k) lent fetched.Failed = Unit {0}
+
+pub record Found (answered : ℤ) (lent : ℕ) (r : Fetched) : Type 0 where
+  pub by : FoundBy answered lent r
+
+-- no more bytes than there is space for
+abbrev pub There : ℕ → Fetched → Type 0
+There size (fetched.Bytes n) = n ≤ size
+There size fetched.End = Unit {0}
+There size fetched.Failed = Unit {0}
+
 -- a read brings at least one byte, no more than there is space for and no more than may follow
 abbrev pub Brought : (size left : ℕ) → Fetched → Type 0
 Brought size left (fetched.Bytes n) = (0 < n) × (n ≤ size) × (n ≤ left)
@@ -36,6 +55,13 @@ withStatus p s = record { monitor = p .monitor; at = p .at; status = s }
 pub data WrittenOut (p : Progress) (out : List ℕ) : Progress → Type 0 where
   emptied : p .at ≤ length out → WrittenOut p out (record { monitor = p .monitor; at = 0; status = p .status })
   closed : WrittenOut p out (withStatus p Closed)
+
+-- what a read found is taken in: its bytes are followed, all of them in order, or the log has ended, or failed
+pub data TakenIn (t : List ℕ) (h : Header) (q : Progress) (out input : List ℕ) : Fetched → Reading → List ℕ → Type 0 where
+  followed-all : {n : ℕ} {r : Progress} {out′ : List ℕ} → (Usable t h q out → Followed t h q (take n input) out r out′)
+      → TakenIn t h q out input (fetched.Bytes n) (record { progress = r; brought = n }) out′
+  no-more : TakenIn t h q out input fetched.End (record { progress = withStatus q Ended; brought = 0 }) out
+  not-fetched : TakenIn t h q out input fetched.Failed (record { progress = withStatus q Failed; brought = 0 }) out
 
 -- one more read, on an output that is written out before it. It brings bytes, and all of them are followed, in order; or the input has ended, or the read failed
 pub data Turning (t : List ℕ) (h : Header) (left : ℕ) (p : Progress) (out input : List ℕ) : Reading → List ℕ → Type 0 where
@@ -58,9 +84,15 @@ pub record Fed (t : List ℕ) (h : Header) (left : ℕ) (p : Progress) (out : Li
   pub bytes : List ℕ
   pub feeding : Feeding t h left p out bytes r out′
 
+-- how the first bytes go on with what a read found
+abbrev pub gatheredBy : Fetched → ℕ → Gathered
+gatheredBy (fetched.Bytes n) have = gathered.Bytes (have + n)
+gatheredBy fetched.End have = gathered.All have
+gatheredBy fetched.Failed have = gathered.Failed
+
 -- the first bytes of a log: enough to open it, as `has_event` tests them, or as many as there is space for; or all that the input had; or a read failed
 abbrev pub UpTo : (input : List ℕ) (size : ℕ) → Gathered → Type 0
-UpTo input size (gathered.Enough n) = (n ≤ length input) × (n ≤ size) × ((frontSize (take n input) < n) ⊎ (n ≡ length input))
+UpTo input size (gathered.Bytes n) = (n ≤ length input) × (n ≤ size) × ((frontSize (take n input) < n) ⊎ (n ≡ length input))
 UpTo input size (gathered.All n) = (n ≤ length input) × (n ≤ size)
 UpTo input size gathered.Failed = Unit {0}
 
@@ -94,3 +126,8 @@ pub data LeftBehind {first out : List ℕ} {size : ℕ} {out′ : List ℕ} (r :
   not-read : r .rest .progress .status ≡ Failed → out′ ≡ r .out₂ → LeftBehind r
   not-written : r .rest .progress .status ≡ Closed → out′ ≡ r .out₂ → LeftBehind r
   no-last : (r .rest .progress .at + 256 ≤ length (r .out₂) → ⊥) → out′ ≡ r .out₂ → LeftBehind r
+
+-- all of a log of at most so many bytes: its first bytes are there, and it runs; or a read failed among them, and nothing is written
+pub data Monitors (size : ℕ) (out : List ℕ) : List ℕ → Type 0 where
+  ran : {first out′ : List ℕ} {n : ℕ} → length first ≡ n → n ≤ size → Ran first out (size - n) out′ → Monitors size out out′
+  unread : Monitors size out out

@@ -15,7 +15,7 @@ ghost use Rattle.monitor.specs.Stepping.{placeOf};
 ghost use Rattle.log_output.specs.declared.Status.the-variants as case;
 ghost use Rattle.log_output.specs.Progressing.{Usable, Roomy, Parted, Followed};
 ghost use Rattle.log_output.specs.Whole.{RefusalLine, EndLine, Begins, Finished};
-ghost use Rattle.log_output.specs.Feeding.{Brought, UpTo, WrittenOut, Turning, Fed, Ran};
+ghost use Rattle.log_output.specs.Feeding.{Found, There, Brought, gatheredBy, UpTo, WrittenOut, TakenIn, Turning, Fed, Ran, Monitors};
 
 pub enum Status {
     // More event bytes may follow.
@@ -48,7 +48,7 @@ struct Part {
     taken: usize,
 }
 
-pub fn going(status: Status) -> bool
+fn going(status: Status) -> bool
     ensures { λ r. ⌜ Decided r (status ≡ case.Going) ⌝ }
 {
     match status {
@@ -70,7 +70,7 @@ fn closed(status: Status) -> bool
     }
 }
 
-pub fn with_status(progress: Progress, status: Status) -> Progress
+fn with_status(progress: Progress, status: Status) -> Progress
     ensures { λ r. ⌜ r ≡ record { monitor = progress .monitor; at = progress .at; status = status } ⌝ }
 {
     let monitor = progress.monitor;
@@ -144,7 +144,7 @@ fn advance(progress: Progress, table: &[u64], header: Header, events: &[u8], out
 }
 
 // Some event bytes. With room for a line, none is taken only where the log may have no more of them.
-pub fn follow(
+fn follow(
     progress: Progress,
     table: &[u64],
     header: Header,
@@ -191,7 +191,7 @@ fn refuse(refusal: Refusal, out: &mut [u8])
 }
 
 // Opens a log by its first bytes, as `monitor::open` takes them, and follows the events among them.
-pub fn start(log: &[u8], out: &mut [u8]) -> Monitored
+fn start(log: &[u8], out: &mut [u8]) -> Monitored
     ensures { λ r. ⌜ Begins (now (log .entry)) (now (out .entry)) r (now (out .exit)) ⌝ }
 {
     let opened = monitor::open(log);
@@ -243,7 +243,7 @@ fn write_end(progress: Progress, out: &mut [u8])
 }
 
 // The last line, and all that is not written out yet.
-pub fn finish(progress: Progress, out: &mut [u8])
+fn finish(progress: Progress, out: &mut [u8])
     ensures { λ _. ⌜ Finished (progress .status) progress (now (out .entry)) (now (out .exit)) ⌝ }
 {
     let status = progress.status;
@@ -277,6 +277,21 @@ fn not_read() {
     io::write_all(2, b"read failed\n");
 }
 
+// What a read finds, by what the system answered: so many bytes at the front of what was lent, none at the end of the input, or a negative number.
+fn found(got: isize, lent: &[u8]) -> Fetched
+    ensures { λ r. ⌜ Found got (length (now (lent .entry))) r ⌝ }
+{
+    if got < 0 {
+        not_read();
+        return Fetched::Failed;
+    }
+    let n = io::count(got, lent);
+    if n == 0 {
+        return Fetched::End;
+    }
+    Fetched::Bytes(n)
+}
+
 // One read, of at most `left` bytes. Where no more may follow, none is made: the input counts as ended.
 fn fetch(input: &mut [u8], left: usize) -> Fetched
     ensures { λ r. ⌜ Brought (length (now (input .exit))) left r ⌝ }
@@ -286,15 +301,7 @@ fn fetch(input: &mut [u8], left: usize) -> Fetched
         return Fetched::End;
     }
     let got = libc::read(0, &mut input[0..room]);
-    if got < 0 {
-        not_read();
-        return Fetched::Failed;
-    }
-    let n = least(io::count(got, input), room);
-    if n == 0 {
-        return Fetched::End;
-    }
-    Fetched::Bytes(n)
+    found(got, &input[0..room])
 }
 
 // Writes out all that stands in the output.
@@ -316,6 +323,43 @@ struct Reading {
     brought: usize,
 }
 
+// What a read found: its bytes are followed, all of them in order; or the log has ended, or failed.
+fn taken_in(
+    fetched: Fetched,
+    progress: Progress,
+    table: &[u64],
+    header: Header,
+    input: &[u8],
+    out: &mut [u8],
+) -> Reading
+    requires { ⌜ There (length (now input)) fetched ⌝ }
+    ensures { λ r. ⌜ TakenIn (now (table .entry)) header progress (now (out .entry)) (now (input .entry)) fetched r (now (out .exit)) ⌝ }
+{
+    match fetched {
+        Fetched::Bytes(n) => {
+            let next = follow(progress, table, header, &input[0..n], out);
+            Reading {
+                progress: next,
+                brought: n,
+            }
+        }
+        Fetched::End => {
+            let next = with_status(progress, Status::Ended);
+            Reading {
+                progress: next,
+                brought: 0,
+            }
+        }
+        Fetched::Failed => {
+            let next = with_status(progress, Status::Failed);
+            Reading {
+                progress: next,
+                brought: 0,
+            }
+        }
+    }
+}
+
 // One more read. It may wait, so the lines so far are written out before it.
 fn turn(
     progress: Progress,
@@ -335,29 +379,8 @@ fn turn(
             brought: 0,
         };
     }
-    match fetch(input, left) {
-        Fetched::Bytes(n) => {
-            let next = follow(shown, table, header, &input[0..n], out);
-            Reading {
-                progress: next,
-                brought: n,
-            }
-        }
-        Fetched::End => {
-            let next = with_status(shown, Status::Ended);
-            Reading {
-                progress: next,
-                brought: 0,
-            }
-        }
-        Fetched::Failed => {
-            let next = with_status(shown, Status::Failed);
-            Reading {
-                progress: next,
-                brought: 0,
-            }
-        }
-    }
+    let fetched = fetch(input, left);
+    taken_in(fetched, shown, table, header, input, out)
 }
 
 // How a log was left, and how many bytes might still have been read.
@@ -408,11 +431,23 @@ fn allowed(progress: Progress) -> usize
     (u32::MAX - monitor.offered) as usize
 }
 
-// The first bytes of a log: enough to open it, or all that the input had; or a read failed.
+// The first bytes of a log: so many are there, or that is all of the input, or a read failed.
 pub enum Gathered {
-    Enough(usize),
+    Bytes(usize),
     All(usize),
     Failed,
+}
+
+// How the first bytes go on with what a read found.
+fn gathering(fetched: Fetched, have: usize, size: usize) -> Gathered
+    requires { ⌜ (have ≤ size) × There (size - have) fetched ⌝ }
+    ensures { λ r. ⌜ r ≡ gatheredBy fetched have ⌝ }
+{
+    match fetched {
+        Fetched::Bytes(n) => Gathered::Bytes(have + n),
+        Fetched::End => Gathered::All(have),
+        Fetched::Failed => Gathered::Failed,
+    }
 }
 
 // Reads until a log's length, its encoding and an event are there, or the input ends.
@@ -422,22 +457,22 @@ fn gather(input: &mut [u8], size: usize, piece: usize) -> Gathered
     let mut have: usize = 0;
     while have < input.len() {
         if monitor::has_event(&input[0..have]) {
-            return Gathered::Enough(have);
+            return Gathered::Bytes(have);
         }
         let most = least(piece, size - have);
-        match fetch(&mut input[have..], most) {
-            Fetched::Bytes(n) => {
-                have += least(n, input.len() - have);
+        match gathering(fetch(&mut input[have..], most), have, input.len()) {
+            Gathered::Bytes(n) => {
+                have = n;
             }
-            Fetched::End => {
-                return Gathered::All(have);
+            Gathered::All(n) => {
+                return Gathered::All(n);
             }
-            Fetched::Failed => {
+            Gathered::Failed => {
                 return Gathered::Failed;
             }
         }
     }
-    Gathered::Enough(have)
+    Gathered::Bytes(have)
 }
 
 // A log whose first `n` bytes are there, and at most `size` more. It says how many of them were not read.
@@ -468,10 +503,19 @@ fn unread(size: usize, limit: usize, left: usize) -> usize {
 }
 
 // A log on standard input: at most `size` bytes, in reads of at most `piece` bytes. It says how many were not read.
-pub fn monitor_input(input: &mut [u8], out: &mut [u8], size: usize, piece: usize) -> usize {
+pub fn monitor_input(input: &mut [u8], out: &mut [u8], size: usize, piece: usize) -> usize
+    ensures { λ _. ⌜ Monitors size (now (out .entry)) (now (out .exit)) ⌝ }
+{
     match gather(input, size, piece) {
-        Gathered::Enough(n) => run(input, n, out, size - n, piece),
+        Gathered::Bytes(n) => run(input, n, out, size - n, piece),
         Gathered::All(n) => run(input, n, out, size - n, piece),
         Gathered::Failed => 0,
     }
+}
+
+// A log on standard input, all of it: what the log program runs. The longest length and encoding take 65,537 bytes, and there is room for an event behind them.
+pub fn monitor_log(input: &mut [u8; 131072], out: &mut [u8; 65536])
+    ensures { λ _. ⌜ Monitors 18446744073709551615 (now (out .entry)) (now (out .exit)) ⌝ }
+{
+    monitor_input(input, out, usize::MAX, 131072);
 }

@@ -407,15 +407,7 @@ impl Estimator {
         let reach = automaton::silent_rows(table, header, &mut silent, near.known, from);
         let mut back = [0u64; 64];
         automaton::silent_back(&silent, reach.states, &mut back);
-        let verdicts = judge(
-            after,
-            table,
-            header,
-            &silent,
-            &back,
-            reach.states,
-            asked,
-        );
+        let verdicts = judge(after, table, header, &silent, &back, reach.states, asked);
         Reply {
             estimator: after,
             answer: Answer::Accepted(verdicts),

@@ -34,9 +34,11 @@ returns : tie.Need-returns
 returns c =
     let a = c .before .before .before .before .before .before .before .before .before .before .before .before .before .before .before .before .before .before .before .before .before .before .before .before .before .args in
     let e = a .enforcer in
-    let sized : EnforcerSized e = record { estimator = c .before .before .before .before .before .before .before .before .before .before .before .before .before .before .before .before .before .before .before .write-estimator .ensures .0; pending = c .before .before .before .before .before .before .store16 .ensures .0; waits = c .before .before .store162 .ensures .0 } in
-    (sized, wrote-enforcer (now (a .bytes)) _ _ _ _ _ (estimatorBytes (e .estimator)) (notionByte (e .notion)) (e .count) (e .pending) (e .waits) (c .before .before .before .before .before .before .before .before .before .before .before .before .before .before .before .before .before .before .before .before .before .before .before .before .before .pre) (estimator-length (e .estimator) (sized .estimator)) (c .before .before .before .before .before .before .store16 .ensures .0) (c .before .before .store162 .ensures .0)
-    (c .before .before .before .before .before .before .before .before .before .before .before .before .before .before .before .before .before .before .before .write-estimator .ensures .1) (c .before .before .before .before .before .before .before .before .before .before .before .before .before .before .put .ensures ∙ rw (c .before .before .before .before .before .before .before .before .before .before .before .before .before .before .before .notion-byte .ensures)) (c .before .before .before .before .before .before .before .before .before .before .put2 .ensures) (c .before .before .before .before .before .before .store16 .ensures .1) (c .before .before .store162 .ensures .1))
+    let sized : EnforcerSized e = record { estimator = c .before .before .before .before .before .before .before .before .before .before .before .before .before .before .before .before .before .before .before .write-estimator .ensures .0; pending = c .before .before .before .before .before .before .store16 .ensures .0; waits = c .before .before .store162 .ensures .0 } in (
+      sized,
+      wrote-enforcer (now (a .bytes)) _ _ _ _ _ (estimatorBytes (e .estimator)) (notionByte (e .notion)) (e .count) (e .pending) (e .waits) (c .before .before .before .before .before .before .before .before .before .before .before .before .before .before .before .before .before .before .before .before .before .before .before .before .before .pre) (estimator-length (e .estimator) (sized .estimator)) (c .before .before .before .before .before .before .store16 .ensures .0) (c .before .before .store162 .ensures .0)
+          (c .before .before .before .before .before .before .before .before .before .before .before .before .before .before .before .before .before .before .before .write-estimator .ensures .1) (c .before .before .before .before .before .before .before .before .before .before .before .before .before .before .put .ensures ∙ rw (c .before .before .before .before .before .before .before .before .before .before .before .before .before .before .before .notion-byte .ensures)) (c .before .before .before .before .before .before .before .before .before .before .put2 .ensures) (c .before .before .before .before .before .before .store16 .ensures .1) (c .before .before .store162 .ensures .1),
+    )
 
 pub write-enforcer-spec : {M : Type 1} → statement M
 write-enforcer-spec =

@@ -20,8 +20,7 @@ same-length c = search needs
 returns : tie.Need-returns
 returns c =
     let a = c .before .before .before .before .before .before .before .before .before .before .before .before .before .before .before .args in
-    let e = a .estimator in
-    (
+    let e = a .estimator in (
       record { events = c .before .before .before .before .before .before .before .store15 .ensures .0; entries = c .before .before .store-words .ensures .0; words = c .before .before .store-words .ensures .1 },
       wrote-estimator (now (a .bytes)) _ _ _ (e .count) (e .events) (e .entries) (c .before .before .before .before .before .before .before .store15 .ensures .0) (c .before .before .before .before .before .before .before .before .before .before .before .before .put .ensures) (c .before .before .before .before .before .before .before .store15 .ensures .1) (c .before .before .store-words .ensures .2),
     )

@@ -1,20 +1,13 @@
 -- `log_output::gather` meets its contract.
-use borrow.Author.Needs.{needs}
-use native.Mathlib.Omega.{arith}
-use Prim.Native.Nat.{_≤_, _-_}
-use mathlib.Core.Path.{_≡_, subst}
+use mathlib.Core.Path.{_≡_, sym, _∙_}
 use mathlib.Core.Logic.{inl, inr}
+use Prim.Native.Nat.{_≤_, _-_}
 use lib.ListN.{length}
-use Rattle.log_output.specs.declared.Fetched.{Fetched}
-use Rattle.log_output.specs.Feeding.{Brought}
-use Rattle.log_output.proofs.Fetching.{some-least, opens-by}
+use native.Mathlib.Omega.{arith}
+use borrow.Author.Needs.{needs}
+use Rattle.log_output.proofs.Fetching.{is-there, opens-by, gathered-more, gathered-all}
 use Rattle.log_output.proofs.gather.Statement.{statement}
 use Rattle.log_output.proofs.gather.Tie as tie
-use Rattle.log_output.proofs.gather.Reads as reads
-use Rattle.log_output.proofs.gather.Lts as lts
-use Rattle.log_output.proofs.fetch.Reads as fetch-reads
-use Rattle.log_output.proofs.least.Reads as least-reads
-use Rattle.monitor.proofs.has_event.Reads as has-event-reads
 
 abbrev Inv-loop : tie.InvT-loop
 Inv-loop input₀ size piece have₀ input have = (have ≤ length input) × (length input ≡ length input₀) × (have ≤ size)
@@ -61,35 +54,37 @@ part-fetch-end c = search needs
 fetch-requires : tie.Need-fetch-requires Inv-loop μ-loop
 fetch-requires c κs = search needs
 
+gathering-requires : tie.Need-gathering-requires Inv-loop μ-loop
+gathering-requires c κs =
+    let fetched = c .before .before .fetch in
+    (omega arith, is-there (length (fetched .last .0)) (c .before .before .before .before .least .result) _ (fetched .result) (fetched .ensures) (omega arith))
+
 enum-known-n : tie.Need-enum-known-n Inv-loop μ-loop
 enum-known-n c = search needs
 
-sub-least-2 : tie.Need-sub-least-2 Inv-loop μ-loop
-sub-least-2 c = search needs
-
-least-requires-2 : tie.Need-least-requires-2 Inv-loop μ-loop
-least-requires-2 c κs = search needs
-
-add-have : tie.Need-add-have Inv-loop μ-loop
-add-have c = search needs
-
 loop-less : tie.Need-loop-less Inv-loop μ-loop
-loop-less c = let b = subst (λ (r : Fetched). Brought (length (c .before .before .before .before .before .before .fetch .last .0)) (c .before .before .before .before .before .before .before .before .least .result) r) (c .before .before .n .given .1) (c .before .before .before .before .before .before .fetch .ensures) in omega (arith, some-least (c .least2 .ensures .2) (b .0) (omega arith))
+loop-less c =
+    let more = gathered-more (c .before .before .before .before .before .before .fetch .result) (c .before .before .before .before .before .before .before .before .before .before .before .before .before .before .loop .have) (c .before .n .given .0 .0) (length (c .before .before .before .before .before .before .fetch .last .0)) (c .before .before .before .before .before .before .before .before .least .result) (sym (c .before .before .before .gathering .ensures) ∙ c .before .n .given .1) (c .before .before .before .before .before .before .fetch .ensures) in
+    omega (arith, more .0, more .1)
 
 loop-again : tie.Need-loop-again Inv-loop μ-loop
-loop-again c = let b = subst (λ (r : Fetched). Brought (length (c .before .before .before .before .before .before .fetch .last .0)) (c .before .before .before .before .before .before .before .before .least .result) r) (c .before .before .n .given .1) (c .before .before .before .before .before .before .fetch .ensures) in omega (arith, b .2, c .before .before .before .before .before .before .before .before .least .ensures .1)
+loop-again c =
+    let more = gathered-more (c .before .before .before .before .before .before .fetch .result) (c .before .before .before .before .before .before .before .before .before .before .before .before .before .before .loop .have) (c .before .n .given .0 .0) (length (c .before .before .before .before .before .before .fetch .last .0)) (c .before .before .before .before .before .before .before .before .least .result) (sym (c .before .before .before .gathering .ensures) ∙ c .before .n .given .1) (c .before .before .before .before .before .before .fetch .ensures) in
+    (omega (arith, more .1), search needs, omega (arith, more .2, c .before .before .before .before .before .before .before .before .least .ensures .1))
 
-enum-told : tie.Need-enum-told Inv-loop μ-loop
-enum-told c = search needs
+enum-known-n-2 : tie.Need-enum-known-n-2 Inv-loop μ-loop
+enum-known-n-2 c = search needs
 
 same-length-2 : tie.Need-same-length-2 Inv-loop μ-loop
 same-length-2 c = search needs
 
 returns-2 : tie.Need-returns-2 Inv-loop μ-loop
-returns-2 c = search needs
+returns-2 c =
+    let same = gathered-all (c .before .before .before .before .before .before .fetch .result) (c .before .before .before .before .before .before .before .before .before .before .before .before .before .before .loop .have) (c .before .n2 .given .0 .0) (sym (c .before .before .before .gathering .ensures) ∙ c .before .n2 .given .1) in
+    (omega (arith, same), omega (arith, same))
 
-enum-told-2 : tie.Need-enum-told-2 Inv-loop μ-loop
-enum-told-2 c = search needs
+enum-told : tie.Need-enum-told Inv-loop μ-loop
+enum-told c = search needs
 
 same-length-3 : tie.Need-same-length-3 Inv-loop μ-loop
 same-length-3 c = search needs
@@ -122,16 +117,14 @@ gather-spec =
     part-fetch-start
     part-fetch-end
     fetch-requires
+    gathering-requires
     enum-known-n
-    sub-least-2
-    least-requires-2
-    add-have
     loop-less
     loop-again
-    enum-told
+    enum-known-n-2
     same-length-2
     returns-2
-    enum-told-2
+    enum-told
     same-length-3
     returns-3
     same-length-4

@@ -1,15 +1,12 @@
--- `log_output::monitor_input` meets its contract.
+-- `log_output::monitor_input` meets its contract: its first bytes are there, and it runs.
 use mathlib.Core.Path.{subst}
 use native.Mathlib.Omega.{arith}
-use Rattle.log_output.specs.declared.Gathered.{Gathered}
-use Rattle.log_output.specs.Feeding.{UpTo}
 use borrow.Author.Needs.{needs}
+use Rattle.log_output.specs.declared.Gathered.{Gathered}
+use Rattle.log_output.specs.Feeding.{UpTo, unread}
+use Rattle.log_output.proofs.Fetching.{runs}
 use Rattle.log_output.proofs.monitor_input.Statement.{statement}
 use Rattle.log_output.proofs.monitor_input.Tie as tie
-use Rattle.log_output.proofs.monitor_input.Reads as reads
-use Rattle.log_output.proofs.monitor_input.Lts as lts
-use Rattle.log_output.proofs.gather.Reads as gather-reads
-use Rattle.log_output.proofs.run.Reads as run-reads
 
 gather-requires : tie.Need-gather-requires
 gather-requires c κs = search needs
@@ -18,19 +15,19 @@ enum-known-n : tie.Need-enum-known-n
 enum-known-n c = search needs
 
 sub-run : tie.Need-sub-run
-sub-run c = let g = subst (λ (r : Gathered). UpTo ((c .before .before .before .before .before .before .before .gather .last .0)) (c .before .before .before .before .before .before .before .before .before .before .before .args .size) r) (c .before .before .before .n .given .1) (c .before .before .before .before .before .before .before .gather .ensures) in omega (arith, g .1)
+sub-run c = let g = subst (λ (r : Gathered). UpTo (c .before .before .before .before .before .before .before .gather .last .0) (c .before .before .before .before .before .before .before .before .before .before .before .args .size) r) (c .before .before .before .n .given .1) (c .before .before .before .before .before .before .before .gather .ensures) in omega (arith, g .1)
 
 run-requires : tie.Need-run-requires
-run-requires c κs = let g = subst (λ (r : Gathered). UpTo ((c .before .before .before .before .before .before .before .gather .last .0)) (c .before .before .before .before .before .before .before .before .before .before .before .args .size) r) (c .before .before .before .n .given .1) (c .before .before .before .before .before .before .before .gather .ensures) in g .0
+run-requires c κs = let g = subst (λ (r : Gathered). UpTo (c .before .before .before .before .before .before .before .gather .last .0) (c .before .before .before .before .before .before .before .before .before .before .before .args .size) r) (c .before .before .before .n .given .1) (c .before .before .before .before .before .before .before .gather .ensures) in g .0
 
 enum-known-n-2 : tie.Need-enum-known-n-2
 enum-known-n-2 c = search needs
 
 sub-run-2 : tie.Need-sub-run-2
-sub-run-2 c = let g = subst (λ (r : Gathered). UpTo ((c .before .before .before .before .before .before .before .gather .last .0)) (c .before .before .before .before .before .before .before .before .before .before .before .args .size) r) (c .before .before .before .n2 .given .1) (c .before .before .before .before .before .before .before .gather .ensures) in omega (arith, g .1)
+sub-run-2 c = let g = subst (λ (r : Gathered). UpTo (c .before .before .before .before .before .before .before .gather .last .0) (c .before .before .before .before .before .before .before .before .before .before .before .args .size) r) (c .before .before .before .n2 .given .1) (c .before .before .before .before .before .before .before .gather .ensures) in omega (arith, g .1)
 
 run-requires-2 : tie.Need-run-requires-2
-run-requires-2 c κs = let g = subst (λ (r : Gathered). UpTo ((c .before .before .before .before .before .before .before .gather .last .0)) (c .before .before .before .before .before .before .before .before .before .before .before .args .size) r) (c .before .before .before .n2 .given .1) (c .before .before .before .before .before .before .before .gather .ensures) in g .0
+run-requires-2 c κs = let g = subst (λ (r : Gathered). UpTo (c .before .before .before .before .before .before .before .gather .last .0) (c .before .before .before .before .before .before .before .before .before .before .before .args .size) r) (c .before .before .before .n2 .given .1) (c .before .before .before .before .before .before .before .gather .ensures) in g .0
 
 enum-told : tie.Need-enum-told
 enum-told c = search needs
@@ -42,7 +39,9 @@ same-length-2 : tie.Need-same-length-2
 same-length-2 c = search needs
 
 returns : tie.Need-returns
-returns c = search needs
+returns c =
+    let g = subst (λ (r : Gathered). UpTo (c .before .before .before .before .before .before .before .before .before .before .before .before .gather .last .0) (c .before .before .before .before .before .before .before .before .before .before .before .before .before .before .before .before .args .size) r) (c .before .before .before .before .before .before .before .before .n .given .1) (c .before .before .before .before .before .before .before .before .before .before .before .before .gather .ensures) in
+    runs (c .before .before .before .before .before .before .before .before .before .before .before .before .gather .last .0) (g .0) (g .1) (c .before .before .before .before .run .ensures)
 
 same-length-3 : tie.Need-same-length-3
 same-length-3 c = search needs
@@ -51,13 +50,15 @@ same-length-4 : tie.Need-same-length-4
 same-length-4 c = search needs
 
 returns-2 : tie.Need-returns-2
-returns-2 c = search needs
+returns-2 c =
+    let g = subst (λ (r : Gathered). UpTo (c .before .before .before .before .before .before .before .before .before .before .before .before .gather .last .0) (c .before .before .before .before .before .before .before .before .before .before .before .before .before .before .before .before .args .size) r) (c .before .before .before .before .before .before .before .before .n2 .given .1) (c .before .before .before .before .before .before .before .before .before .before .before .before .gather .ensures) in
+    runs (c .before .before .before .before .before .before .before .before .before .before .before .before .gather .last .0) (g .0) (g .1) (c .before .before .before .before .run2 .ensures)
 
 same-length-5 : tie.Need-same-length-5
 same-length-5 c = search needs
 
 returns-3 : tie.Need-returns-3
-returns-3 c = search needs
+returns-3 c = unread
 
 pub monitor-input-spec : {M : Type 1} → statement M
 monitor-input-spec =

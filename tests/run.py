@@ -1,15 +1,19 @@
 """Random logs against a built log program: `python3 tests/run.py --program target/bin/opacity_log --count 2000 --seed 1`.
 
-Each log's output is compared with what the lister expects. The first mismatch is printed, with what is needed to repeat it, and the exit
-status is 1.
+Each log's output is compared with what the lister expects, some of them in pieces. Before them come what no file can show: a live feed, whose lines
+have to come with their events, the first bytes one by one, and reads and writes that fail. The first mismatch is printed, with what is needed to
+repeat it, and the exit status is 1.
 """
 
 import argparse
+import os
 import random
+import select
 import subprocess
 import sys
 import time
 
+from examples import EXAMPLES
 from generate import random_log, random_trace, with_length
 from logs import encoded, output
 from runs import Automaton
@@ -46,6 +50,58 @@ def printed_slowly(program, log, pieces):
         return out.decode("ascii", "replace"), process.wait(timeout=60)
 
 
+def line_of(process, seconds=5):
+    """The next line that the program prints, or what came of it in so many seconds."""
+    line = b""
+    while not line.endswith(b"\n"):
+        if not select.select([process.stdout], [], [], seconds)[0]:
+            break
+        byte = os.read(process.stdout.fileno(), 1)
+        if not byte:
+            break
+        line += byte
+    return line.decode("ascii", "replace")
+
+
+def live_feed(program):
+    """A live feed of each example, byte by byte: an event's line comes before the next event. Says what is wrong, or nothing."""
+    for automaton, events, expected in EXAMPLES:
+        lines = expected.splitlines(keepends=True)
+        if not events or lines[0].startswith("refused"):
+            continue
+        with subprocess.Popen([program], stdin=subprocess.PIPE, stdout=subprocess.PIPE, bufsize=0) as process:
+            for byte in with_length(encoded(automaton), b""):
+                process.stdin.write(bytes([byte]))
+                time.sleep(0.0005)
+            for event, line in zip(events, lines):
+                process.stdin.write(bytes([event]))
+                got = line_of(process)
+                if got != line:
+                    process.kill()
+                    return f"live feed, event {event}: expected {line!r}, printed {got!r}"
+            process.stdin.close()
+            if line_of(process) != lines[-1]:
+                return "live feed: the last line is not as expected"
+    return None
+
+
+def failures(program):
+    """A read that fails, and writes that do: each has its words, and there is no last line. Says what is wrong, or nothing."""
+    automaton, events, _ = EXAMPLES[0]
+    log = with_length(encoded(automaton), bytes(events))
+    folder = os.open("/", os.O_RDONLY)
+    done = subprocess.run([program], stdin=folder, stdout=subprocess.PIPE, stderr=subprocess.PIPE, timeout=60, check=False)
+    os.close(folder)
+    if (done.stdout, done.stderr, done.returncode) != (b"", b"read failed\n", 0):
+        return f"a folder as input: {done}"
+    for name, data in (("a log", log), ("a refused log", log[:5])):
+        with open("/dev/full", "wb") as full:
+            done = subprocess.run([program], input=data, stdout=full, stderr=subprocess.PIPE, timeout=60, check=False)
+        if (done.stderr, done.returncode) != (b"write failed\n", 0):
+            return f"{name} to a full device: {done}"
+    return None
+
+
 def mismatch(program, log, expected, pieces):
     """Says in which way the program's output differs from what is expected, or nothing."""
     got, status = printed(program, log) if pieces == 1 else printed_slowly(program, log, pieces)
@@ -61,6 +117,10 @@ def main():
     words.add_argument("--count", type=int, default=2000)
     words.add_argument("--seed", type=int, default=1)
     chosen = words.parse_args()
+    found = live_feed(chosen.program) or failures(chosen.program)
+    if found:
+        print(found)
+        return 1
     lines = 0
     for i in range(-1, chosen.count):
         rng = random.Random(f"{chosen.seed} {i}")
@@ -70,7 +130,7 @@ def main():
             print(f"seed {chosen.seed}, log {i}: mismatch\n{found}")
             return 1
         lines += expected.count("\n")
-    print(f"seed {chosen.seed}: {chosen.count} random logs and a long one, {lines} lines, 0 mismatches")
+    print(f"seed {chosen.seed}: {chosen.count} random logs and a long one, {lines} lines, 0 mismatches; a live feed and failures as expected")
     return 0
 
 

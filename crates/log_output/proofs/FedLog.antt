@@ -282,7 +282,7 @@ full (closed less) e c = less
 opened-event : {first t : List ℕ} {h : Header} {m : Monitor} {n : ℕ} → Opening first (started n) t h m → frontSize first < length first
 opened-event (opening.opened event decodes fresh) = event
 
-module _ {first out : List ℕ} {size : ℕ} {out′ : List ℕ} (r : Ran first out size out′) (room : 256 ≤ length out) where
+module _ {first out : List ℕ} {size : ℕ} {out′ : List ℕ} {over : ℕ} (r : Ran first out size out′ over) (room : 256 ≤ length out) where
   -- the last line was put, or the output took no more
   ended-behind : {n : ℕ} {m : Monitor} → Opening first (started n) (r .begun .table) (r .begun .header) m
       → Followed (r .begun .table) (r .begun .header) (begun m) (drop n first) out (r .begun .progress) (r .out₁) → r .rest .progress .status ≡ Ended

@@ -148,5 +148,6 @@ limits p size {a} {r} e h k c = record { allowed = omega arith; there = k; reach
     go (inr x) = inr x
 
 -- a log whose first bytes were gathered
-pub runs : (input : List ℕ) {n size : ℕ} {out out′ : List ℕ} → n ≤ length input → n ≤ size → Ran (take (n - 0) input) out (size - n) out′ → Monitors size out out′
+pub runs : (input : List ℕ) {n size : ℕ} {out out′ : List ℕ} {over : ℕ} → n ≤ length input → n ≤ size → Ran (take (n - 0) input) out (size - n) out′ over
+    → Monitors size out over out′
 runs input {n} h few r = let z : n - 0 ≡ n = omega arith in ran (ap (λ (k : ℕ). length (take k input)) z ∙ length-take-le n input h) few r

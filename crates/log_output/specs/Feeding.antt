@@ -102,8 +102,8 @@ pub record Limit (p : Progress) (size limit : ℕ) : Type 0 where
   pub there : limit ≤ size
   pub reached : (limit ≡ 4294967295 - p .monitor .offered) ⊎ (limit ≡ size)
 
--- a log whose first bytes are there: it begins, is read on up to its limit, and ends
-pub record Ran (log out : List ℕ) (size : ℕ) (out′ : List ℕ) : Type 0 where
+-- a log whose first bytes are there: it begins, is read on up to its limit, and ends; and how many of its bytes were not read
+pub record Ran (log out : List ℕ) (size : ℕ) (out′ : List ℕ) (over : ℕ) : Type 0 where
   pub begun : Monitored
   pub out₁ : List ℕ
   pub begins : Begins log out begun out₁
@@ -113,9 +113,10 @@ pub record Ran (log out : List ℕ) (size : ℕ) (out′ : List ℕ) : Type 0 wh
   pub out₂ : List ℕ
   pub fed : Fed (begun .table) (begun .header) limit (begun .progress) out₁ rest out₂
   pub finished : Finished (rest .progress .status) (rest .progress) out₂ out′
+  pub not-read-on : over ≡ size - (limit - rest .left)
 
 -- how a log that ran was left
-pub data LeftBehind {first out : List ℕ} {size : ℕ} {out′ : List ℕ} (r : Ran first out size out′) : Type 0 where
+pub data LeftBehind {first out : List ℕ} {size : ℕ} {out′ : List ℕ} {over : ℕ} (r : Ran first out size out′ over) : Type 0 where
   -- it was refused: its one line, up to its end, is the output of every input that begins so
   one-line : {n : Refusal} (l : RefusalLine n out (r .out₁)) → out′ ≡ r .out₁ → ((input : List ℕ) → Front first input → HasPrinted input (r .out₁) (placeOf (l .line) 0))
       → LeftBehind r
@@ -127,7 +128,7 @@ pub data LeftBehind {first out : List ℕ} {size : ℕ} {out′ : List ℕ} (r :
   not-written : r .rest .progress .status ≡ Closed → out′ ≡ r .out₂ → LeftBehind r
   no-last : (r .rest .progress .at + 256 ≤ length (r .out₂) → ⊥) → out′ ≡ r .out₂ → LeftBehind r
 
--- all of a log of at most so many bytes: its first bytes are there, and it runs; or a read failed among them, and nothing is written
-pub data Monitors (size : ℕ) (out : List ℕ) : List ℕ → Type 0 where
-  ran : {first out′ : List ℕ} {n : ℕ} → length first ≡ n → n ≤ size → Ran first out (size - n) out′ → Monitors size out out′
-  unread : Monitors size out out
+-- all of a log of at most so many bytes: its first bytes are there, and it runs; or a read failed among them, and nothing is written. And how many were not read
+pub data Monitors (size : ℕ) (out : List ℕ) : ℕ → List ℕ → Type 0 where
+  ran : {first out′ : List ℕ} {n over : ℕ} → length first ≡ n → n ≤ size → Ran first out (size - n) out′ over → Monitors size out over out′
+  unread : Monitors size out 0 out

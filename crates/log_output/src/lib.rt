@@ -478,7 +478,7 @@ fn gather(input: &mut [u8], size: usize, piece: usize) -> Gathered
 // A log whose first `n` bytes are there, and at most `size` more. It says how many of them were not read.
 fn run(input: &mut [u8], n: usize, out: &mut [u8], size: usize, piece: usize) -> usize
     requires { ⌜ n ≤ length (now input) ⌝ }
-    ensures { λ r. ⌜ Ran (take (n - 0) (now (input .entry))) (now (out .entry)) size (now (out .exit)) ⌝ }
+    ensures { λ r. ⌜ Ran (take (n - 0) (now (input .entry))) (now (out .entry)) size (now (out .exit)) r ⌝ }
 {
     let monitored = start(&input[0..n], out);
     let table = monitored.table;
@@ -492,7 +492,10 @@ fn run(input: &mut [u8], n: usize, out: &mut [u8], size: usize, piece: usize) ->
     unread(size, limit, rest.left)
 }
 
-fn unread(size: usize, limit: usize, left: usize) -> usize {
+// How many of `size` bytes are left, where of the first `limit` of them `left` are.
+fn unread(size: usize, limit: usize, left: usize) -> usize
+    ensures { λ r. ⌜ r ≡ size - (limit - left) ⌝ }
+{
     if limit < left {
         return size;
     }
@@ -504,7 +507,7 @@ fn unread(size: usize, limit: usize, left: usize) -> usize {
 
 // A log on standard input: at most `size` bytes, in reads of at most `piece` bytes. It says how many were not read.
 pub fn monitor_input(input: &mut [u8], out: &mut [u8], size: usize, piece: usize) -> usize
-    ensures { λ _. ⌜ Monitors size (now (out .entry)) (now (out .exit)) ⌝ }
+    ensures { λ r. ⌜ Monitors size (now (out .entry)) r (now (out .exit)) ⌝ }
 {
     match gather(input, size, piece) {
         Gathered::Bytes(n) => run(input, n, out, size - n, piece),
@@ -514,8 +517,8 @@ pub fn monitor_input(input: &mut [u8], out: &mut [u8], size: usize, piece: usize
 }
 
 // A log on standard input, all of it: what the log program runs. The longest length and encoding take 65,537 bytes, and there is room for an event behind them.
-pub fn monitor_log(input: &mut [u8; 131072], out: &mut [u8; 65536])
-    ensures { λ _. ⌜ Monitors 18446744073709551615 (now (out .entry)) (now (out .exit)) ⌝ }
+pub fn monitor_log(input: &mut [u8; 131072], out: &mut [u8; 65536]) -> usize
+    ensures { λ r. ⌜ Monitors 18446744073709551615 (now (out .entry)) r (now (out .exit)) ⌝ }
 {
-    monitor_input(input, out, usize::MAX, 131072);
+    monitor_input(input, out, usize::MAX, 131072)
 }

@@ -13,6 +13,7 @@ from generate import any_bytes, flipped_bits, further_bytes, out_of_range, paddi
 from logs import encoded
 from runs import Automaton, Listing, TooManyRuns
 from saved import WORDS, estimator_bytes, header_of, table_of
+from stored import store
 
 RANDOM, DAMAGED, OPEN = 150, 80, 40
 SEED = 5
@@ -456,16 +457,5 @@ def stored():
     return {"stdin": "".join(line + "\n" for line in calls.lines).encode(), "stdout": "".join(line + "\n" for line in calls.printed).encode()}
 
 
-def main():
-    """Writes the files, or compares them."""
-    files = stored()
-    if "--check" in sys.argv[1:]:
-        return int(any((FOLDER / name).read_bytes() != data for name, data in files.items()))
-    for name, data in files.items():
-        (FOLDER / name).write_bytes(data)
-        print(f"{name}: {data.count(10)} lines, {len(data)} bytes")
-    return 0
-
-
 if __name__ == "__main__":
-    sys.exit(main())
+    sys.exit(store(FOLDER, stored()))

@@ -12,6 +12,7 @@ from examples import ENCODINGS, EXAMPLES, P_ENCODING
 from generate import random_log, with_length
 from logs import encoded, output
 from runs import Automaton
+from stored import store
 
 RANDOM = 220
 SEED = 4
@@ -55,20 +56,14 @@ def logs():
         yield random_log(random.Random(f"{SEED} {i}"))[0]
 
 
-def main():
-    """Writes the files, or compares them."""
-    sample = list(logs())
-    files = {
-        "stdin": b"".join(bytes((len(log) // 256, len(log) % 256)) + log for log in sample),
-        "stdout": "".join(output(log) for log in sample).encode("ascii"),
+def sample():
+    """The files: each log behind its length, and what all of them print."""
+    listed = list(logs())
+    return {
+        "stdin": b"".join(bytes((len(log) // 256, len(log) % 256)) + log for log in listed),
+        "stdout": "".join(output(log) for log in listed).encode("ascii"),
     }
-    if "--check" in sys.argv[1:]:
-        return int(any((FOLDER / name).read_bytes() != data for name, data in files.items()))
-    for name, data in files.items():
-        (FOLDER / name).write_bytes(data)
-    print(f"{len(sample)} logs, {len(files['stdin'])} bytes, {files['stdout'].count(10)} lines")
-    return 0
 
 
 if __name__ == "__main__":
-    sys.exit(main())
+    sys.exit(store(FOLDER, sample()))

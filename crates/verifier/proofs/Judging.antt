@@ -21,7 +21,7 @@ use Rattle.verifier.specs.declared.Estimator.{Estimator}
 use Rattle.verifier.specs.Verdicts.{Steps, none, leak, stepsOf, Tells}
 use Rattle.verifier.specs.Estimators.{Grown}
 use Rattle.verifier.specs.Replies.{refused, said, refused-by, verdict, saidBy, chosen, Bounded, Exact, Accepting, accepted, Moved, TellsBy, AcceptingBy, turned-back, accepted-by}
-use Rattle.verifier.specs.Inner.{Near, Found, Asks, askFor, Given, Judged, GivenBy, AcceptingAsked}
+use Rattle.verifier.specs.Inner.{Near, Found, Asks, askFor, Given, Judged, AcceptingAsked}
 use Rattle.verifier.specs.declared.Reply.{Reply}
 use Rattle.verifier.specs.declared.Asked.{Asked}
 use Rattle.verifier.specs.declared.Answer.{Answer}
@@ -73,9 +73,8 @@ found-by notion t h self event s v m f =
       tells = λ trace g. found-tells notion _ _ _ (trace ++ event ∷ []) s v (m .grown trace g) f;
     }
 
-pub given-by : (notion : Notion) (t : List ℕ) (h : Header) (self : Estimator) (event : ℕ) (s : Estimator) (a : Asked) (v : Verdict) → Moved t h self event s
-    → Given t h s a notion v → GivenBy notion t h self event a v
-given-by notion t h self event s a v m g = record { found = λ asks. found-by notion t h self event s v m (g .found asks); silent = g .silent }
+pub given-by : {notion : Notion} {a : Asked} {v : Verdict} {P Q : Type 0} → (P → Q) → Given notion a v P → Given notion a v Q
+given-by f g = record { found = λ asks. f (g .found asks); silent = g .silent }
 
 -- a refusal
 pub refused-asked : (a : Asked) (t : List ℕ) (h : Header) (self : Estimator) (event : ℕ) (refusal : Refusal) (r : Reply) → r .estimator ≡ self → r .answer ≡ answer.Refused refusal

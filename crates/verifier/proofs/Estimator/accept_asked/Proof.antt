@@ -13,7 +13,7 @@ use Rattle.automaton.proofs.Entering.{gained-closed, known-none, known-more}
 use Rattle.verifier.specs.Estimators.{Limits}
 use Rattle.verifier.specs.Replies.{Accepting, not-observable, incompatible, Moved}
 use Rattle.verifier.specs.Inner.{Next, Near}
-use Rattle.verifier.proofs.Judging.{grown-entry, near-gained, given-by, refused-asked}
+use Rattle.verifier.proofs.Judging.{grown-entry, near-gained, found-by, given-by, refused-asked}
 use Rattle.verifier.proofs.Estimator.accept_asked.Statement.{statement}
 use Rattle.verifier.proofs.Estimator.accept_asked.Tie as tie
 
@@ -146,7 +146,7 @@ returns-4 c =
           let x = subst (Next _ _ _) (k .before .next .given .1) (k .before .before .before .next-estimate .ensures) trace (grown-entry _ _ trace _ g) in
           after .1 _ trace g (x .0) (x .1);
     } in
-    (moved, λ notion. given-by notion _ _ _ _ _ _ _ moved (c .judge .ensures notion))
+    (moved, λ notion. given-by (found-by notion _ _ _ _ _ _ moved) (c .judge .ensures notion))
 
 pub accept-asked-spec : {M : Type 1} → statement M
 accept-asked-spec =

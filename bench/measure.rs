@@ -181,6 +181,16 @@ pub fn measure_library(job: Job, case: &Case, least: &mut Least) {
     }
 }
 
+/// Nanoseconds in which (a) decodes an automaton.
+pub fn measure_decoding(automaton: &Automaton, encoding: &[u8]) -> Least {
+    let mut library = Library::new(automaton);
+    let mut least = Least::NEW;
+    for _ in 0..ROUNDS * REPETITIONS {
+        least.time(1, || assert_eq!(black_box(&mut library).call_decode(&library::PROVED, black_box(encoding)), 0, "decode"));
+    }
+    least
+}
+
 /// (a) alone, accept and offer, on a trace that is too long to be passed undisturbed: the best of each piece of it is kept, and their mean counts.
 pub struct Long {
     pub trace: Vec<u8>,

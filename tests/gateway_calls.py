@@ -9,7 +9,10 @@ import sys
 
 from calls import Calls
 from examples import ALL_SECRET, CORNERS, NONE_SECRET, ONE, P, P0, P1, P_ENCODING, Q, Q_ENCODING, STRONG_ONLY, T, U
-from generate import any_bytes, flipped_bits, further_bytes, out_of_range, padding_bits, random_automaton, random_events, reserved_bit, short_encoding
+from generate import (
+    any_bytes, flipped_bits, further_bytes, many_transitions, out_of_range, padding_bits, random_automaton, random_events, repeated,
+    repeated_and_damaged, reserved_bit, short_encoding, with_repeat, with_transitions,
+)
 from logs import encoded
 from runs import Automaton, Listing, TooManyRuns
 from saved import WORDS, estimator_bytes, header_of, table_of
@@ -22,6 +25,8 @@ FOLDER = pathlib.Path(__file__).resolve().parent.parent / "crates" / "gateway_ca
 # what is lent to be written over: bytes that no function writes, and for an output a different one in each place
 HEADER, ESTIMATOR, VERDICTS, ENFORCER, RELEASED = b"\xee" * 14, b"\xee" * 144, b"\xee" * 2, b"\xee" * 178, b"\xee"
 OUTPUT = bytes(range(0xA0, 0xB1))
+# the longest encoding there is: 1,023 different transitions, the last with every bit 1
+LONGEST = Automaton(63, 31, 15, 63, set(range(64)), set(range(32)), many_transitions(random.Random("longest"), 1022) + [(63, 31, 63)])
 SIZES = {"header": 14, "estimator": 144, "verdicts": 2, "enforcer": 178, "released": 1}
 
 
@@ -49,7 +54,7 @@ def decodings(calls):
     calls.put_table([1] + [0] * (WORDS - 2) + [7])
     calls.put(header=HEADER)
     q, smallest = Q_ENCODING, bytes((0, 0, 0, 0, 0xC0))
-    longest = changed(changed(b"\xff" * 2190, 3, 0xFE), 2189, 0xFE)
+    longest = encoded(LONGEST)
     damaged = [changed(q, at, byte) for at, byte in ((8, 0x05), (3, 0x05), (2, 0x18), (5, 0x61), (5, 0x02), (6, 0x0C))]
     damaged += [q[:8], q + b"\0", changed(q, 2, 0x18)[:3], q[:7] + b"\x00\x82", q[:7] + b"\x00\x84"]
     for data in [P_ENCODING[:15], b"", P_ENCODING, q] + damaged:
@@ -70,9 +75,30 @@ def decodings(calls):
         calls.decode()
 
 
+def repeats(calls):
+    """Transitions that are listed twice."""
+    calls.say("decode: one transition 1,023 times; cut behind the second, and inside it")
+    ones = changed(changed(b"\xff" * 2190, 3, 0xFE), 2189, 0xFE)
+    listed = [ones, ones[:21], ones[:20]]
+    for first in range(5):
+        listed += [encoded(with_repeat(P, first, distance)) for distance in range(1, 6 - first)]
+    for data in listed:
+        calls.put(encoding=data, header=HEADER)
+        calls.decode()
+    calls.say("the longest encoding, whose last transition is its first, its second, and the one before it")
+    for first in (0, 1, 1021):
+        calls.put(encoding=encoded(with_transitions(LONGEST, LONGEST.transitions[:1022] + [LONGEST.transitions[first]])))
+        calls.decode()
+    calls.say("P with another from, event or to: no repeat")
+    for near in ((1, 1, 3), (2, 2, 3), (2, 1, 2)):
+        calls.put(encoding=encoded(with_transitions(P, P.transitions + [near])))
+        calls.decode()
+
+
 def random_decodings(calls):
     """Random encodings, whole and damaged."""
     damages = (reserved_bit, padding_bits, further_bytes, short_encoding, flipped_bits, flipped_bits, out_of_range, any_bytes)
+    damages += (repeated, repeated_and_damaged)
     calls.say("decode: random encodings, whole and damaged")
     for i in range(DAMAGED):
         rng = random.Random(f"encoding {SEED} {i}")
@@ -441,6 +467,7 @@ def stored():
     calls = Calls()
     for part in (
         decodings,
+        repeats,
         verifiers,
         enforcers,
         refused_everywhere,

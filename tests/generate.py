@@ -5,7 +5,7 @@ from runs import Automaton, TooManyRuns
 
 
 def random_transitions(rng, states, used, events, unobservable):
-    """Transitions into the first `used` states: some from each state, and more of the kinds that matter."""
+    """Different transitions into the first `used` states: some from each state, and more of the kinds that matter."""
     transitions = []
     for source in range(states):
         for _ in range(rng.choice((0, 1, 1, 2, 2, 3))):
@@ -16,10 +16,14 @@ def random_transitions(rng, states, used, events, unobservable):
     if rng.random() < 0.3:  # one event that may lead anywhere
         source, event = rng.randrange(used), rng.randrange(events)
         transitions += [(source, event, target) for target in range(used)]
-    if transitions and rng.random() < 0.2:  # some are listed twice
-        transitions += rng.sample(transitions, rng.randrange(1, len(transitions) + 1))
+    transitions = list(dict.fromkeys(transitions))
     rng.shuffle(transitions)
     return transitions
+
+
+def many_transitions(rng, count):
+    """So many different transitions of 64 states and 32 events, in no order."""
+    return [(number // 2048, number // 64 % 32, number % 64) for number in rng.sample(range(64 * 32 * 64), count)]
 
 
 def random_automaton(rng):
@@ -134,6 +138,12 @@ def flipped_bits(rng, automaton, events):
     return with_length(bytes(encoding), events)
 
 
+def with_transitions(automaton, transitions, initial=None):
+    """The automaton with other transitions, which need not be different, and perhaps another initial state."""
+    first = automaton.initial if initial is None else initial
+    return Automaton(automaton.top_state, automaton.top_event, automaton.k, first, automaton.secret, automaton.observable, transitions)
+
+
 def out_of_range(rng, automaton, events):
     """A state or an event is above the top one, where its field has room for such a number."""
     initial, transitions = automaton.initial, [list(t) for t in automaton.transitions]
@@ -144,10 +154,34 @@ def out_of_range(rng, automaton, events):
         initial = number
     elif transitions:
         rng.choice(transitions)[place - 1] = number
-    changed = Automaton(
-        automaton.top_state, automaton.top_event, automaton.k, initial, automaton.secret, automaton.observable, [tuple(t) for t in transitions]
-    )
-    return with_length(encoded(changed), events)
+    return with_length(encoded(with_transitions(automaton, [tuple(t) for t in transitions], initial)), events)
+
+
+def with_repeat(automaton, first, distance):
+    """The automaton with one of its transitions listed a second time, so many places after the first."""
+    transitions = list(automaton.transitions)
+    transitions.insert(first + distance, transitions[first])
+    return with_transitions(automaton, transitions)
+
+
+def random_repeat(rng, automaton):
+    """The automaton with one of its transitions listed a second time, anywhere behind the first; without transitions as it is."""
+    count = len(automaton.transitions)
+    if not count:
+        return automaton
+    first = rng.randrange(count)
+    return with_repeat(automaton, first, rng.randrange(1, count - first + 1))
+
+
+def repeated(rng, automaton, events):
+    """A transition is listed twice."""
+    return with_length(encoded(random_repeat(rng, automaton)), events)
+
+
+def repeated_and_damaged(rng, automaton, events):
+    """A transition is listed twice, and the encoding is damaged anywhere, before the second or behind it."""
+    damage = rng.choice((padding_bits, further_bytes, wrong_length, short_encoding, flipped_bits, out_of_range, repeated))
+    return damage(rng, random_repeat(rng, automaton), events)
 
 
 def any_bytes(rng, automaton, events):
@@ -165,6 +199,9 @@ DAMAGES = (
     short_encoding,
     flipped_bits,
     out_of_range,
+    repeated,
+    repeated_and_damaged,
+    repeated_and_damaged,
     any_bytes,
 )
 

@@ -3,7 +3,7 @@
 from runs import Automaton, Listing
 
 TRUNCATED, RESERVED, STATE, EVENT, TRAILING, NOT_OBSERVABLE, INCOMPATIBLE, INITIAL_LEAK = range(1, 9)
-EMPTY_LOG = 11
+EMPTY_LOG, REPEATED = 11, 12
 
 
 class Refused(Exception):
@@ -64,7 +64,7 @@ def demand(condition, number):
 
 
 def decoded(data):
-    """The automaton of an encoding: fields in layout order, each with its own check after it."""
+    """The automaton of an encoding: fields in layout order, each with its own check after it, and none of the transitions twice."""
     fields = Fields(data)
     top_state, top_event, k = fields.field(6), fields.field(5), fields.field(4)
     initial = fields.field(6)
@@ -80,6 +80,7 @@ def decoded(data):
         demand(event <= top_event, EVENT)
         target = fields.field(6)
         demand(target <= top_state, STATE)
+        demand((source, event, target) not in transitions, REPEATED)
         transitions.append((source, event, target))
     fields.end()
     return Automaton(top_state, top_event, k, initial, secret, observable, transitions)

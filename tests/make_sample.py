@@ -9,7 +9,7 @@ import random
 import sys
 
 from examples import ENCODINGS, EXAMPLES, P_ENCODING
-from generate import random_log, with_length
+from generate import many_transitions, random_log, with_length, with_repeat, with_transitions
 from logs import encoded, output
 from runs import Automaton
 from stored import store
@@ -26,10 +26,8 @@ def longest_release():
 
 
 def largest():
-    """The longest encoding there is."""
-    rng = random.Random("largest")
-    transitions = [(rng.randrange(64), rng.randrange(32), rng.randrange(64)) for _ in range(1023)]
-    automaton = Automaton(63, 31, 1, 5, set(range(0, 60)), set(range(3, 32)), transitions)
+    """The longest encoding there is: 1,023 different transitions."""
+    automaton = Automaton(63, 31, 1, 5, set(range(0, 60)), set(range(3, 32)), many_transitions(random.Random("largest"), 1023))
     assert len(encoded(automaton)) == 2190
     return with_length(encoded(automaton), bytes(range(32)) + bytes((32, 255)))
 
@@ -38,6 +36,37 @@ def too_long():
     """One byte more than the longest encoding has."""
     log = largest()
     return with_length(log[2 : 2 + 2190] + b"\x00", b"\x01")
+
+
+def repeats():
+    """A transition that is listed twice, at every distance of 24 transitions; then what it is between, and what is wrong behind it."""
+    rng = random.Random("repeats")
+    automaton = Automaton(63, 31, 2, 0, {1}, set(range(1, 32)), many_transitions(rng, 24))
+    for distance in range(1, 24):
+        first = rng.randrange(25 - distance)
+        again = with_repeat(automaton, first, distance)
+        yield with_length(encoded(again), b"\x01")
+        second = first + distance
+        behind = 32 + 64 + 32 + 17 * (second + 1)  # the bit behind the second
+        yield with_length(encoded(again)[: -(-behind // 8)], b"\x01")
+        yield with_length(encoded(again)[: behind // 8], b"\x01")
+        yield with_length(encoded(again, padding=1) + b"\x00", b"\x01")
+    lower = Automaton(40, 20, 2, 0, {1}, set(range(1, 21)), [(s % 41, e % 21, t % 41) for s, e, t in many_transitions(rng, 12)])
+    assert len(set(lower.transitions)) == 12
+    for place in range(13):  # a transition out of range before the second of two, or behind it
+        for wrong in ((41, 0, 0), (0, 21, 0), (0, 0, 41)):
+            transitions = with_repeat(lower, 2, 5).transitions
+            transitions.insert(place, wrong)
+            yield with_length(encoded(with_transitions(lower, transitions)), b"\x01")
+
+
+def near_repeats():
+    """Transitions that differ from one in a single bit, before it and behind it: all are taken."""
+    number = 0b010110_01101_100101
+    others = [number ^ 1 << bit for bit in range(17)]
+    for numbers in (others + [number], [number] + others):
+        transitions = [(n // 2048, n // 64 % 32, n % 64) for n in numbers]
+        yield with_length(encoded(Automaton(63, 31, 1, 22, {37}, {13, 12, 15}, transitions)), bytes((13, 12, 15)))
 
 
 def logs():
@@ -52,6 +81,8 @@ def logs():
     yield longest_release()
     yield largest()
     yield too_long()
+    yield from repeats()
+    yield from near_repeats()
     for i in range(RANDOM):
         yield random_log(random.Random(f"{SEED} {i}"))[0]
 

@@ -1,8 +1,8 @@
 """Random logs against a built log program: `python3 tests/run.py --program target/bin/opacity_log --count 2000 --seed 1`.
 
 Each log's output is compared with what the lister expects, some of them in pieces. Before them come what no file can show: a live feed, whose lines
-have to come with their events, the first bytes one by one, and reads and writes that fail. The first mismatch is printed, with what is needed to
-repeat it, and the exit status is 1.
+have to come with their events, the first bytes one by one, and reads and writes that fail; and the longest encoding with a transition listed twice,
+at each of its 1,022 distances. The first mismatch is printed, with what is needed to repeat it, and the exit status is 1.
 """
 
 import argparse
@@ -14,7 +14,7 @@ import sys
 import time
 
 from examples import EXAMPLES
-from generate import random_log, random_trace, with_length
+from generate import many_transitions, random_log, random_trace, with_length, with_transitions
 from logs import encoded, output
 from runs import Automaton
 
@@ -102,6 +102,17 @@ def failures(program):
     return None
 
 
+def distances(program):
+    """The longest encoding, whose last transition is listed a second time, at every distance. Says what is wrong, or nothing."""
+    automaton = Automaton(63, 31, 15, 0, set(), set(range(32)), many_transitions(random.Random("distances"), 1023))
+    for first in range(1022):
+        again = with_transitions(automaton, automaton.transitions[:1022] + [automaton.transitions[first]])
+        got = printed(program, with_length(encoded(again), b"\x01"))
+        if got != ("refused 12\n", 0):
+            return f"the transition {first} of 1,023 again as the last: {got}"
+    return None
+
+
 def mismatch(program, log, expected, pieces):
     """Says in which way the program's output differs from what is expected, or nothing."""
     got, status = printed(program, log) if pieces == 1 else printed_slowly(program, log, pieces)
@@ -117,7 +128,7 @@ def main():
     words.add_argument("--count", type=int, default=2000)
     words.add_argument("--seed", type=int, default=1)
     chosen = words.parse_args()
-    found = live_feed(chosen.program) or failures(chosen.program)
+    found = live_feed(chosen.program) or failures(chosen.program) or distances(chosen.program)
     if found:
         print(found)
         return 1
@@ -130,7 +141,7 @@ def main():
             print(f"seed {chosen.seed}, log {i}: mismatch\n{found}")
             return 1
         lines += expected.count("\n")
-    print(f"seed {chosen.seed}: {chosen.count} random logs and a long one, {lines} lines, 0 mismatches; a live feed and failures as expected")
+    print(f"seed {chosen.seed}: {chosen.count} random logs and a long one, {lines} lines, 0 mismatches; a live feed, failures and repeats as expected")
     return 0
 
 

@@ -9,7 +9,7 @@ import sys
 
 from calls import elements
 from examples import ENCODINGS, EXAMPLES, OPENINGS, P, P_ENCODING, Q, Q_ENCODING
-from generate import random_automaton, random_trace, with_length
+from generate import random_automaton, random_trace, with_length, with_repeat, with_transitions
 from logs import encoded, output
 from runs import Listing, TooManyRuns
 from saved import grown_enforcer, grown_estimator, verdict_bytes
@@ -26,6 +26,16 @@ def test_examples():
         listing = Listing(automaton)
         assert (listing.weak(), listing.strong()) == (weak, strong)
         assert (listing.weak_safe(0), listing.strong_safe(0)) == (weak_safe, strong_safe)
+
+
+def test_repeats():
+    """S-1, by hand: P with any of its transitions a second time, anywhere behind the first, gets 12; behind a transition out of range its number."""
+    for first in range(5):
+        for distance in range(1, 6 - first):
+            assert output(with_length(encoded(with_repeat(P, first, distance)), b"\x01")) == "refused 12\n", (first, distance)
+    two = P.transitions[:2]
+    for transitions, number in ((two + two[:1] + [(3, 3, 3)], 12), (two + [(3, 3, 3)] + two[:1], 4), (two + [(3, 2, 4)] + two[:1], 3)):
+        assert output(with_length(encoded(with_transitions(P, transitions)), b"\x01")) == f"refused {number}\n", number
 
 
 def test_saved():
@@ -107,6 +117,7 @@ def test_merging(count, seed):
 
 if __name__ == "__main__":
     test_examples()
+    test_repeats()
     test_saved()
     compared = test_merging(400, 1)
     print(f"examples as expected, {compared} listings compared run by run")

@@ -9,7 +9,7 @@ ghost use mathlib.Core.Path.{_≡_};
 ghost use Prim.Native.Nat.{_+_, _*_, _≤_, _<_, _^_};
 ghost use lib.ListN.{length, replicate};
 ghost use Rattle.bitfields.specs.Bits.{bitsOf};
-ghost use Rattle.encoding.specs.Transitions.{transitionAt, transitionsAt};
+ghost use Rattle.encoding.specs.Transitions.{listed, transitionAt, transitionsAt};
 ghost use Rattle.encoding.specs.Encoding.{fixed, front, transition, transitions, ending, encoding};
 ghost use Rattle.encoding.specs.Table.{mark, tableOf};
 ghost use Rattle.encoding.specs.Answers.{fixedMeans, frontMeans, checkedMeans, encodingMeans, frontEnd, headerOf, FrontSmall};
@@ -156,6 +156,23 @@ fn check_transition(bytes: &[u8], at: usize, topstate: usize, topevent: usize) -
     Checked::Valid
 }
 
+// Whether transition `n` of those from `at` on is the same as an earlier one. The 17 bits of each are compared as one number.
+fn repeated(bytes: &[u8], at: usize, n: usize) -> bool
+    requires { ⌜ (at ≤ 1024) × (n ≤ 1023) × (at + n * 17 + 17 ≤ length (bitsOf (now bytes))) ⌝ }
+    ensures { λ r. ⌜ r ≡ listed (transitionAt (bitsOf (now (bytes .entry))) (at + n * 17)) (transitionsAt (bitsOf (now (bytes .entry))) at n) ⌝ }
+{
+    let last = bitfields::read_number(bytes, at + n * 17, 17);
+    let mut i: usize = 0;
+    while i < n {
+        if bitfields::read_number(bytes, at + i * 17, 17) == last {
+            return true;
+        }
+        i += 1;
+    }
+    false
+}
+
+// The transitions from `at` on, one after another: each with its own checks, and then against all before it.
 fn check_transitions(
     bytes: &[u8],
     at: usize,
@@ -171,6 +188,9 @@ fn check_transitions(
     while i < count {
         if let Checked::Refused(r) = check_transition(bytes, p, topstate, topevent) {
             return Checked::Refused(r);
+        }
+        if repeated(bytes, at, i) {
+            return Checked::Refused(Refusal::RepeatedTransition);
         }
         p += 17;
         i += 1;

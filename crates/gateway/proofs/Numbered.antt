@@ -1,7 +1,7 @@
 -- Decoding refuses by no number 0, so that the answer 0 says that the encoding was accepted. Assumes nothing.
 use Prim.Native.Nat.{ℕ, zero, suc, _+_, _-_}
 use mathlib.Core.Path.{_≡_, subst}
-use mathlib.Core.Bool.{Bool, true, false, cond, _&&_}
+use mathlib.Core.Bool.{Bool, true, false, cond, not, _&&_}
 use mathlib.Core.List.{List}
 use native.Mathlib.Omega.{arith}
 use lib.Dec.{leb, ltb, eqb}
@@ -10,6 +10,7 @@ use Rattle.automaton.specs.declared.Header.{Header}
 use Rattle.bitfields.specs.Bits.{bitsOf, numberAt, setOf}
 use Rattle.bitfields.specs.Parser.{Parsed, done, refused, andThen, demand, field, flags}
 use Rattle.encoding.specs.Decoding.{Decoding, refuse}
+use Rattle.encoding.specs.Transitions.{listed}
 use Rattle.encoding.specs.Encoding.{Encoding, encoding, ending, fixed, front, transition, transitions}
 
 abbrev Numbered : {A : Type 0} → Parsed A → Type 0
@@ -70,7 +71,8 @@ unfolding transitions
 transitions-numbered s e zero bits at = tt
 transitions-numbered s e (suc n) bits at =
     both (transitions s e n bits at) _ (transitions-numbered s e n bits at) λ earlier n1.
-    both (transition s e bits n1) _ (transition-numbered s e bits n1) λ last n2. tt
+    both (transition s e bits n1) _ (transition-numbered s e bits n1) λ last n2.
+    both (demand (not (listed last earlier)) 12 bits n2) _ (demanded (not (listed last earlier)) 11 bits n2) λ u3 n3. tt
 
 ending-numbered : (bits : List ℕ) (at : ℕ) → Numbered (ending bits at)
 unfolding ending

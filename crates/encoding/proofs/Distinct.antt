@@ -1,4 +1,5 @@
--- Of an accepted encoding no transition is listed twice, so that their number is the number of different ones. Assumes nothing.
+-- Of an accepted encoding no transition is listed twice, so that their number is the number of different ones; one that lists a transition
+-- twice is refused where it does. Assumes nothing.
 use Prim.Native.Nat.{ℕ, zero, suc, _+_, _≤_, _<_}
 use mathlib.Core.Path.{_≡_, refl, sym, subst, ap, _∙_}
 use mathlib.Core.Bool.{Bool, true, false, _||_, false≢true}
@@ -7,12 +8,13 @@ use mathlib.Core.Logic.{⊎-elim, _↔_}
 use native.Mathlib.Omega.{arith}
 use lib.ListN.{length}
 use Rattle.bitfields.specs.Bits.{bitsOf}
-use Rattle.bitfields.specs.Parser.{done}
+use Rattle.bitfields.specs.Parser.{done, refused}
 use Rattle.bitfields.proofs.Parsing.{on-done, same-done}
 use Rattle.encoding.specs.Transitions.{Transition, sameTransition, listed, Distinct, Different}
-use Rattle.encoding.specs.Encoding.{Encoding, encoding, ending, front, transitions}
+use Rattle.encoding.specs.Encoding.{Encoding, encoding, ending, front, transition, transitions}
+use Rattle.encoding.specs.declared.Front.{Front}
 use Rattle.encoding.proofs.Listed.{not-true, or-split, same-equal, first-listed, later-listed, listed-snoc}
-use Rattle.encoding.proofs.Ended.{last-read}
+use Rattle.encoding.proofs.Ended.{last-read, transitions-repeated, transitions-stop}
 
 -- a list without one of its transitions
 keep : Bool → Transition → List Transition → List Transition
@@ -121,3 +123,13 @@ pub different-transitions : (bs : List ℕ) {d : Encoding} {next : ℕ} → enco
 different-transitions bs {d} e n =
     let c = encoding-counted bs e in
     rw (← c .number) (distinct-different (d .transitions) (c .once) n)
+
+-- A REPEAT IS REFUSED WHERE IT STANDS: the front and the transitions so far were read, the next passed its own checks, and it is one of them. Then
+-- the answer is 12, whatever follows: the encoding may be cut behind it or go astray
+pub repeat-refused : (bits : List ℕ) {f : Front} {at p q : ℕ} {earlier : List Transition} {last : Transition} → front bits 0 ≡ done f at
+    → (i : ℕ) → i < f .fixed .count → transitions (f .fixed .topstate) (f .fixed .topevent) i bits at ≡ done earlier p
+    → transition (f .fixed .topstate) (f .fixed .topevent) bits p ≡ done last q → listed last earlier ≡ true → encoding bits 0 ≡ refused 12
+unfolding encoding
+repeat-refused bits {f} {at} e i l e1 e2 again =
+    let x = transitions-repeated (f .fixed .topstate) (f .fixed .topevent) bits at i e1 e2 again in
+    rw (e, transitions-stop (f .fixed .topstate) (f .fixed .topevent) bits at i x (f .fixed .count) l)

@@ -32,6 +32,7 @@
  *                                      state is outside its limits                                   all
  *   10   OPACITY_OUTPUT_TOO_SMALL      the output has fewer than 17 bytes                            offer
  *   11   OPACITY_EMPTY_LOG             a log without events; no function here answers it
+ *   12   OPACITY_REPEATED_TRANSITION   a transition is listed a second time                          decode
  *
  * Table: 2,048 words. Word 64 * event + state is the set of the states that the event may lead to; bit q, counted from the least significant, is
  * state q. Any 2,048 words are the transitions of an automaton of 64 states and 32 events.
@@ -91,6 +92,7 @@
 #define OPACITY_MALFORMED 9
 #define OPACITY_OUTPUT_TOO_SMALL 10
 #define OPACITY_EMPTY_LOG 11
+#define OPACITY_REPEATED_TRANSITION 12
 
 #ifdef __cplusplus
 extern "C" {
@@ -101,7 +103,8 @@ extern "C" {
  * Takes:   the encoding, a table of 2,048 words and a header of 14 bytes; what these two hold before does not matter.
  * Answers: 0: the table holds the transitions, 0 in every other bit, and the header the rest.
  *          9: the table has not 2,048 words or the header not 14 bytes.
- *          1 to 5: the first fault in the order of the layout, 5 last.
+ *          1 to 5, 12: the first fault in the order of the layout, 5 last. A transition that was listed before gets 12 right after its own 3 and 4,
+ *             before anything behind it is looked at. The time for n transitions grows with n * n (docs/FIGURES.md).
  */
 uint8_t opacity_decode(const uint8_t *encoding, size_t encoding_length,
                        uint64_t *table, size_t table_length,

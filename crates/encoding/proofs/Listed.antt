@@ -1,5 +1,5 @@
 -- Laws of transitions in a list: which are listed, which are the same, and the 17 bits of each as one number. Assumes nothing.
-use Prim.Native.Nat.{ℕ, zero, suc, _+_, _*_, _^_, _≤_, _<_}
+use Prim.Native.Nat.{ℕ, zero, suc, _+_, _*_, _≤_, _<_}
 use mathlib.Core.Path.{_≡_, refl, sym, ap, _∙_}
 use mathlib.Core.Bool.{Bool, true, false, _&&_, _||_, or-false, or-true, or-assoc, false≢true}
 use mathlib.Core.List.{List, [], _∷_, _++_}
@@ -68,10 +68,11 @@ listed-stays t bits at i s (suc n) l =
     ⊎-elim (λ (q : i ≡ n). rw (← q, listed-more t bits at i, s, or-true)) (λ (q : i < n). rw (listed-more t bits at n, listed-stays t bits at i s n q)) (eq-or-lt-of-le (le-of-suc-le-suc l))
 
 -- a transition's three fields as one number
-transition-number : (bs : List ℕ) (at : ℕ) → at + 17 ≤ length (bitsOf bs)
-    → numberAt (bitsOf bs) at 17 ≡ numberAt (bitsOf bs) at 6 * 2048 + (numberAt (bitsOf bs) (at + 6) 5 * 64 + numberAt (bitsOf bs) (at + 6 + 5) 6)
-transition-number bs at h =
-    rw (number-join (bitsOf bs) at 6 11 (omega arith), number-join (bitsOf bs) (at + 6) 5 6 (omega arith))
+abbrev packed : Transition → ℕ
+packed t = t .from * 2048 + (t .event * 64 + t .to)
+
+read-packed : (bs : List ℕ) (at : ℕ) → at + 17 ≤ length (bitsOf bs) → numberAt (bitsOf bs) at 17 ≡ packed (transitionAt (bitsOf bs) at)
+read-packed bs at h = rw (number-join (bitsOf bs) at 6 11 (omega arith), number-join (bitsOf bs) (at + 6) 5 6 (omega arith))
 
 -- transitions are the same exactly where these numbers are
 pub same-bits : (bs : List ℕ) (p q : ℕ) → p + 17 ≤ length (bitsOf bs) → q + 17 ≤ length (bitsOf bs)
@@ -81,23 +82,23 @@ same-bits bs p q hp hq = go (ℕ-discrete (numberAt bits p 17) (numberAt bits q 
     bits : List ℕ
     bits = bitsOf bs
 
+    at-p : numberAt bits p 17 ≡ packed (transitionAt bits p)
+    at-p = read-packed bs p hp
+
+    at-q : numberAt bits q 17 ≡ packed (transitionAt bits q)
+    at-q = read-packed bs q hq
+
     go : Dec (numberAt bits p 17 ≡ numberAt bits q 17) → eqb (numberAt bits p 17) (numberAt bits q 17) ≡ sameTransition (transitionAt bits q) (transitionAt bits p)
     go (yes e) =
-        let np = transition-number bs p hp in
-        let nq = transition-number bs q hq in
-        let te = number-lt bs (p + 6) 5 (omega arith) in
-        let tt′ = number-lt bs (p + 6 + 5) 6 (omega arith) in
-        let xe = number-lt bs (q + 6) 5 (omega arith) in
-        let xt = number-lt bs (q + 6 + 5) 6 (omega arith) in
-        rw
-        (eq-eqb _ _ e, eq-eqb (numberAt bits q 6) (numberAt bits p 6) (omega arith), eq-eqb (numberAt bits (q + 6) 5) (numberAt bits (p + 6) 5) (omega arith), eq-eqb (numberAt bits (q + 6 + 5) 6) (numberAt bits (p + 6 + 5) 6) (omega arith))
+        let event-p = number-lt bs (p + 6) 5 (omega arith) in
+        let to-p = number-lt bs (p + 6 + 5) 6 (omega arith) in
+        let event-q = number-lt bs (q + 6) 5 (omega arith) in
+        let to-q = number-lt bs (q + 6 + 5) 6 (omega arith) in
+        let from : numberAt bits q 6 ≡ numberAt bits p 6 = omega (arith, at-p, at-q) in
+        let event : numberAt bits (q + 6) 5 ≡ numberAt bits (p + 6) 5 = omega (arith, at-p, at-q) in
+        let to : numberAt bits (q + 6 + 5) 6 ≡ numberAt bits (p + 6 + 5) 6 = omega (arith, at-p, at-q) in
+        rw (eq-eqb _ _ e, eq-eqb _ _ from, eq-eqb _ _ event, eq-eqb _ _ to)
     go (no n) =
-        let other : sameTransition (transitionAt bits q) (transitionAt bits p) ≡ true → ⊥ = λ h. n (same-number (same-equal (transitionAt bits q) (transitionAt bits p) h)) in
+        let other : sameTransition (transitionAt bits q) (transitionAt bits p) ≡ true → ⊥ =
+        λ h. n (at-p ∙ ap packed (sym (same-equal (transitionAt bits q) (transitionAt bits p) h)) ∙ sym at-q) in
         rw (ne-eqb _ _ n, not-true (sameTransition (transitionAt bits q) (transitionAt bits p)) other)
-      where
-        same-number : transitionAt bits q ≡ transitionAt bits p → numberAt bits p 17 ≡ numberAt bits q 17
-        same-number e =
-            let f : numberAt bits q 6 ≡ numberAt bits p 6 = ap (λ (t : Transition). t .from) e in
-            let g : numberAt bits (q + 6) 5 ≡ numberAt bits (p + 6) 5 = ap (λ (t : Transition). t .event) e in
-            let k : numberAt bits (q + 6 + 5) 6 ≡ numberAt bits (p + 6 + 5) 6 = ap (λ (t : Transition). t .to) e in
-            omega (arith, transition-number bs p hp, transition-number bs q hq)

@@ -6,7 +6,7 @@ use automaton::Refusal;
 use bitfields::Field;
 use bitfields::Flags;
 ghost use mathlib.Core.Path.{_≡_};
-ghost use Prim.Native.Nat.{_+_, _*_, _≤_, _<_, _^_};
+ghost use Prim.Native.Nat.{_+_, _*_, _≤_, _<_};
 ghost use lib.ListN.{length, replicate};
 ghost use Rattle.bitfields.specs.Bits.{bitsOf};
 ghost use Rattle.encoding.specs.Transitions.{listed, transitionAt, transitionsAt};

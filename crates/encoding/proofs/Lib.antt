@@ -1,10 +1,13 @@
 -- Laws that belong to no one function. Transitions in lists, what follows from a parser that came to its end, and the promise at each return of `decode`.
 pub mod Listed
 pub mod Ended
+pub mod Refusing
 pub mod Stored
 pub mod Promise
 -- Theorems about the definitions: one decoding only, no transition twice, and what a decoded table means. (01's starred encodings are rows of the
 -- table in `examples`.)
 pub mod Only
 pub mod Distinct
+pub mod Repeats
+pub mod Cases
 pub mod Listing

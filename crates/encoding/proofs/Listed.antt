@@ -14,9 +14,9 @@ use Rattle.bitfields.specs.Bits.{bitsOf, numberAt}
 use Rattle.bitfields.proofs.Bits.{number-lt, number-join}
 use Rattle.encoding.specs.Transitions.{Transition, sameTransition, listed, transitionAt, transitionsAt}
 
-pub not-true : (b : Bool) → (b ≡ true → ⊥) → b ≡ false
-not-true true n = absurd (n refl)
-not-true false n = refl
+pub unless-true : (b : Bool) → (b ≡ true → ⊥) → b ≡ false
+unless-true true n = absurd (n refl)
+unless-true false n = refl
 
 pub or-split : (a b : Bool) → a || b ≡ true → (a ≡ true) ⊎ (b ≡ true)
 or-split true b h = inl refl
@@ -36,7 +36,7 @@ same-equal t x h = go (eqb (t .from) (x .from)) (eqb (t .event) (x .event)) (eqb
     go true false c f g k h = absurd (false≢true h)
     go true true false f g k h = absurd (false≢true h)
 
-pub same-self : (t : Transition) → sameTransition t t ≡ true
+same-self : (t : Transition) → sameTransition t t ≡ true
 same-self t = rw (eq-eqb (t .from) (t .from) refl, eq-eqb (t .event) (t .event) refl, eq-eqb (t .to) (t .to) refl)
 
 pub first-listed : (t : Transition) (ts : List Transition) → listed t (t ∷ ts) ≡ true
@@ -101,4 +101,4 @@ same-bits bs p q hp hq = go (ℕ-discrete (numberAt bits p 17) (numberAt bits q 
     go (no n) =
         let other : sameTransition (transitionAt bits q) (transitionAt bits p) ≡ true → ⊥ =
         λ h. n (at-p ∙ ap packed (sym (same-equal (transitionAt bits q) (transitionAt bits p) h)) ∙ sym at-q) in
-        rw (ne-eqb _ _ n, not-true (sameTransition (transitionAt bits q) (transitionAt bits p)) other)
+        rw (ne-eqb _ _ n, unless-true (sameTransition (transitionAt bits q) (transitionAt bits p)) other)

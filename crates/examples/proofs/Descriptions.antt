@@ -9,9 +9,9 @@ use Rattle.bitfields.specs.Bits.{bitsOf}
 use Rattle.encoding.specs.Transitions.{Transition, sameTransition}
 use Rattle.encoding.specs.Encoding.{encoding}
 use Rattle.examples.specs.Meaning.{Example, Contents, automaton, refusal, contentsOf}
-use Rattle.examples.proofs.Booleans.{and-left, and-right}
+use Rattle.encoding.proofs.Listed.{same-equal}
+use Rattle.examples.proofs.Booleans.{and-left, and-right, is-true}
 use Rattle.examples.proofs.Checks.{Check, by}
-use Rattle.examples.proofs.SearchLaws.{triple, transition-is}
 
 abbrev sameHeader : Header → Header → Bool
 sameHeader a b = eqb (a .initial) (b .initial) && (eqb (a .k) (b .k) && (eqb (a .secret) (b .secret) && eqb (a .observable) (b .observable)))
@@ -36,18 +36,12 @@ sameTransitions [] (y ∷ ys) = false
 sameTransitions (x ∷ xs) [] = false
 sameTransitions (x ∷ xs) (y ∷ ys) = sameTransition x y && sameTransitions xs ys
 
-same-transition : (x y : Transition) → T (sameTransition x y) → x ≡ y
-same-transition x y t =
-    let e = transition-is (x .from) (x .event) (x .to) y t in
-    let same : triple (x .from) (x .event) (x .to) ≡ triple (y .from) (y .event) (y .to) = cc in
-    same
-
 same-transitions : (xs ys : List Transition) → T (sameTransitions xs ys) → xs ≡ ys
 same-transitions [] [] t = refl
 same-transitions [] (y ∷ ys) t = absurd t
 same-transitions (x ∷ xs) [] t = absurd t
 same-transitions (x ∷ xs) (y ∷ ys) t =
-    ap₂ (λ (a : Transition) (rest : List Transition). a ∷ rest) (same-transition x y (and-left (sameTransition x y) (sameTransitions xs ys) t))
+    ap₂ (λ (a : Transition) (rest : List Transition). a ∷ rest) (same-equal x y (is-true (and-left (sameTransition x y) (sameTransitions xs ys) t)))
     (same-transitions xs ys (and-right (sameTransition x y) (sameTransitions xs ys) t))
 
 abbrev sameContents : Contents → Contents → Bool

@@ -1,0 +1,74 @@
+-- By which numbers the layout refuses: 1 to 5 and 12. For a number x that is none of them, or none of those of a part. Assumes nothing.
+use Prim.Native.Nat.{ℕ, zero, suc, _+_, _-_, _≤_}
+use mathlib.Core.Path.{_≡_}
+use mathlib.Core.Bool.{not, _&&_}
+use mathlib.Core.List.{List}
+use native.Mathlib.Omega.{arith}
+use lib.Dec.{leb, ltb, eqb}
+use lib.ListN.{length}
+use Rattle.bitfields.specs.Bits.{numberAt}
+use Rattle.bitfields.specs.Parser.{demand, field, flags}
+use Rattle.bitfields.proofs.Parsing.{Never, never-then, never-demand, never-field, never-flags}
+use Rattle.encoding.specs.Transitions.{listed}
+use Rattle.encoding.specs.Encoding.{encoding, ending, fixed, front, transition, transitions}
+
+-- none of 1 to 5
+abbrev pub Above : ℕ → Type 0
+Above x = (n : ℕ) → 1 ≤ n → n ≤ 5 → n ≡ x → ⊥
+
+module _ (x : ℕ) (other : Above x) (bits : List ℕ) where
+  one-field : (w at : ℕ) → Never x (field w bits at)
+  one-field w at = never-field x w bits at (other 1 (omega arith) (omega arith))
+
+  some-flags : (n at : ℕ) → Never x (flags n bits at)
+  some-flags n at = never-flags x n bits at (other 1 (omega arith) (omega arith))
+
+  fixed-never : (at : ℕ) → Never x (fixed bits at)
+  unfolding fixed
+  fixed-never at =
+      never-then x (field 6 bits at) _ (one-field 6 at) λ topstate n1.
+      never-then x (field 5 bits n1) _ (one-field 5 n1) λ topevent n2.
+      never-then x (field 4 bits n2) _ (one-field 4 n2) λ k n3.
+      never-then x (field 6 bits n3) _ (one-field 6 n3) λ initial n4.
+      never-then x (demand (leb initial topstate) 3 bits n4) _ (never-demand x (leb initial topstate) 3 bits n4 (other 3 (omega arith) (omega arith))) λ u5 n5.
+      never-then x (field 10 bits n5) _ (one-field 10 n5) λ count n6.
+      never-then x (field 1 bits n6) _ (one-field 1 n6) λ reserved n7.
+      never-then x (demand (eqb reserved 0) 2 bits n7) _ (never-demand x (eqb reserved 0) 2 bits n7 (other 2 (omega arith) (omega arith))) λ u8 n8. tt
+
+  pub front-never : (at : ℕ) → Never x (front bits at)
+  unfolding front
+  front-never at =
+      never-then x (fixed bits at) _ (fixed-never at) λ f n1.
+      never-then x (flags (f .topstate + 1) bits n1) _ (some-flags (f .topstate + 1) n1) λ secret n2.
+      never-then x (flags (f .topevent + 1) bits n2) _ (some-flags (f .topevent + 1) n2) λ observable n3. tt
+
+  pub transition-never : (s e at : ℕ) → Never x (transition s e bits at)
+  unfolding transition
+  transition-never s e at =
+      let state : 3 ≡ x → ⊥ = other 3 (omega arith) (omega arith) in
+      never-then x (field 6 bits at) _ (one-field 6 at) λ from n1.
+      never-then x (demand (leb from s) 3 bits n1) _ (never-demand x (leb from s) 3 bits n1 state) λ u2 n2.
+      never-then x (field 5 bits n2) _ (one-field 5 n2) λ event n3.
+      never-then x (demand (leb event e) 4 bits n3) _ (never-demand x (leb event e) 4 bits n3 (other 4 (omega arith) (omega arith))) λ u4 n4.
+      never-then x (field 6 bits n4) _ (one-field 6 n4) λ to n5.
+      never-then x (demand (leb to s) 3 bits n5) _ (never-demand x (leb to s) 3 bits n5 state) λ u6 n6. tt
+
+  pub ending-never : (at : ℕ) → Never x (ending bits at)
+  unfolding ending
+  ending-never at = never-demand x (ltb (length bits - at) 8 && eqb (numberAt bits at (length bits - at)) 0) 5 bits at (other 5 (omega arith) (omega arith))
+
+  module _ (unrepeated : 12 ≡ x → ⊥) where
+    transitions-never : (s e n at : ℕ) → Never x (transitions s e n bits at)
+    unfolding transitions
+    transitions-never s e zero at = tt
+    transitions-never s e (suc n) at =
+        never-then x (transitions s e n bits at) _ (transitions-never s e n at) λ earlier n1.
+        never-then x (transition s e bits n1) _ (transition-never s e n1) λ last n2.
+        never-then x (demand (not (listed last earlier)) 12 bits n2) _ (never-demand x (not (listed last earlier)) 12 bits n2 unrepeated) λ u3 n3. tt
+
+    pub encoding-never : (at : ℕ) → Never x (encoding bits at)
+    unfolding encoding
+    encoding-never at =
+        never-then x (front bits at) _ (front-never at) λ f n1.
+        never-then x (transitions (f .fixed .topstate) (f .fixed .topevent) (f .fixed .count) bits n1) _ (transitions-never (f .fixed .topstate) (f .fixed .topevent) (f .fixed .count) n1) λ ts n2.
+        never-then x (ending bits n2) _ (ending-never n2) λ u n3. tt

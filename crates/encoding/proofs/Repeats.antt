@@ -1,0 +1,86 @@
+-- 12, exactly: an encoding is refused by it where it repeats a transition, and nowhere else. Assumes nothing.
+use Prim.Native.Nat.{ℕ, zero, suc}
+use mathlib.Core.Path.{_≡_, refl, ap, _∙_}
+use mathlib.Core.Bool.{Bool, true, false, not}
+use mathlib.Core.List.{List, [], _∷_, _++_}
+use mathlib.Core.Logic.{_↔_}
+use native.Mathlib.Omega.{arith}
+use Rattle.bitfields.specs.Parser.{Parsed, done, refused, andThen, _>>=_, _>>_, give, demand}
+use Rattle.bitfields.proofs.Parsing.{on-refused}
+use Rattle.encoding.specs.Transitions.{Transition, listed}
+use Rattle.encoding.specs.Encoding.{Encoding, encoding, ending, front, transition, transitions}
+use Rattle.encoding.specs.declared.Front.{Front}
+use Rattle.encoding.specs.Repeats.{Again, Repeats}
+use Rattle.encoding.proofs.Ended.{transitions-repeated, transitions-stop}
+use Rattle.encoding.proofs.Refusing.{Above, front-never, transition-never, ending-never}
+
+-- A REPEAT IS REFUSED WHERE IT STANDS, whatever follows: the encoding may be cut behind it or go astray
+pub repeat-refused : (bits : List ℕ) → Repeats bits → encoding bits 0 ≡ refused 12
+unfolding encoding
+repeat-refused bits r =
+    let f = r .read .fixed in
+    let a = r .again in
+    let x = transitions-repeated (f .topstate) (f .topevent) bits (r .start) (a .number) (a .earlier-read) (a .last-read) (a .repeat) in
+    rw (r .front-read, transitions-stop (f .topstate) (f .topevent) bits (r .start) (a .number) x (f .count) (a .fewer))
+
+above : Above 12
+above n low high e = omega arith
+
+demanded : (b : Bool) (ts : List Transition) (bits : List ℕ) (at : ℕ) → _>>_ (demand (not b) 12) (give ts) bits at ≡ refused 12 → b ≡ true
+demanded true ts bits at r = refl
+demanded false ts bits at r = let z : _≡_ {A = ℕ} 0 1 = cc in absurd (omega arith)
+
+transitions-again : (s e n : ℕ) (bits : List ℕ) (at : ℕ) → transitions s e n bits at ≡ refused 12 → Again s e n bits at
+unfolding transitions
+transitions-again s e zero bits at r = let z : _≡_ {A = ℕ} 0 1 = cc in absurd (omega arith)
+transitions-again s e (suc n) bits at r = go (transitions s e n bits at) refl (transitions-again s e n bits at) r
+  where
+    go : (p : Parsed (List Transition)) → transitions s e n bits at ≡ p → (transitions s e n bits at ≡ refused 12 → Again s e n bits at)
+        → andThen p (λ earlier next. _>>=_ (transition s e) (λ last. _>>_ (demand (not (listed last earlier)) 12) (give (earlier ++ (last ∷ [])))) bits next) ≡ refused 12
+        → Again s e (suc n) bits at
+    go (refused x) is before r =
+        let a = before (is ∙ r) in
+        record {
+          number = a .number;
+          fewer = omega (arith, a .fewer);
+          earlier = a .earlier;
+          position = a .position;
+          earlier-read = a .earlier-read;
+          last = a .last;
+          next = a .next;
+          last-read = a .last-read;
+          repeat = a .repeat;
+        }
+    go (done earlier p) is before r =
+        on-refused 12 (transition s e bits p) _ (transition-never 12 above bits s e p) r λ last next e2 r2.
+        record {
+          number = n;
+          fewer = omega arith;
+          earlier = earlier;
+          position = p;
+          earlier-read = is;
+          last = last;
+          next = next;
+          last-read = e2;
+          repeat = demanded (listed last earlier) (earlier ++ (last ∷ [])) bits next r2;
+        }
+
+same-number : {A B : Type 0} {x : ℕ} → _≡_ {A = Parsed A} (refused x) (refused 12) → _≡_ {A = Parsed B} (refused x) (refused 12)
+same-number {x = x} e = let n : x ≡ 12 = cc in ap refused n
+
+behind : (bits : List ℕ) (f : Front) (start : ℕ) → front bits 0 ≡ done f start
+    → (p : Parsed (List Transition)) → transitions (f .fixed .topstate) (f .fixed .topevent) (f .fixed .count) bits start ≡ p
+    → _≡_ {A = Parsed Encoding} (andThen p (λ ts next. _>>_ ending (give (record { front = f; transitions = ts })) bits next)) (refused 12) → Repeats bits
+behind bits f start e1 (done ts p) is r = on-refused 12 (ending bits p) _ (ending-never 12 above bits p) r λ u next e2 r2. let z : _≡_ {A = ℕ} 0 1 = cc in absurd (omega arith)
+behind bits f start e1 (refused x) is r =
+    record { read = f; start = start; front-read = e1; again = transitions-again (f .fixed .topstate) (f .fixed .topevent) (f .fixed .count) bits start (is ∙ same-number r) }
+
+repeats : (bits : List ℕ) → encoding bits 0 ≡ refused 12 → Repeats bits
+unfolding encoding
+repeats bits r =
+    on-refused 12 (front bits 0) _ (front-never 12 above bits 0) r λ f start e1 r1.
+    behind bits f start e1 (transitions (f .fixed .topstate) (f .fixed .topevent) (f .fixed .count) bits start) refl r1
+
+-- 12 EXACTLY WHERE AN ENCODING REPEATS A TRANSITION
+pub repeated-exactly : (bits : List ℕ) → (encoding bits 0 ≡ refused 12) ↔ Repeats bits
+repeated-exactly bits = (repeats bits, repeat-refused bits)

@@ -32,7 +32,7 @@ const TIMES_TEXTBOOK: f64 = 20.0;
 const TIMES_LONG: f64 = 1.2;
 /// Bytes of stack.
 const STACK: usize = 8 * 1024;
-/// Milliseconds in which any encoding is decoded: the longest lists 1,023 transitions, and each is compared with all before it.
+/// Milliseconds in which the longest encoding is decoded: it lists 1,023 transitions, and each is compared with all before it.
 const DECODING: f64 = 20.0;
 
 const JOBS: [Job; 2] = [Job::Accept, Job::Offer];
@@ -168,7 +168,9 @@ fn print_stack(cases: &[Case], missed: &mut Missed) {
 
 fn print_decoding(missed: &mut Missed) {
     println!("\nDecoding, microseconds, best of {} passes:", measure::ROUNDS * measure::REPETITIONS);
-    for (name, automaton) in [("P", automata::p()), ("mid", automata::mid()), ("large", automata::large(64))] {
+    let longest = automata::large(64);
+    assert_eq!(longest.transitions().len(), 1023, "the longest encoding");
+    for (name, automaton) in [("P", automata::p()), ("mid", automata::mid()), ("large", longest)] {
         let encoding = automaton.encode().expect("an encoding");
         let milliseconds = measure::measure_decoding(&automaton, &encoding).0 / 1e6;
         println!("  {name:<14} {:>5} transitions {:>5} bytes {:>8}", automaton.transitions().len(), encoding.len(), number(milliseconds * 1e3));
@@ -219,7 +221,7 @@ fn everything(cases: &[Case]) {
     println!("\n{:.0} s in all", begun.elapsed().as_secs_f64());
     let goals = format!(
         "(a) at most {TIMES_NATIVE} times (b) with its best block, on each; (c) at least {TIMES_TEXTBOOK} times (a) on large, chain and dense; no growth with \
-         the trace (at most {TIMES_LONG} times); stack below {STACK} bytes; every encoding decoded in less than {DECODING} milliseconds."
+         the trace (at most {TIMES_LONG} times); stack below {STACK} bytes; the longest encoding decoded in less than {DECODING} milliseconds."
     );
     conclude(&goals, missed);
 }
@@ -237,7 +239,7 @@ fn main() {
         ["decoding"] => {
             let mut missed = Missed::new();
             print_decoding(&mut missed);
-            conclude(&format!("less than {DECODING} milliseconds."), missed);
+            conclude(&format!("the longest encoding in less than {DECODING} milliseconds."), missed);
         }
         ["only", job, name] => only(job, cases.iter().find(|case| case.name == *name).expect("no such automaton")),
         _ => panic!("usage: bench/run [stack | decoding | only JOB AUTOMATON]"),

@@ -64,27 +64,37 @@ def decodings(calls):
     for data in (smallest, changed(smallest, 4, 0xC1), smallest[:4], changed(longest, 2189, 0xFF), longest[:2189], longest, longest + b"\0"):
         calls.put(encoding=data)
         calls.decode()
-    calls.say("tables and headers of other sizes")
-    calls.put(encoding=P_ENCODING)
-    for size in (2049, 2047, 0, 2048):
-        calls.put_table([0] * min(size, 2046) + [5] * (2046 < size) + [0] * (size - 2047))
-        calls.decode()
-    for size in (13, 15, 0):
-        calls.put_table([0] * 2046 + [5, 0])
-        calls.put(header=resized(HEADER, size))
-        calls.decode()
+
+
+def decoding_sizes(calls):
+    """Tables and headers of other sizes: 9, whatever is wrong with the encoding (cut, reserved bit, state, event, padding bit, repeat)."""
+    calls.say("decode: tables and headers of other sizes")
+    q = Q_ENCODING
+    faults = [P_ENCODING[:15], changed(q, 3, 0x05), changed(q, 2, 0x18), encoded(with_transitions(P, [(0, 3, 0)])), changed(q, 8, 0x05)]
+    for data in faults + [encoded(with_repeat(P, 0, 1)), P_ENCODING]:
+        calls.put(encoding=data, header=HEADER)
+        for size in (2049, 2047, 0, 2048):
+            calls.put_table([0] * min(size, 2046) + [5] * (2046 < size) + [0] * (size - 2047))
+            calls.decode()
+        for size in (13, 15, 0):
+            calls.put_table([0] * 2046 + [5, 0])
+            calls.put(header=resized(HEADER, size))
+            calls.decode()
 
 
 def repeats(calls):
     """Transitions that are listed twice."""
+    calls.put(header=HEADER)
     calls.say("decode: one transition 1,023 times; cut behind the second, and inside it")
     ones = changed(changed(b"\xff" * 2190, 3, 0xFE), 2189, 0xFE)
-    listed = [ones, ones[:21], ones[:20]]
-    for first in range(5):
-        listed += [encoded(with_repeat(P, first, distance)) for distance in range(1, 6 - first)]
-    for data in listed:
-        calls.put(encoding=data, header=HEADER)
+    for data in (ones, ones[:21], ones[:20]):
+        calls.put(encoding=data)
         calls.decode()
+    calls.say("P with each of its transitions a second time, at each place behind the first")
+    for first in range(5):
+        for distance in range(1, 6 - first):
+            calls.put(encoding=encoded(with_repeat(P, first, distance)))
+            calls.decode()
     calls.say("the longest encoding, whose last transition is its first, its second, and the one before it")
     for first in (0, 1, 1021):
         calls.put(encoding=encoded(with_transitions(LONGEST, LONGEST.transitions[:1022] + [LONGEST.transitions[first]])))
@@ -467,6 +477,7 @@ def stored():
     calls = Calls()
     for part in (
         decodings,
+        decoding_sizes,
         repeats,
         verifiers,
         enforcers,

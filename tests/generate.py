@@ -174,13 +174,13 @@ def random_repeat(rng, automaton):
 
 
 def repeated(rng, automaton, events):
-    """A transition is listed twice."""
+    """A transition is listed twice, where there are any."""
     return with_length(encoded(random_repeat(rng, automaton)), events)
 
 
 def repeated_and_damaged(rng, automaton, events):
     """A transition is listed twice, and the encoding is damaged anywhere, before the second or behind it."""
-    damage = rng.choice((padding_bits, further_bytes, wrong_length, short_encoding, flipped_bits, out_of_range, repeated))
+    damage = rng.choice((padding_bits, further_bytes, short_encoding, flipped_bits, out_of_range, repeated))
     return damage(rng, random_repeat(rng, automaton), events)
 
 

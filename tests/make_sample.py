@@ -39,10 +39,11 @@ def too_long():
 
 
 def repeats():
-    """A transition that is listed twice, at every distance of 24 transitions; then what it is between, and what is wrong behind it."""
+    """A transition that is listed twice, at every distance of 24 transitions: as it is, cut behind the second, cut inside it, with a padding bit and a
+    further byte; then with a transition out of range, before the second or behind it."""
     rng = random.Random("repeats")
     automaton = Automaton(63, 31, 2, 0, {1}, set(range(1, 32)), many_transitions(rng, 24))
-    for distance in range(1, 24):
+    for distance in range(1, 25):
         first = rng.randrange(25 - distance)
         again = with_repeat(automaton, first, distance)
         yield with_length(encoded(again), b"\x01")
@@ -53,11 +54,20 @@ def repeats():
         yield with_length(encoded(again, padding=1) + b"\x00", b"\x01")
     lower = Automaton(40, 20, 2, 0, {1}, set(range(1, 21)), [(s % 41, e % 21, t % 41) for s, e, t in many_transitions(rng, 12)])
     assert len(set(lower.transitions)) == 12
-    for place in range(13):  # a transition out of range before the second of two, or behind it
+    for place in range(13):
         for wrong in ((41, 0, 0), (0, 21, 0), (0, 0, 41)):
             transitions = with_repeat(lower, 2, 5).transitions
             transitions.insert(place, wrong)
             yield with_length(encoded(with_transitions(lower, transitions)), b"\x01")
+
+
+def far_repeats():
+    """The longest encoding, whose last transition is an earlier one, at near and far distances."""
+    automaton = Automaton(63, 31, 1, 5, set(), set(range(32)), many_transitions(random.Random("far"), 1023))
+    powers = [2**i for i in range(10)]
+    for distance in sorted({1022, *powers, *(1022 - power for power in powers)}):
+        transitions = automaton.transitions[:1022] + [automaton.transitions[1022 - distance]]
+        yield with_length(encoded(with_transitions(automaton, transitions)), b"\x01")
 
 
 def near_repeats():
@@ -82,6 +92,7 @@ def logs():
     yield largest()
     yield too_long()
     yield from repeats()
+    yield from far_repeats()
     yield from near_repeats()
     for i in range(RANDOM):
         yield random_log(random.Random(f"{SEED} {i}"))[0]

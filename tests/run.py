@@ -103,7 +103,7 @@ def failures(program):
 
 
 def distances(program):
-    """The longest encoding, whose last transition is listed a second time, at every distance. Says what is wrong, or nothing."""
+    """The longest encoding, whose last transition is an earlier one, at every distance. Says what is wrong, or nothing."""
     automaton = Automaton(63, 31, 15, 0, set(), set(range(32)), many_transitions(random.Random("distances"), 1023))
     for first in range(1022):
         again = with_transitions(automaton, automaton.transitions[:1022] + [automaton.transitions[first]])

@@ -22,7 +22,7 @@ pub struct Reach {
     pub known: u64,
 }
 
-// Why a call was turned back, in the order of 01's refusal table.
+// Why a call was turned back, in the order of 01's refusal table and then 02's numbers.
 pub enum Refusal {
     Truncated,
     ReservedBit,

@@ -10,57 +10,57 @@ use Rattle.bitfields.specs.Bits.{bitsOf}
 use Rattle.bitfields.specs.Parser.{done}
 use Rattle.bitfields.proofs.Parsing.{same-done}
 use Rattle.encoding.specs.Transitions.{Transition, sameTransition, listed}
-use Rattle.encoding.specs.Repeats.{Distinct, Different}
+use Rattle.encoding.specs.Repeats.{Distinct, Counted, Different}
 use Rattle.encoding.specs.Encoding.{Encoding, encoding, transitions}
 use Rattle.encoding.proofs.Listed.{unless-true, or-split, same-equal, first-listed, later-listed, listed-snoc}
 use Rattle.encoding.proofs.Ended.{transitions-read, encoding-read}
 
--- a list with one transition in front, unless the test says so
-unless : Bool → Transition → List Transition → List Transition
-unless true y l = l
-unless false y l = y ∷ l
+-- a list with a transition put in front, unless the test holds
+addUnless : Bool → Transition → List Transition → List Transition
+addUnless true y l = l
+addUnless false y l = y ∷ l
 
 -- a list without one of its transitions
 without : Transition → List Transition → List Transition
 without x [] = []
-without x (y ∷ ys) = unless (sameTransition x y) y (without x ys)
+without x (y ∷ ys) = addUnless (sameTransition x y) y (without x ys)
 
-unless-most : (b : Bool) (y : Transition) (l : List Transition) → length (unless b y l) ≤ suc (length l)
-unfolding unless
-unless-most true y l = omega arith
-unless-most false y l = omega arith
+add-unless-most : (b : Bool) (y : Transition) (l : List Transition) → length (addUnless b y l) ≤ suc (length l)
+unfolding addUnless
+add-unless-most true y l = omega arith
+add-unless-most false y l = omega arith
 
 without-most : (x : Transition) (ts : List Transition) → length (without x ts) ≤ length ts
 unfolding without
 without-most x [] = omega arith
-without-most x (y ∷ ys) = omega (arith, unless-most (sameTransition x y) y (without x ys), without-most x ys)
+without-most x (y ∷ ys) = omega (arith, add-unless-most (sameTransition x y) y (without x ys), without-most x ys)
 
 without-fewer : (x : Transition) (ts : List Transition) → listed x ts ≡ true → length (without x ts) < length ts
-unfolding without unless
+unfolding without addUnless
 without-fewer x [] h = absurd (false≢true h)
 without-fewer x (y ∷ ys) h = go (without-fewer x ys) (sameTransition x y) h
   where
-    go : (listed x ys ≡ true → length (without x ys) < length ys) → (b : Bool) → b || listed x ys ≡ true → length (unless b y (without x ys)) < suc (length ys)
+    go : (listed x ys ≡ true → length (without x ys) < length ys) → (b : Bool) → b || listed x ys ≡ true → length (addUnless b y (without x ys)) < suc (length ys)
     go later true h = omega (arith, without-most x ys)
     go later false h = omega (arith, later h)
 
-unless-later : (b : Bool) (u y : Transition) (l : List Transition) → listed u l ≡ true → listed u (unless b y l) ≡ true
-unfolding unless
-unless-later true u y l h = h
-unless-later false u y l h = later-listed u y l h
+add-unless-later : (b : Bool) (u y : Transition) (l : List Transition) → listed u l ≡ true → listed u (addUnless b y l) ≡ true
+unfolding addUnless
+add-unless-later true u y l h = h
+add-unless-later false u y l h = later-listed u y l h
 
 without-has : (x u : Transition) (ts : List Transition) → listed u ts ≡ true → (sameTransition x u ≡ true → ⊥) → listed u (without x ts) ≡ true
-unfolding without unless
+unfolding without addUnless
 without-has x u [] h n = h
 without-has x u (y ∷ ys) h n =
-    ⊎-elim first (λ (i : listed u ys ≡ true). unless-later (sameTransition x y) u y (without x ys) (without-has x u ys i n)) (or-split (sameTransition u y) (listed u ys) h)
+    ⊎-elim first (λ (i : listed u ys ≡ true). add-unless-later (sameTransition x y) u y (without x ys) (without-has x u ys i n)) (or-split (sameTransition u y) (listed u ys) h)
   where
-    go : (b : Bool) → sameTransition x u ≡ b → listed u (unless b u (without x ys)) ≡ true
+    go : (b : Bool) → sameTransition x u ≡ b → listed u (addUnless b u (without x ys)) ≡ true
     go true e = absurd (n e)
     go false e = first-listed u (without x ys)
 
-    first : sameTransition u y ≡ true → listed u (unless (sameTransition x y) y (without x ys)) ≡ true
-    first i = subst (λ (z : Transition). listed u (unless (sameTransition x z) z (without x ys)) ≡ true) (same-equal u y i) (go (sameTransition x u) refl)
+    first : sameTransition u y ≡ true → listed u (addUnless (sameTransition x y) y (without x ys)) ≡ true
+    first i = subst (λ (z : Transition). listed u (addUnless (sameTransition x z) z (without x ys)) ≡ true) (same-equal u y i) (go (sameTransition x u) refl)
 
 -- a list in which no transition stands twice is no longer than any list that has its transitions
 pub distinct-fewest : (xs ts : List Transition) → Distinct xs → ((u : Transition) → listed u xs ≡ true → listed u ts ≡ true) → length xs ≤ length ts
@@ -78,11 +78,6 @@ distinct-snoc (x ∷ xs) t d n =
     let later : listed t xs ≡ true → ⊥ = λ h. false≢true (sym n ∙ later-listed t x xs h) in
     let first : sameTransition x t ≡ true → ⊥ = λ s. false≢true (sym n ∙ subst (λ (z : Transition). listed t (z ∷ xs) ≡ true) (sym (same-equal x t s)) (first-listed t xs)) in
     (listed-snoc x xs t ∙ rw (d .0, unless-true (sameTransition x t) first), distinct-snoc xs t (d .1) (unless-true (listed t xs) later))
-
--- what a list of n transitions is that was read to its end
-pub record Counted (n : ℕ) (ts : List Transition) : Type 0 where
-  pub once : Distinct ts
-  pub number : length ts ≡ n
 
 transitions-counted : (s e : ℕ) (bits : List ℕ) (at n : ℕ) {ts : List Transition} {next : ℕ} → transitions s e n bits at ≡ done ts next → Counted n ts
 unfolding transitions

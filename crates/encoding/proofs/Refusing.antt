@@ -12,11 +12,11 @@ use Rattle.bitfields.proofs.Parsing.{Never, never-then, never-demand, never-fie
 use Rattle.encoding.specs.Transitions.{listed}
 use Rattle.encoding.specs.Encoding.{encoding, ending, fixed, front, transition, transitions}
 
--- none of 1 to 5
-abbrev pub Above : ℕ → Type 0
-Above x = (n : ℕ) → 1 ≤ n → n ≤ 5 → n ≡ x → ⊥
+-- x is none of 1 to 5
+abbrev pub Outside : ℕ → Type 0
+Outside x = (n : ℕ) → 1 ≤ n → n ≤ 5 → n ≡ x → ⊥
 
-module _ (x : ℕ) (other : Above x) (bits : List ℕ) where
+module _ (x : ℕ) (other : Outside x) (bits : List ℕ) where
   one-field : (w at : ℕ) → Never x (field w bits at)
   one-field w at = never-field x w bits at (other 1 (omega arith) (omega arith))
 

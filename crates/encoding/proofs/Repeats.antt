@@ -12,7 +12,7 @@ use Rattle.encoding.specs.Encoding.{Encoding, encoding, ending, front, t
 use Rattle.encoding.specs.declared.Front.{Front}
 use Rattle.encoding.specs.Repeats.{Again, Repeats}
 use Rattle.encoding.proofs.Ended.{transitions-repeated, transitions-stop}
-use Rattle.encoding.proofs.Refusing.{Above, front-never, transition-never, ending-never}
+use Rattle.encoding.proofs.Refusing.{Outside, front-never, transition-never, ending-never}
 
 -- A REPEAT IS REFUSED WHERE IT STANDS, whatever follows: the encoding may be cut behind it or go astray
 pub repeat-refused : (bits : List ℕ) → Repeats bits → encoding bits 0 ≡ refused 12
@@ -23,8 +23,8 @@ repeat-refused bits r =
     let x = transitions-repeated (f .topstate) (f .topevent) bits (r .start) (a .number) (a .earlier-read) (a .last-read) (a .repeat) in
     rw (r .front-read, transitions-stop (f .topstate) (f .topevent) bits (r .start) (a .number) x (f .count) (a .fewer))
 
-above : Above 12
-above n low high e = omega arith
+outside : Outside 12
+outside n low high e = omega arith
 
 demanded : (b : Bool) (ts : List Transition) (bits : List ℕ) (at : ℕ) → _>>_ (demand (not b) 12) (give ts) bits at ≡ refused 12 → b ≡ true
 demanded true ts bits at r = refl
@@ -52,7 +52,7 @@ transitions-again s e (suc n) bits at r = go (transitions s e n bits at) refl (t
           repeat = a .repeat;
         }
     go (done earlier p) is before r =
-        on-refused 12 (transition s e bits p) _ (transition-never 12 above bits s e p) r λ last next e2 r2.
+        on-refused 12 (transition s e bits p) _ (transition-never 12 outside bits s e p) r λ last next e2 r2.
         record {
           number = n;
           fewer = omega arith;
@@ -71,14 +71,14 @@ same-number {x = x} e = let n : x ≡ 12 = cc in ap refused n
 behind : (bits : List ℕ) (f : Front) (start : ℕ) → front bits 0 ≡ done f start
     → (p : Parsed (List Transition)) → transitions (f .fixed .topstate) (f .fixed .topevent) (f .fixed .count) bits start ≡ p
     → _≡_ {A = Parsed Encoding} (andThen p (λ ts next. _>>_ ending (give (record { front = f; transitions = ts })) bits next)) (refused 12) → Repeats bits
-behind bits f start e1 (done ts p) is r = on-refused 12 (ending bits p) _ (ending-never 12 above bits p) r λ u next e2 r2. let z : _≡_ {A = ℕ} 0 1 = cc in absurd (omega arith)
+behind bits f start e1 (done ts p) is r = on-refused 12 (ending bits p) _ (ending-never 12 outside bits p) r λ u next e2 r2. let z : _≡_ {A = ℕ} 0 1 = cc in absurd (omega arith)
 behind bits f start e1 (refused x) is r =
     record { read = f; start = start; front-read = e1; again = transitions-again (f .fixed .topstate) (f .fixed .topevent) (f .fixed .count) bits start (is ∙ same-number r) }
 
 repeats : (bits : List ℕ) → encoding bits 0 ≡ refused 12 → Repeats bits
 unfolding encoding
 repeats bits r =
-    on-refused 12 (front bits 0) _ (front-never 12 above bits 0) r λ f start e1 r1.
+    on-refused 12 (front bits 0) _ (front-never 12 outside bits 0) r λ f start e1 r1.
     behind bits f start e1 (transitions (f .fixed .topstate) (f .fixed .topevent) (f .fixed .count) bits start) refl r1
 
 -- 12 EXACTLY WHERE AN ENCODING REPEATS A TRANSITION

@@ -14,6 +14,11 @@ abbrev pub Distinct : List Transition → Type 0
 Distinct [] = Unit {0}
 Distinct (t ∷ ts) = (listed t ts ≡ false) × Distinct ts
 
+-- n transitions, none twice
+pub record Counted (n : ℕ) (ts : List Transition) : Type 0 where
+  pub once : Distinct ts
+  pub number : length ts ≡ n
+
 -- the list has n different transitions: some list has exactly its transitions, each once, and n of them
 pub record Different (ts : List Transition) (n : ℕ) : Type 0 where
   pub each : List Transition

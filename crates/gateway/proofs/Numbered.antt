@@ -10,7 +10,7 @@ use Rattle.automaton.specs.declared.Header.{Header}
 use Rattle.bitfields.specs.Bits.{bitsOf, numberAt, setOf}
 use Rattle.bitfields.specs.Parser.{Parsed, done, refused, andThen, demand, field, flags}
 use Rattle.encoding.specs.Decoding.{Decoding, refuse}
-use Rattle.encoding.specs.Encoding.{Encoding, encoding, ending, fixed, front, transition, transitions}
+use Rattle.encoding.specs.Encoding.{Encoding, encoding, ending, fixed, front, symbols, symbolCount, named, transition, transitions}
 
 abbrev Numbered : {A : Type 0} → Parsed A → Type 0
 Numbered (done a next) = Unit {0}
@@ -45,8 +45,7 @@ fixed-numbered bits at =
     both (field 6 bits n3) _ (one-field 6 bits n3) λ initial n4.
     both (demand (leb initial topstate) 3 bits n4) _ (demanded (leb initial topstate) 2 bits n4) λ u5 n5.
     both (field 10 bits n5) _ (one-field 10 bits n5) λ count n6.
-    both (field 1 bits n6) _ (one-field 1 bits n6) λ reserved n7.
-    both (demand (eqb reserved 0) 2 bits n7) _ (demanded (eqb reserved 0) 1 bits n7) λ u8 n8. tt
+    both (field 1 bits n6) _ (one-field 1 bits n6) λ symbols n7. tt
 
 front-numbered : (bits : List ℕ) (at : ℕ) → Numbered (front bits at)
 unfolding front
@@ -54,6 +53,19 @@ front-numbered bits at =
     both (fixed bits at) _ (fixed-numbered bits at) λ f n1.
     both (flags (f .topstate + 1) bits n1) _ (some-flags (f .topstate + 1) bits n1) λ secret n2.
     both (flags (f .topevent + 1) bits n2) _ (some-flags (f .topevent + 1) bits n2) λ observable n3. tt
+
+symbols-numbered : (n : ℕ) (bits : List ℕ) (at : ℕ) → Numbered (symbols n bits at)
+unfolding symbols
+symbols-numbered zero bits at = tt
+symbols-numbered (suc n) bits at =
+    both (symbols n bits at) _ (symbols-numbered n bits at) λ earlier n1.
+    both (field 5 bits n1) _ (one-field 5 bits n1) λ last n2. tt
+
+named-numbered : (bits : List ℕ) (at : ℕ) → Numbered (named bits at)
+unfolding named
+named-numbered bits at =
+    both (front bits at) _ (front-numbered bits at) λ f n1.
+    both (symbols (symbolCount (f .fixed)) bits n1) _ (symbols-numbered (symbolCount (f .fixed)) bits n1) λ names n2. tt
 
 transition-numbered : (s e : ℕ) (bits : List ℕ) (at : ℕ) → Numbered (transition s e bits at)
 unfolding transition
@@ -79,8 +91,9 @@ ending-numbered bits at = demanded (ltb (length bits - at) 8 && eqb (numberAt bi
 encoding-numbered : (bits : List ℕ) (at : ℕ) → Numbered (encoding bits at)
 unfolding encoding
 encoding-numbered bits at =
-    both (front bits at) _ (front-numbered bits at) λ f n1.
-    both (transitions (f .fixed .topstate) (f .fixed .topevent) (f .fixed .count) bits n1) _ (transitions-numbered (f .fixed .topstate) (f .fixed .topevent) (f .fixed .count) bits n1) λ ts n2.
+    both (named bits at) _ (named-numbered bits at) λ d n1.
+    let f = d .front .fixed in
+    both (transitions (f .topstate) (f .topevent) (f .count) bits n1) _ (transitions-numbered (f .topstate) (f .topevent) (f .count) bits n1) λ ts n2.
     both (ending bits n2) _ (ending-numbered bits n2) λ u n3. tt
 
 pub not-zero : (bytes table : List ℕ) {h : Header} {n : ℕ} {after : List ℕ} → Decoding bytes table h (refuse n) after → n ≡ 0 → ⊥

@@ -23,7 +23,7 @@ use Rattle.gateway.specs.Layout.{headerAt, estimatorAt, notionAt, enforc
 use Rattle.gateway.specs.Interface.{Decode, Fresh, Start}
 use Rattle.gateway.specs.SavedCalls.{AcceptCall, AcceptCalls, weakAt, strongAt, callsOf, OfferCall, OfferCalls, offersOf}
 use Rattle.gateway.proofs.Inverse.{header-length, verdict-back}
-use Rattle.gateway.proofs.Sizes.{decoded-header-back, grown-estimator-back, grown-enforcer-back}
+use Rattle.gateway.proofs.Sizes.{header-sized, decoded-header-back, grown-estimator-back, grown-enforcer-back}
 use Rattle.gateway.proofs.Numbered.{not-zero}
 use Rattle.gateway.proofs.SavedSteps.{keeps-estimator, accept-calls, keeps-enforcer, offer-calls}
 
@@ -38,9 +38,9 @@ abbrev Opens : List ℕ → List ℕ → Notion → Steps → Type 0
 Opens header t notion v = Tells notion (automatonOf t (headerAt header)) (headerAt header .secret) (headerAt header .k) [] v
 
 -- the header has its length, and with the table it is an automaton
-saved-length : (encoding table before t header : List ℕ) → Decode encoding table before 0 t header → length header ≡ 14
+saved-length : (encoding table before t header : List ℕ) → Decode encoding table before 0 t header → length header ≡ 46
 saved-length encoding table before t header (Decode.refused size x) = absurd (not-zero encoding table x refl)
-saved-length encoding table before t header (Decode.accepted size {h = h} x) = header-length h
+saved-length encoding table before t header (Decode.accepted size {h = h} x) = header-length h (header-sized encoding table h t x)
 
 saved-sound : (encoding table before t header : List ℕ) → Decode encoding table before 0 t header → Sound t (headerAt header)
 saved-sound encoding table before t header x = decoded-sound encoding table (headerAt header) t (saved-header encoding table before t header x)

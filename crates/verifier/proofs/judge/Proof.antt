@@ -26,20 +26,20 @@ strong-verdict-requires c κs = search needs
 returns : tie.Need-returns
 returns c = λ notion. go notion
   where
-    go : (notion : Notion) → Asks notion (c .before .before .before .before .before .before .args .asked)
-        → Found notion (automatonOf (now (c .before .before .before .before .before .before .args .table)) (c .before .before .before .before .before .before .args .header))
-        (c .before .before .before .before .before .before .args .header .secret) (c .before .before .before .before .before .before .args .estimator .count)
-        (c .before .before .before .before .before .before .args .estimator) (chosen notion (record { weak = c .before .before .if1 .weak; strong = c .strong-verdict .result }))
+    go : (notion : Notion) → Asks notion (c .before .before .before .before .before .before .before .args .asked)
+        → Found notion (automatonOf (now (c .before .before .before .before .before .before .before .args .table)) (c .before .before .before .before .before .before .before .args .header))
+        (c .before .before .before .before .before .before .before .args .header .secret) (c .before .before .before .before .before .before .before .args .estimator .count)
+        (c .before .before .before .before .before .before .before .args .estimator) (chosen notion (record { weak = c .before .before .if1 .weak; strong = c .strong-verdict .result }))
     go Weak asks = ⊎-elim (λ w. rw (w .2) (w .1 .ensures)) (λ w. absurd (clash _ asks (w .0 .left))) (c .before .before .if1 .came)
     go Strong asks = c .strong-verdict .ensures
 
 returns-2 : tie.Need-returns-2
 returns-2 c = λ notion. go notion
   where
-    go : (notion : Notion) → Asks notion (c .before .before .before .before .before .args .asked)
-        → Found notion (automatonOf (now (c .before .before .before .before .before .args .table)) (c .before .before .before .before .before .args .header))
-        (c .before .before .before .before .before .args .header .secret) (c .before .before .before .before .before .args .estimator .count)
-        (c .before .before .before .before .before .args .estimator) (chosen notion (record { weak = c .before .if1 .weak; strong = NoLeak }))
+    go : (notion : Notion) → Asks notion (c .before .before .before .before .before .before .args .asked)
+        → Found notion (automatonOf (now (c .before .before .before .before .before .before .args .table)) (c .before .before .before .before .before .before .args .header))
+        (c .before .before .before .before .before .before .args .header .secret) (c .before .before .before .before .before .before .args .estimator .count)
+        (c .before .before .before .before .before .before .args .estimator) (chosen notion (record { weak = c .before .if1 .weak; strong = NoLeak }))
     go Weak asks = ⊎-elim (λ w. rw (w .2) (w .1 .ensures)) (λ w. absurd (clash _ asks (w .0 .left))) (c .before .if1 .came)
     go Strong asks = absurd (clash _ asks (c .if2 .left))
 

@@ -61,7 +61,7 @@ pub const STRONG: u8 = 1;
 /// What a gateway lends: the table, the header, the saved states and what is written for it.
 pub struct Library {
     table: Vec<u64>,
-    header: [u8; 14],
+    header: [u8; 46],
     estimator: [u8; 144],
     verdicts: [u8; 2],
     enforcer: [u8; 178],
@@ -73,7 +73,7 @@ impl Library {
     /// Decodes the automaton's encoding; a table that no encoding can list is lent as it is.
     pub fn new(automaton: &Automaton) -> Self {
         let mut made = Library {
-            table: vec![0; 2048], header: [0; 14], estimator: [0; 144], verdicts: [0; 2], enforcer: [0; 178], output: [0; 17], released: [0],
+            table: vec![0; 2048], header: [0; 46], estimator: [0; 144], verdicts: [0; 2], enforcer: [0; 178], output: [0; 17], released: [0],
         };
         match automaton.encode() {
             Some(encoding) => {
@@ -86,6 +86,9 @@ impl Library {
                 made.header[1] = automaton.k;
                 made.header[2..10].copy_from_slice(&automaton.secret.to_le_bytes());
                 made.header[10..14].copy_from_slice(&automaton.observable.to_le_bytes());
+                for event in 0..32 {
+                    made.header[14 + event] = event as u8;
+                }
             }
         }
         made

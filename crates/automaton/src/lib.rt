@@ -3,17 +3,19 @@ ghost use mathlib.Core.List.{List, [], _∷_, _++_};
 ghost use Prim.Native.Nat.{ℕ, _+_, _*_, _<_, _≤_};
 ghost use lib.ListN.{length, getD, take, drop, replicate};
 ghost use Rattle.stateset.specs.Set.{In, Is, Decided};
-ghost use Rattle.automaton.specs.Run.{Automaton, automatonOf, Observable, Sound};
+ghost use Rattle.automaton.specs.Run.{Automaton, automatonOf, SmallSymbols, Sound};
 ghost use Rattle.automaton.specs.Refusals.{numberOf};
-ghost use Rattle.automaton.specs.Reaching.{Enters, Arrives, Leaves, Known, Gained, Closed, Entered};
+ghost use Rattle.automaton.specs.Reaching.{Enters, Arrives, Leaves, Showing, BySymbol, Known, Gained, Closed, Entered};
 ghost use Rattle.automaton.specs.Relation.{Row, Rows, Listed, Image, Preimage, Reached, Sub, Put, Masks, Swapped};
 
-// What an encoding says beside its transitions (01: head): the initial state, the look-back K, the secret states and the observable events.
+// What an encoding says beside its transitions (01: head): the initial state, the look-back K, the secret states, the observable events, and
+// the observation symbol of each event (02: lamp), which counts only where the event is observable.
 pub struct Header {
     pub initial: u8,
     pub k: u8,
     pub secret: u64,
     pub observable: u32,
+    pub symbols: [u8; 32],
 }
 
 // States that unobservable events do not leave, and those whose rows are known.
@@ -25,7 +27,6 @@ pub struct Reach {
 // Why a call was turned back, in the order of 01's refusal table and then 02's numbers.
 pub enum Refusal {
     Truncated,
-    ReservedBit,
     StateOutOfRange,
     EventOutOfRange,
     TrailingData,
@@ -44,7 +45,6 @@ pub fn number(refusal: Refusal) -> u8
 {
     match refusal {
         Refusal::Truncated => 1,
-        Refusal::ReservedBit => 2,
         Refusal::StateOutOfRange => 3,
         Refusal::EventOutOfRange => 4,
         Refusal::TrailingData => 5,
@@ -58,14 +58,7 @@ pub fn number(refusal: Refusal) -> u8
     }
 }
 
-// Whether a byte is an observable event.
-pub fn observable(header: Header, byte: u8) -> bool
-    ensures { λ r. ⌜ Decided r (Observable header byte) ⌝ }
-{
-    stateset::member(header.observable as u64, byte as usize)
-}
-
-// Whether the first `count` bytes are numbers of events, at most 31. (A byte that the slice does not have counts as 0; the arrays of
+// Whether the first `count` bytes are symbols, at most 31. (A byte that the slice does not have counts as 0; the arrays of
 // estimators and enforcers are longer than a count within its limit.)
 pub fn in_range(bytes: &[u8], count: u8) -> bool
     ensures { λ r. ⌜ Decided r ((i : ℕ) → i < count → getD (now (bytes .entry)) i 0 ≤ 31) ⌝ }
@@ -84,6 +77,23 @@ pub fn in_range(bytes: &[u8], count: u8) -> bool
     true
 }
 
+// Whether the symbol of each observable event is at most 31.
+fn small_symbols(header: Header) -> bool
+    ensures { λ r. ⌜ Decided r (SmallSymbols (header .observable) (header .symbols)) ⌝ }
+{
+    let symbols = header.symbols;
+    let observable = header.observable as u64;
+    let mut todo = observable;
+    while todo != 0 {
+        let e = u64::trailing_zeros(todo) as usize;
+        if 31 < symbols[e] {
+            return false;
+        }
+        todo &= todo - 1;
+    }
+    true
+}
+
 // Whether the table and the header are an automaton.
 pub fn sound(table: &[u64], header: Header) -> bool
     ensures { λ r. ⌜ Decided r (Sound (now (table .entry)) header) ⌝ }
@@ -97,7 +107,38 @@ pub fn sound(table: &[u64], header: Header) -> bool
     if 63 < header.initial {
         return false;
     }
-    true
+    small_symbols(header)
+}
+
+// For each symbol the observable events that have it. (One walk over the observable events for a whole call; a step by a symbol then finds its
+// events at once. Inner, as the functions below.)
+pub fn by_symbol(header: Header) -> [u32; 32]
+    requires { ⌜ SmallSymbols (header .observable) (header .symbols) ⌝ }
+    ensures { λ r. ⌜ ((t : List ℕ) → BySymbol (automatonOf t header) r) ⌝ }
+{
+    let symbols = header.symbols;
+    let observable = header.observable as u64;
+    let mut sets = [0u32; 32];
+    let mut todo = observable;
+    while todo != 0 {
+        let e = u64::trailing_zeros(todo) as usize;
+        let s = symbols[e] as usize;
+        sets[s] |= 1 << e;
+        todo &= todo - 1;
+    }
+    sets
+}
+
+// The observable events with a symbol; none where the byte is above 31.
+pub fn events_with(sets: &[u32], symbol: u8) -> u64
+    requires { ⌜ length (now sets) ≡ 32 ⌝ }
+    ensures { λ r. ⌜ ((p : Automaton) → SmallSymbols (p .observable) (p .symbols) → BySymbol p (now (sets .entry)) → Showing p symbol r) ⌝ }
+{
+    let at = symbol as usize;
+    if 31 < at {
+        return 0;
+    }
+    sets[at] as u64
 }
 
 // Where the events of a mask may lead from eight states, from `first` on. (Event by event: the eight words stand side by side in the table.)
@@ -264,13 +305,43 @@ pub fn silent_rows(table: &[u64], header: Header, rows: &mut [u64], before: u64,
 }
 
 // Where an event may lead from each state: 64 words as they stand in the table.
-fn event_rows(table: &[u64], event: u8) -> &[u64]
+fn event_rows(table: &[u64], event: usize) -> &[u64]
     requires { ⌜ (length (now table) ≡ 2048) × (event < 32) ⌝ }
     ensures { λ r. ⌜ now r ≡ take 64 (drop (64 * event) (now (table .entry))) ⌝ }
 {
-    let from = 64 * event as usize;
+    let from = 64 * event;
     let to = from + 64;
     &table[from..to]
+}
+
+// Where the events of a mask lead from the states of a set.
+fn image_by(table: &[u64], events: u64, set: u64) -> u64
+    requires { ⌜ (length (now table) ≡ 2048) × ((e : ℕ) → In e events → e < 32) ⌝ }
+    ensures { λ r. ⌜ Is r (Image (Listed (now (table .entry)) events) set) ⌝ }
+{
+    let mut todo = events;
+    let mut r: u64 = 0;
+    while todo != 0 {
+        let e = u64::trailing_zeros(todo) as usize;
+        r |= image(event_rows(table, e), set);
+        todo &= todo - 1;
+    }
+    r
+}
+
+// The states below `few` from which the events of a mask lead into a set.
+fn preimage_by(table: &[u64], events: u64, few: usize, set: u64) -> u64
+    requires { ⌜ (length (now table) ≡ 2048) × ((e : ℕ) → In e events → e < 32) × (few ≤ 64) ⌝ }
+    ensures { λ r. ⌜ Is r (λ q. (q < few) × Preimage (Listed (now (table .entry)) events) set q) ⌝ }
+{
+    let mut todo = events;
+    let mut r: u64 = 0;
+    while todo != 0 {
+        let e = u64::trailing_zeros(todo) as usize;
+        r |= preimage(event_rows(table, e), few, set);
+        todo &= todo - 1;
+    }
+    r
 }
 
 // The unobservable reach of an entry set: the states in which runs can be before the next event.
@@ -282,30 +353,29 @@ pub fn unobservable_reach(silent: &[u64], states: u64, entry: u64) -> u64
     closure(silent, states, entry)
 }
 
-// The entry set of one more event: the states in which runs can be right after it.
-pub fn observable_reach(table: &[u64], header: Header, event: u8, estimate: u64) -> u64
-    requires { ⌜ (length (now table) ≡ 2048) × (event < 32) ⌝ }
-    ensures { λ r. ⌜ ((trace : List ℕ) → In event (header .observable) → Is estimate (Arrives (automatonOf (now (table .entry)) header) trace)
-        → Is r (Enters (automatonOf (now (table .entry)) header) (trace ++ event ∷ []))) ⌝ }
+// The entry set of one more symbol, from the events that show it: the states in which runs can be right after it.
+pub fn observable_reach(table: &[u64], events: u64, estimate: u64) -> u64
+    requires { ⌜ (length (now table) ≡ 2048) × ((e : ℕ) → In e events → e < 32) ⌝ }
+    ensures { λ r. ⌜ ((p : Automaton) (trace : List ℕ) (symbol : ℕ) → p .table ≡ now (table .entry) → Showing p symbol events → Is estimate (Arrives p trace)
+        → Is r (Enters p (trace ++ symbol ∷ []))) ⌝ }
 {
-    image(event_rows(table, event), estimate)
+    image_by(table, events, estimate)
 }
 
-// From the states that some events can follow, those that the same events can follow with one more before them, through allowed states alone.
+// From the states that some symbols can follow, those that the same symbols can follow with one more before them, through allowed states alone.
 pub fn backward_reach(
     table: &[u64],
-    header: Header,
     back: &[u64],
     allowed: u64,
-    event: u8,
+    events: u64,
     then: u64,
 ) -> u64
-    requires { ⌜ (length (now table) ≡ 2048) × (length (now back) ≡ 64) × (event < 32) ⌝ }
-    ensures { λ r. ⌜ ((states : ℕ) (rest : List ℕ) → In event (header .observable) → Entered (automatonOf (now (table .entry)) header) states (now (back .entry)) → Sub allowed states
-        → Is then (Leaves (automatonOf (now (table .entry)) header) allowed rest) → Is r (Leaves (automatonOf (now (table .entry)) header) allowed (event ∷ rest))) ⌝ }
+    requires { ⌜ (length (now table) ≡ 2048) × (length (now back) ≡ 64) × ((e : ℕ) → In e events → e < 32) ⌝ }
+    ensures { λ r. ⌜ ((p : Automaton) (states : ℕ) (rest : List ℕ) (symbol : ℕ) → p .table ≡ now (table .entry) → Showing p symbol events
+        → Entered p states (now (back .entry)) → Sub allowed states → Is then (Leaves p allowed rest) → Is r (Leaves p allowed (symbol ∷ rest))) ⌝ }
 {
     let few = stateset::bound(allowed);
-    let into = preimage(event_rows(table, event), few, then);
+    let into = preimage_by(table, events, few, then);
     closure(back, allowed, into)
 }
 

@@ -2,6 +2,7 @@
 pub mod Listed
 pub mod Ended
 pub mod Refusing
+pub mod HeaderSymbols
 pub mod Stored
 pub mod Promise
 -- Theorems about the definitions: one decoding only, no transition twice, and what a decoded table means. (01's starred encodings are rows of the

@@ -1,4 +1,4 @@
--- By which numbers the layout refuses: 1 to 5 and 12. For a number x that is none of them, or none of those of a part. Assumes nothing.
+-- By which numbers the layout refuses: 1, 3, 4, 5 and 12. For a number x that is none of them, or none of those of a part. Assumes nothing.
 use Prim.Native.Nat.{ℕ, zero, suc, _+_, _-_, _≤_}
 use mathlib.Core.Path.{_≡_}
 use mathlib.Core.Bool.{not, _&&_}
@@ -10,7 +10,7 @@ use Rattle.bitfields.specs.Bits.{numberAt}
 use Rattle.bitfields.specs.Parser.{demand, field, flags}
 use Rattle.bitfields.proofs.Parsing.{Never, never-then, never-demand, never-field, never-flags}
 use Rattle.encoding.specs.Transitions.{listed}
-use Rattle.encoding.specs.Encoding.{encoding, ending, fixed, front, transition, transitions}
+use Rattle.encoding.specs.Encoding.{encoding, ending, fixed, front, symbols, symbolCount, preamble, transition, transitions}
 
 -- x is none of 1 to 5
 abbrev pub Outside : ℕ → Type 0
@@ -32,15 +32,27 @@ module _ (x : ℕ) (other : Outside x) (bits : List ℕ) where
       never-then x (field 6 bits n3) _ (one-field 6 n3) λ initial n4.
       never-then x (demand (leb initial topstate) 3 bits n4) _ (never-demand x (leb initial topstate) 3 bits n4 (other 3 (omega arith) (omega arith))) λ u5 n5.
       never-then x (field 10 bits n5) _ (one-field 10 n5) λ count n6.
-      never-then x (field 1 bits n6) _ (one-field 1 n6) λ reserved n7.
-      never-then x (demand (eqb reserved 0) 2 bits n7) _ (never-demand x (eqb reserved 0) 2 bits n7 (other 2 (omega arith) (omega arith))) λ u8 n8. tt
+      never-then x (field 1 bits n6) _ (one-field 1 n6) λ symbols n7. tt
 
-  pub front-never : (at : ℕ) → Never x (front bits at)
+  front-never : (at : ℕ) → Never x (front bits at)
   unfolding front
   front-never at =
       never-then x (fixed bits at) _ (fixed-never at) λ f n1.
       never-then x (flags (f .topstate + 1) bits n1) _ (some-flags (f .topstate + 1) n1) λ secret n2.
       never-then x (flags (f .topevent + 1) bits n2) _ (some-flags (f .topevent + 1) n2) λ observable n3. tt
+
+  symbols-never : (n at : ℕ) → Never x (symbols n bits at)
+  unfolding symbols
+  symbols-never zero at = tt
+  symbols-never (suc n) at =
+      never-then x (symbols n bits at) _ (symbols-never n at) λ earlier n1.
+      never-then x (field 5 bits n1) _ (one-field 5 n1) λ last n2. tt
+
+  pub preamble-never : (at : ℕ) → Never x (preamble bits at)
+  unfolding preamble
+  preamble-never at =
+      never-then x (front bits at) _ (front-never at) λ f n1.
+      never-then x (symbols (symbolCount (f .fixed)) bits n1) _ (symbols-never (symbolCount (f .fixed)) n1) λ given n2. tt
 
   pub transition-never : (s e at : ℕ) → Never x (transition s e bits at)
   unfolding transition
@@ -69,6 +81,7 @@ module _ (x : ℕ) (other : Outside x) (bits : List ℕ) where
     pub encoding-never : (at : ℕ) → Never x (encoding bits at)
     unfolding encoding
     encoding-never at =
-        never-then x (front bits at) _ (front-never at) λ f n1.
-        never-then x (transitions (f .fixed .topstate) (f .fixed .topevent) (f .fixed .count) bits n1) _ (transitions-never (f .fixed .topstate) (f .fixed .topevent) (f .fixed .count) n1) λ ts n2.
+        never-then x (preamble bits at) _ (preamble-never at) λ d n1.
+        let f = d .front .fixed in
+        never-then x (transitions (f .topstate) (f .topevent) (f .count) bits n1) _ (transitions-never (f .topstate) (f .topevent) (f .count) n1) λ ts n2.
         never-then x (ending bits n2) _ (ending-never n2) λ u n3. tt

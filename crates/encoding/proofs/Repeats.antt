@@ -8,20 +8,19 @@ use native.Mathlib.Omega.{arith}
 use Rattle.bitfields.specs.Parser.{Parsed, done, refused, andThen, _>>=_, _>>_, give, demand}
 use Rattle.bitfields.proofs.Parsing.{on-refused}
 use Rattle.encoding.specs.Transitions.{Transition, listed}
-use Rattle.encoding.specs.Encoding.{Encoding, encoding, ending, front, transition, transitions}
-use Rattle.encoding.specs.declared.Front.{Front}
+use Rattle.encoding.specs.Encoding.{Encoding, encoding, ending, Preamble, preamble, transition, transitions}
 use Rattle.encoding.specs.Repeats.{Again, Repeats}
 use Rattle.encoding.proofs.Ended.{transitions-repeated, transitions-stop}
-use Rattle.encoding.proofs.Refusing.{Outside, front-never, transition-never, ending-never}
+use Rattle.encoding.proofs.Refusing.{Outside, preamble-never, transition-never, ending-never}
 
 -- A REPEAT IS REFUSED WHERE IT STANDS, whatever follows: the encoding may be cut behind it or go astray
 pub repeat-refused : (bits : List ℕ) → Repeats bits → encoding bits 0 ≡ refused 12
 unfolding encoding
 repeat-refused bits r =
-    let f = r .read .fixed in
+    let f = r .read .front .fixed in
     let a = r .again in
     let x = transitions-repeated (f .topstate) (f .topevent) bits (r .start) (a .number) (a .earlier-read) (a .last-read) (a .repeat) in
-    rw (r .front-read, transitions-stop (f .topstate) (f .topevent) bits (r .start) (a .number) x (f .count) (a .fewer))
+    rw (r .preamble-read, transitions-stop (f .topstate) (f .topevent) bits (r .start) (a .number) x (f .count) (a .fewer))
 
 outside : Outside 12
 outside n low high e = omega arith
@@ -68,18 +67,18 @@ transitions-again s e (suc n) bits at r = go (transitions s e n bits at) refl (t
 same-number : {A B : Type 0} {x : ℕ} → _≡_ {A = Parsed A} (refused x) (refused 12) → _≡_ {A = Parsed B} (refused x) (refused 12)
 same-number {x = x} e = let n : x ≡ 12 = cc in ap refused n
 
-behind : (bits : List ℕ) (f : Front) (start : ℕ) → front bits 0 ≡ done f start
-    → (p : Parsed (List Transition)) → transitions (f .fixed .topstate) (f .fixed .topevent) (f .fixed .count) bits start ≡ p
-    → _≡_ {A = Parsed Encoding} (andThen p (λ ts next. _>>_ ending (give (record { front = f; transitions = ts })) bits next)) (refused 12) → Repeats bits
+behind : (bits : List ℕ) (f : Preamble) (start : ℕ) → preamble bits 0 ≡ done f start
+    → (p : Parsed (List Transition)) → transitions (f .front .fixed .topstate) (f .front .fixed .topevent) (f .front .fixed .count) bits start ≡ p
+    → _≡_ {A = Parsed Encoding} (andThen p (λ ts next. _>>_ ending (give (record { front = f .front; symbols = f .symbols; transitions = ts })) bits next)) (refused 12) → Repeats bits
 behind bits f start e1 (done ts p) is r = on-refused 12 (ending bits p) _ (ending-never 12 outside bits p) r λ u next e2 r2. let z : _≡_ {A = ℕ} 0 1 = cc in absurd (omega arith)
 behind bits f start e1 (refused x) is r =
-    record { read = f; start = start; front-read = e1; again = transitions-again (f .fixed .topstate) (f .fixed .topevent) (f .fixed .count) bits start (is ∙ same-number r) }
+    record { read = f; start = start; preamble-read = e1; again = transitions-again (f .front .fixed .topstate) (f .front .fixed .topevent) (f .front .fixed .count) bits start (is ∙ same-number r) }
 
 repeats : (bits : List ℕ) → encoding bits 0 ≡ refused 12 → Repeats bits
 unfolding encoding
 repeats bits r =
-    on-refused 12 (front bits 0) _ (front-never 12 outside bits 0) r λ f start e1 r1.
-    behind bits f start e1 (transitions (f .fixed .topstate) (f .fixed .topevent) (f .fixed .count) bits start) refl r1
+    on-refused 12 (preamble bits 0) _ (preamble-never 12 outside bits 0) r λ f start e1 r1.
+    behind bits f start e1 (transitions (f .front .fixed .topstate) (f .front .fixed .topevent) (f .front .fixed .count) bits start) refl r1
 
 -- 12 EXACTLY WHERE AN ENCODING REPEATS A TRANSITION
 pub repeated-exactly : (bits : List ℕ) → (encoding bits 0 ≡ refused 12) ↔ Repeats bits

@@ -6,8 +6,7 @@ use mathlib.Core.List.{List, [], _∷_}
 use lib.ListN.{length}
 use Rattle.bitfields.specs.Parser.{done}
 use Rattle.encoding.specs.Transitions.{Transition, listed}
-use Rattle.encoding.specs.Encoding.{front, transition, transitions}
-use Rattle.encoding.specs.declared.Front.{Front}
+use Rattle.encoding.specs.Encoding.{Preamble, preamble, transition, transitions}
 
 -- no transition stands in the list twice
 abbrev pub Distinct : List Transition → Type 0
@@ -39,9 +38,9 @@ pub record Again (topstate topevent n : ℕ) (bits : List ℕ) (at : ℕ) : Type
   pub last-read : transition topstate topevent bits position ≡ done last next
   pub repeat : listed last earlier ≡ true
 
--- an encoding repeats a transition: its front is read, and then so
+-- an encoding repeats a transition: what stands before the transitions is read, and then so
 pub record Repeats (bits : List ℕ) : Type 0 where
-  pub read : Front
+  pub read : Preamble
   pub start : ℕ
-  pub front-read : front bits 0 ≡ done read start
-  pub again : Again (read .fixed .topstate) (read .fixed .topevent) (read .fixed .count) bits start
+  pub preamble-read : preamble bits 0 ≡ done read start
+  pub again : Again (read .front .fixed .topstate) (read .front .fixed .topevent) (read .front .fixed .count) bits start

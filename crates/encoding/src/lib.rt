@@ -9,10 +9,10 @@ ghost use mathlib.Core.Path.{_≡_};
 ghost use Prim.Native.Nat.{_+_, _*_, _≤_, _<_};
 ghost use lib.ListN.{length, replicate};
 ghost use Rattle.bitfields.specs.Bits.{bitsOf};
-ghost use Rattle.encoding.specs.Transitions.{listed, transitionAt, transitionsAt};
-ghost use Rattle.encoding.specs.Encoding.{fixed, front, transition, transitions, ending, encoding};
+ghost use Rattle.encoding.specs.Transitions.{listed, transitionAt, transitionsAt, symbolsAt};
+ghost use Rattle.encoding.specs.Encoding.{fixed, front, symbolCount, preamble, transition, transitions, ending, encoding};
 ghost use Rattle.encoding.specs.Table.{mark, tableOf};
-ghost use Rattle.encoding.specs.Answers.{fixedMeans, frontMeans, checkedMeans, encodingMeans, frontEnd, headerOf, FrontSmall};
+ghost use Rattle.encoding.specs.Answers.{fixedMeans, frontMeans, preambleMeans, checkedMeans, encodingMeans, frontEnd, preambleEnd, givenSymbols, symbolFor, headerSymbols, headerOf, FixedSmall, FrontSmall};
 ghost use Rattle.encoding.specs.Decoding.{Decoding, refusedBy, answerMeans};
 
 // The fields that each encoding starts with: 32 bits.
@@ -22,6 +22,7 @@ struct Fixed {
     k: usize,
     initial: usize,
     count: usize,
+    symbols: usize,
 }
 
 enum FixedAnswer {
@@ -29,7 +30,7 @@ enum FixedAnswer {
     Refused(Refusal),
 }
 
-// All of an encoding but the transitions.
+// All of an encoding but the symbols and the transitions, which are read again where they are stored. (An enum can hold no array.)
 struct Front {
     fixed: Fixed,
     secret: u64,
@@ -79,18 +80,16 @@ fn read_fixed(bytes: &[u8]) -> FixedAnswer
     let Field::Value(count) = bitfields::read_field(bytes, 21, 10) else {
         return FixedAnswer::Refused(Refusal::Truncated);
     };
-    let Field::Value(reserved) = bitfields::read_field(bytes, 31, 1) else {
+    let Field::Value(symbols) = bitfields::read_field(bytes, 31, 1) else {
         return FixedAnswer::Refused(Refusal::Truncated);
     };
-    if reserved != 0 {
-        return FixedAnswer::Refused(Refusal::ReservedBit);
-    }
     FixedAnswer::Value(Fixed {
         topstate,
         topevent,
         k,
         initial,
         count,
+        symbols,
     })
 }
 
@@ -119,13 +118,48 @@ fn read_front(bytes: &[u8]) -> FrontAnswer
     }
 }
 
-// The position of the first transition.
+// How many symbols are listed: none, or one for each event up to the top event.
+fn symbol_count(fixed: Fixed) -> usize
+    requires { ⌜ FixedSmall fixed ⌝ }
+    ensures { λ r. ⌜ r ≡ symbolCount fixed ⌝ }
+{
+    if fixed.symbols == 0 {
+        return 0;
+    }
+    fixed.topevent + 1
+}
+
+// The position after the observable bits, where the symbols stand.
 fn front_end(front: Front) -> usize
     requires { ⌜ FrontSmall front ⌝ }
     ensures { λ r. ⌜ r ≡ frontEnd front ⌝ }
 {
     let fixed = front.fixed;
     32 + (fixed.topstate + 1) + (fixed.topevent + 1)
+}
+
+// The position of the first transition.
+fn preamble_end(front: Front) -> usize
+    requires { ⌜ FrontSmall front ⌝ }
+    ensures { λ r. ⌜ r ≡ preambleEnd front ⌝ }
+{
+    front_end(front) + symbol_count(front.fixed) * 5
+}
+
+// The front and the symbols behind it. A symbol of 5 bits needs no check of its own, only the bits.
+fn read_preamble(bytes: &[u8]) -> FrontAnswer
+    ensures { λ r. ⌜ preambleMeans (bitsOf (now (bytes .entry))) r ≡ preamble (bitsOf (now (bytes .entry))) 0 ⌝ }
+{
+    match read_front(bytes) {
+        FrontAnswer::Refused(r) => FrontAnswer::Refused(r),
+        FrontAnswer::Value(f) => {
+            let end = preamble_end(f);
+            if bytes.len() < (end + 7) / 8 {
+                return FrontAnswer::Refused(Refusal::Truncated);
+            }
+            FrontAnswer::Value(f)
+        }
+    }
 }
 
 // The transition at a position, each field with its own check.
@@ -217,11 +251,11 @@ fn check_ending(bytes: &[u8], at: usize) -> Checked
 fn check(bytes: &[u8]) -> FrontAnswer
     ensures { λ r. ⌜ encodingMeans (bitsOf (now (bytes .entry))) r ≡ encoding (bitsOf (now (bytes .entry))) 0 ⌝ }
 {
-    match read_front(bytes) {
+    match read_preamble(bytes) {
         FrontAnswer::Refused(r) => FrontAnswer::Refused(r),
         FrontAnswer::Value(f) => {
             let fixed = f.fixed;
-            let at = front_end(f);
+            let at = preamble_end(f);
             match check_transitions(bytes, at, fixed.topstate, fixed.topevent, fixed.count) {
                 Checked::Refused(r) => FrontAnswer::Refused(r),
                 Checked::Valid => match check_ending(bytes, at + fixed.count * 17) {
@@ -268,16 +302,51 @@ fn fill(bytes: &[u8], at: usize, count: usize, table: &mut [u64])
     }
 }
 
-fn header_of(front: Front) -> Header
-    requires { ⌜ FrontSmall front ⌝ }
-    ensures { λ r. ⌜ r ≡ headerOf front ⌝ }
+// The symbol that the header holds for an event: 0 where it is not observable, its own number where no symbols are listed.
+fn symbol_at(bytes: &[u8], at: usize, n: usize, observable: u64, e: usize) -> u8
+    requires { ⌜ (e < 32) × (at ≤ 1024) × (n ≤ 32) × (at + n * 5 ≤ length (bitsOf (now bytes))) ⌝ }
+    ensures { λ r. ⌜ r ≡ symbolFor observable (symbolsAt (bitsOf (now (bytes .entry))) at n) e ⌝ }
+{
+    if !stateset::member(observable, e) {
+        return 0;
+    }
+    if n == 0 {
+        return e as u8;
+    }
+    if n <= e {
+        return 0;
+    }
+    bitfields::read_number(bytes, at + e * 5, 5) as u8
+}
+
+// The symbols of all 32 events.
+fn all_symbols(bytes: &[u8], at: usize, n: usize, observable: u64) -> [u8; 32]
+    requires { ⌜ (at ≤ 1024) × (n ≤ 32) × (at + n * 5 ≤ length (bitsOf (now bytes))) ⌝ }
+    ensures { λ r. ⌜ r ≡ headerSymbols observable (symbolsAt (bitsOf (now (bytes .entry))) at n) ⌝ }
+{
+    let mut symbols = [0u8; 32];
+    let mut e: usize = 0;
+    while e < 32 {
+        symbols[e] = symbol_at(bytes, at, n, observable, e);
+        e += 1;
+    }
+    symbols
+}
+
+fn header_of(bytes: &[u8], front: Front) -> Header
+    requires { ⌜ FrontSmall front × (preambleEnd front ≤ length (bitsOf (now bytes))) ⌝ }
+    ensures { λ r. ⌜ r ≡ headerOf front (givenSymbols (bitsOf (now (bytes .entry))) front) ⌝ }
 {
     let fixed = front.fixed;
+    let at = front_end(front);
+    let n = symbol_count(fixed);
+    let symbols = all_symbols(bytes, at, n, front.observable);
     Header {
         initial: fixed.initial as u8,
         k: fixed.k as u8,
         secret: front.secret,
         observable: front.observable as u32,
+        symbols: symbols,
     }
 }
 
@@ -290,6 +359,7 @@ fn refused(refusal: Refusal) -> Decoded
             k: 255,
             secret: 0,
             observable: 0,
+            symbols: [0u8; 32],
         },
         answer: Answer::Refused(refusal),
     }
@@ -306,9 +376,9 @@ pub fn decode(bytes: &[u8], table: &mut [u64]) -> Decoded
         FrontAnswer::Refused(r) => refused(r),
         FrontAnswer::Value(f) => {
             let fixed = f.fixed;
-            fill(bytes, front_end(f), fixed.count, table);
+            fill(bytes, preamble_end(f), fixed.count, table);
             Decoded {
-                header: header_of(f),
+                header: header_of(bytes, f),
                 answer: Answer::Accepted,
             }
         }

@@ -10,3 +10,5 @@ pub mod Lists
 pub mod Unique
 pub mod ThirdPoint
 pub mod Settings
+pub mod Agreed
+pub mod DistinctReleases

@@ -5,6 +5,7 @@ use native.Mathlib.Omega.{arith}
 use lib.ListN.{length}
 use Rattle.automaton.specs.Run.{automatonOf, Sound}
 use Rattle.automaton.specs.declared.Header.{Header}
+use Rattle.automaton.proofs.SymbolSets.{observable-small}
 use Rattle.verifier.specs.declared.Notion.{Notion}
 use Rattle.verifier.specs.declared.Notion.the-variants.{Weak, Strong}
 use Rattle.verifier.specs.declared.Verdict.{Verdict}
@@ -46,7 +47,7 @@ taken-outcome t h self byte output v s (offer.Released f) after left so li wide 
     let limits : Limits (h .k) after = record {
       estimator = rw (took .estimator-is) (moved .limits-after);
       few = omega arith;
-      small = took .small (omega (arith, ob .event-small)) (li .small);
+      small = took .small (observable-small t h byte so ob) (li .small);
     } in
     accepted so li wide ob limits (took .shifted .balance) (took .front) (took .shifted .rest)
     (λ notion trace g.

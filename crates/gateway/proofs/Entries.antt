@@ -40,7 +40,7 @@ kept-output t h s event output (Offering.output-too-small so li few) = refl
 kept-output t h s event output (Offering.not-observable so li wide never) = refl
 kept-output t h s event output (Offering.incompatible so li wide ob none) = refl
 
-module _ (encoding table header after : List ℕ) (h : Header) (answer : decoded.Answer) (size : length header ≡ 14)
+module _ (encoding table header after : List ℕ) (h : Header) (answer : decoded.Answer) (size : length header ≡ 46)
     (did : Decoding encoding table h (answerMeans answer) after) where
   pub decode-refused : (r : Refusal) (n : ℕ) → answer ≡ decoded.the-variants.Refused r → n ≡ numberOf r → Decode encoding table header n after header
   decode-refused r n is number =

@@ -60,18 +60,31 @@ words-back (w ∷ ws) a b at small e =
 pub record HeaderSized (h : Header) : Type 0 where
   pub secret : h .secret < 2 ^ 64
   pub observable : h .observable < 2 ^ 32
+  pub symbols : length (h .symbols) ≡ 32
 
 pub header-back : (h : Header) → HeaderSized h → headerAt (headerBytes h) ≡ h
 header-back h x =
     let front = h .initial ∷ h .k ∷ [] in
-    let s : numberAt (headerBytes h) 2 8 ≡ h .secret = number-back front (bytesOf 4 (h .observable)) 8 (h .secret) 2 (x .secret) refl in
-    let o : numberAt (headerBytes h) 10 4 ≡ h .observable =
-    ap (λ (l : List ℕ). numberAt (h .initial ∷ h .k ∷ bytesOf 8 (h .secret) ++ l) 10 4) (sym (append-nil (bytesOf 4 (h .observable))))
-    ∙ number-back (h .initial ∷ h .k ∷ bytesOf 8 (h .secret)) [] 4 (h .observable) 10 (x .observable) (omega (arith, bytes-length 8 (h .secret))) in
-    λ i. record { initial = h .initial; k = h .k; secret = s i; observable = o i }
+    let middle = h .initial ∷ h .k ∷ bytesOf 8 (h .secret) in
+    let s : numberAt (headerBytes h) 2 8 ≡ h .secret = number-back front (bytesOf 4 (h .observable) ++ h .symbols) 8 (h .secret) 2 (x .secret) refl in
+    let o : numberAt (headerBytes h) 10 4 ≡ h .observable = number-back middle (h .symbols) 4 (h .observable) 10 (x .observable) (omega (arith, bytes-length 8 (h .secret))) in
+    let all : headerBytes h ≡ (middle ++ bytesOf 4 (h .observable)) ++ (h .symbols ++ []) =
+    sym (append-assoc middle (bytesOf 4 (h .observable)) (h .symbols)) ∙ ap (λ (l : List ℕ). (middle ++ bytesOf 4 (h .observable)) ++ l) (sym (append-nil (h .symbols))) in
+    let long : 14 ≡ length (middle ++ bytesOf 4 (h .observable)) = sym (length-append middle (bytesOf 4 (h .observable)) ∙ omega (arith, bytes-length 8 (h .secret), bytes-length 4 (h .observable))) in
+    let n : bytesAt (headerBytes h) 14 32 ≡ h .symbols =
+    ap (λ (l : List ℕ). bytesAt l 14 32) all ∙ part-back (middle ++ bytesOf 4 (h .observable)) (h .symbols) [] 14 32 long (sym (x .symbols)) in
+    λ i. record { initial = h .initial; k = h .k; secret = s i; observable = o i; symbols = n i }
 
-pub header-length : (h : Header) → length (headerBytes h) ≡ 14
-header-length h = omega (arith, length-append (bytesOf 8 (h .secret)) (bytesOf 4 (h .observable)), bytes-length 8 (h .secret), bytes-length 4 (h .observable))
+pub header-length : (h : Header) → HeaderSized h → length (headerBytes h) ≡ 46
+header-length h x =
+    omega (
+      arith,
+      length-append (bytesOf 8 (h .secret)) (bytesOf 4 (h .observable) ++ h .symbols),
+      length-append (bytesOf 4 (h .observable)) (h .symbols),
+      bytes-length 8 (h .secret),
+      bytes-length 4 (h .observable),
+      x .symbols,
+    )
 
 -- with other bytes behind, as in an enforcer
 estimator-in : (s : Estimator) (b : List ℕ) → EstimatorSized s → estimatorAt (s .count ∷ s .events ++ wordsBytes (s .entries) ++ b) ≡ s

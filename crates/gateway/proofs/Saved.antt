@@ -27,15 +27,19 @@ behind d xs ys at next e = rw (← e) (sets-append xs ys d at)
 pub wrote-two : (d d₁ d₂ : List ℕ) (a b : ℕ) → length d ≡ 2 → d₁ ≡ set d 0 a → d₂ ≡ set d₁ 1 b → d₂ ≡ a ∷ b ∷ []
 wrote-two d d₁ d₂ a b size x y = y ∙ ap (λ (l : List ℕ). set l 1 b) x ∙ whole d (a ∷ b ∷ []) (sym size)
 
-pub wrote-header : (d d₁ d₂ d₃ d₄ : List ℕ) (initial k secret observable : ℕ) → length d ≡ 14 → d₁ ≡ set d 0 initial → d₂ ≡ set d₁ 1 k
-    → d₃ ≡ sets d₂ 2 (bytesOf 8 secret) → d₄ ≡ sets d₃ 10 (bytesOf 4 observable) → d₄ ≡ initial ∷ k ∷ bytesOf 8 secret ++ bytesOf 4 observable
-wrote-header d d₁ d₂ d₃ d₄ initial k secret observable size a b c e =
-    let text = initial ∷ k ∷ bytesOf 8 secret ++ bytesOf 4 observable in
-    let long : length text ≡ 14 = ap (λ (n : ℕ). suc (suc n)) (length-append (bytesOf 8 secret) (bytesOf 4 observable) ∙ omega (arith, bytes-length 8 secret, bytes-length 4 observable)) in
+pub wrote-header : (d d₁ d₂ d₃ d₄ d₅ : List ℕ) (initial k secret observable : ℕ) (symbols : List ℕ) → length d ≡ 46 → length symbols ≡ 32 → d₁ ≡ set d 0 initial → d₂ ≡ set d₁ 1 k
+    → d₃ ≡ sets d₂ 2 (bytesOf 8 secret) → d₄ ≡ sets d₃ 10 (bytesOf 4 observable) → d₅ ≡ sets d₄ 14 symbols → d₅ ≡ initial ∷ k ∷ bytesOf 8 secret ++ (bytesOf 4 observable ++ symbols)
+wrote-header d d₁ d₂ d₃ d₄ d₅ initial k secret observable symbols size many a b c e f =
+    let text = initial ∷ k ∷ bytesOf 8 secret ++ (bytesOf 4 observable ++ symbols) in
+    let tail : length (bytesOf 8 secret ++ (bytesOf 4 observable ++ symbols)) ≡ 44 =
+    length-append (bytesOf 8 secret) (bytesOf 4 observable ++ symbols) ∙ omega (arith, length-append (bytesOf 4 observable) symbols, bytes-length 8 secret, bytes-length 4 observable) in
+    let long : length text ≡ 46 = ap (λ (n : ℕ). suc (suc n)) tail in
     let front : d₂ ≡ sets d 0 (initial ∷ k ∷ []) = b ∙ ap (λ (l : List ℕ). set l 1 k) a in
-    e ∙ ap (λ (l : List ℕ). sets l 10 (bytesOf 4 observable)) c
-    ∙ behind d₂ (bytesOf 8 secret) (bytesOf 4 observable) 2 10 (omega (arith, bytes-length 8 secret))
-    ∙ ap (λ (l : List ℕ). sets l 2 (bytesOf 8 secret ++ bytesOf 4 observable)) front
+    f ∙ ap (λ (l : List ℕ). sets l 14 symbols) e
+    ∙ behind d₃ (bytesOf 4 observable) symbols 10 14 (omega (arith, bytes-length 4 observable))
+    ∙ ap (λ (l : List ℕ). sets l 10 (bytesOf 4 observable ++ symbols)) c
+    ∙ behind d₂ (bytesOf 8 secret) (bytesOf 4 observable ++ symbols) 2 10 (omega (arith, bytes-length 8 secret))
+    ∙ ap (λ (l : List ℕ). sets l 2 (bytesOf 8 secret ++ (bytesOf 4 observable ++ symbols))) front
     ∙ whole d text (long ∙ sym size)
 
 pub wrote-estimator : (d d₁ d₂ d₃ : List ℕ) (count : ℕ) (events entries : List ℕ) → length events ≡ 15 → d₁ ≡ set d 0 count → d₂ ≡ sets d₁ 1 events

@@ -40,9 +40,9 @@ abbrev Opens : List ℕ → List ℕ → Notion → Steps → Type 0
 Opens header t notion v = Tells notion (automatonOf t (headerAt header)) (headerAt header .secret) (headerAt header .k) [] v
 
 -- the header has its length, and with the table it is an automaton
-saved-length : (encoding table before t header : List ℕ) → Decode encoding table before 0 t header → length header ≡ 14
+saved-length : (encoding table before t header : List ℕ) → Decode encoding table before 0 t header → length header ≡ 46
 saved-length encoding table before t header (Decode.refused size x) = absurd (not-zero encoding table x refl)
-saved-length encoding table before t header (Decode.accepted size {h = h} x) = header-length h
+saved-length encoding table before t header (Decode.accepted size {h = h} x) = header-length h (header-sized encoding table h t x)
 
 saved-sound : (encoding table before t header : List ℕ) → Decode encoding table before 0 t header → Sound t (headerAt header)
 saved-sound encoding table before t header x = decoded-sound encoding table (headerAt header) t (saved-header encoding table before t header x)

@@ -22,7 +22,7 @@ use Rattle.gateway.proofs.Inverse.{verdict-back}
 told-back : (K : ℕ) (v w : Steps) → K ≤ 15 → Bounded K v → Bounded K w → acceptSaid 0 (verdictByte v ∷ verdictByte w ∷ []) ≡ verifier.verdicts v w
 told-back K v w h b c = ap₂ verifier.verdicts (verdict-back K v h b) (verdict-back K w h c)
 
-module _ (t header : List ℕ) (header-size : length header ≡ 14) where
+module _ (t header : List ℕ) (header-size : length header ≡ 46) where
   abbrev pub head : Header
   head = headerAt header
 

@@ -17,13 +17,13 @@ use Rattle.gateway.specs.Layout.{headerAt, headerBytes, estimatorAt, est
 
 -- decode: the answer, the table after and the header's bytes after
 pub data Decode (encoding table header : List ℕ) : ℕ → List ℕ → List ℕ → Type 0 where
-  size : (length header ≡ 14 → ⊥) → Decode encoding table header 9 table header
-  refused : length header ≡ 14 → {h : Header} {n : ℕ} → Decoding encoding table h (refuse n) table → Decode encoding table header n table header
-  accepted : length header ≡ 14 → {h : Header} {after : List ℕ} → Decoding encoding table h accept after → Decode encoding table header 0 after (headerBytes h)
+  size : (length header ≡ 46 → ⊥) → Decode encoding table header 9 table header
+  refused : length header ≡ 46 → {h : Header} {n : ℕ} → Decoding encoding table h (refuse n) table → Decode encoding table header n table header
+  accepted : length header ≡ 46 → {h : Header} {after : List ℕ} → Decoding encoding table h accept after → Decode encoding table header 0 after (headerBytes h)
 
 -- the slices of a call of the verifier have the lengths of their layouts
 pub record VerifierSizes (header estimator verdicts : List ℕ) : Type 0 where
-  pub header-size : length header ≡ 14
+  pub header-size : length header ≡ 46
   pub estimator-size : length estimator ≡ 144
   pub verdicts-size : length verdicts ≡ 2
 
@@ -51,7 +51,7 @@ pub data Accept (t header : List ℕ) (event : ℕ) (estimator verdicts : List �
 
 -- the slices of a start have the lengths of their layouts, and the notion is one
 pub record StartSizes (header : List ℕ) (notion : ℕ) (enforcer : List ℕ) : Type 0 where
-  pub header-size : length header ≡ 14
+  pub header-size : length header ≡ 46
   pub notion-known : notion ≤ 1
   pub enforcer-size : length enforcer ≡ 178
 
@@ -71,7 +71,7 @@ pub data Start (t header : List ℕ) (notion : ℕ) (enforcer : List ℕ) : ℕ 
 
 -- the slices of an offer have the lengths of their layouts, and the saved notion is one
 pub record OfferSizes (header enforcer released : List ℕ) : Type 0 where
-  pub header-size : length header ≡ 14
+  pub header-size : length header ≡ 46
   pub enforcer-size : length enforcer ≡ 178
   pub notion-known : getD enforcer 144 0 ≤ 1
   pub released-size : length released ≡ 1

@@ -35,12 +35,12 @@ wordsBytes (w ∷ ws) = bytesOf 8 w ++ wordsBytes ws
 abbrev pub bytesAt : List ℕ → ℕ → ℕ → List ℕ
 bytesAt bytes at n = take n (drop at bytes)
 
--- a header: 14 bytes. The initial state, K, the secret set (8 bytes), the observable set (4)
+-- a header: 46 bytes. The initial state, K, the secret set (8 bytes), the observable set (4), the symbols of 32 events
 abbrev pub headerAt : List ℕ → Header
-headerAt bytes = record { initial = getD bytes 0 0; k = getD bytes 1 0; secret = numberAt bytes 2 8; observable = numberAt bytes 10 4 }
+headerAt bytes = record { initial = getD bytes 0 0; k = getD bytes 1 0; secret = numberAt bytes 2 8; observable = numberAt bytes 10 4; symbols = bytesAt bytes 14 32 }
 
 abbrev pub headerBytes : Header → List ℕ
-headerBytes h = h .initial ∷ h .k ∷ bytesOf 8 (h .secret) ++ bytesOf 4 (h .observable)
+headerBytes h = h .initial ∷ h .k ∷ bytesOf 8 (h .secret) ++ (bytesOf 4 (h .observable) ++ h .symbols)
 
 -- an estimator: 144 bytes. The number of remembered events, 15 events, the newest first, 16 state sets (8 bytes each)
 abbrev pub estimatorAt : List ℕ → Estimator

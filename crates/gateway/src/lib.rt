@@ -80,6 +80,19 @@ fn bytes16(bytes: &[u8], at: usize) -> [u8; 16]
     r
 }
 
+fn bytes32(bytes: &[u8], at: usize) -> [u8; 32]
+    requires { ⌜ at + 32 ≤ length (now bytes) ⌝ }
+    ensures { λ r. ⌜ r ≡ bytesAt (now (bytes .entry)) at 32 ⌝ }
+{
+    let mut r = [0u8; 32];
+    let mut i: usize = 0;
+    while i < 32 {
+        r[i] = bytes[at + i];
+        i += 1;
+    }
+    r
+}
+
 fn words16(bytes: &[u8], at: usize) -> [u64; 16]
     requires { ⌜ at + 128 ≤ length (now bytes) ⌝ }
     ensures { λ r. ⌜ r ≡ wordsAt (now (bytes .entry)) at 16 ⌝ }
@@ -116,6 +129,17 @@ fn store16(bytes: &mut [u8], at: usize, array: [u8; 16])
     }
 }
 
+fn store32(bytes: &mut [u8], at: usize, array: [u8; 32])
+    requires { ⌜ at + 32 ≤ length (now bytes) ⌝ }
+    ensures { λ _. ⌜ (length array ≡ 32) × (now (bytes .exit) ≡ sets (now (bytes .entry)) at array) ⌝ }
+{
+    let mut i: usize = 0;
+    while i < 32 {
+        bytes[at + i] = array[i];
+        i += 1;
+    }
+}
+
 fn store_words(bytes: &mut [u8], at: usize, words: [u64; 16])
     requires { ⌜ at + 128 ≤ length (now bytes) ⌝ }
     ensures { λ _. ⌜ (length words ≡ 16) × ((l : ℕ) → getD words l 0 < 2 ^ 64) × (now (bytes .exit) ≡ sets (now (bytes .entry)) at (wordsBytes words)) ⌝ }
@@ -136,25 +160,29 @@ fn put(bytes: &mut [u8], at: usize, byte: u8)
 }
 
 fn read_header(bytes: &[u8]) -> Header
-    requires { ⌜ length (now bytes) ≡ 14 ⌝ }
+    requires { ⌜ length (now bytes) ≡ 46 ⌝ }
     ensures { λ r. ⌜ r ≡ headerAt (now (bytes .entry)) ⌝ }
 {
+    let symbols = bytes32(bytes, 14);
     Header {
         initial: bytes[0],
         k: bytes[1],
         secret: number_at(bytes, 2, 8),
         observable: number_at(bytes, 10, 4) as u32,
+        symbols: symbols,
     }
 }
 
 fn write_header(bytes: &mut [u8], header: Header)
-    requires { ⌜ length (now bytes) ≡ 14 ⌝ }
+    requires { ⌜ length (now bytes) ≡ 46 ⌝ }
     ensures { λ _. ⌜ now (bytes .exit) ≡ headerBytes header ⌝ }
 {
     put(bytes, 0, header.initial);
     put(bytes, 1, header.k);
     store_number(bytes, 2, 8, header.secret);
     store_number(bytes, 10, 4, header.observable as u64);
+    let symbols = header.symbols;
+    store32(bytes, 14, symbols);
 }
 
 fn read_estimator(bytes: &[u8]) -> Estimator
@@ -251,12 +279,12 @@ fn write_enforcer(bytes: &mut [u8], enforcer: Enforcer)
     store16(bytes, 162, waits);
 }
 
-// Decodes an encoding: the table, and the header's 14 bytes.
+// Decodes an encoding: the table, and the header's 46 bytes.
 #[no_mangle]
 pub extern "C" fn opacity_decode(encoding: &[u8], table: &mut [u64], header: &mut [u8]) -> u8
     ensures { λ r. ⌜ Decode (now (encoding .entry)) (now (table .entry)) (now (header .entry)) r (now (table .exit)) (now (header .exit)) ⌝ }
 {
-    if header.len() != 14 {
+    if header.len() != 46 {
         return 9;
     }
     let decoded = encoding::decode(encoding, table);
@@ -280,7 +308,7 @@ pub extern "C" fn opacity_fresh(
 ) -> u8
     ensures { λ r. ⌜ Fresh (now (table .entry)) (now (header .entry)) (now (estimator .entry)) (now (verdicts .entry)) r (now (estimator .exit)) (now (verdicts .exit)) ⌝ }
 {
-    if header.len() != 14 {
+    if header.len() != 46 {
         return 9;
     }
     if estimator.len() != 144 {
@@ -313,7 +341,7 @@ pub extern "C" fn opacity_accept(
 ) -> u8
     ensures { λ r. ⌜ Accept (now (table .entry)) (now (header .entry)) event (now (estimator .entry)) (now (verdicts .entry)) r (now (estimator .exit)) (now (verdicts .exit)) ⌝ }
 {
-    if header.len() != 14 {
+    if header.len() != 46 {
         return 9;
     }
     if estimator.len() != 144 {
@@ -341,7 +369,7 @@ pub extern "C" fn opacity_accept(
 pub extern "C" fn opacity_start(table: &[u64], header: &[u8], notion: u8, enforcer: &mut [u8]) -> u8
     ensures { λ r. ⌜ Start (now (table .entry)) (now (header .entry)) notion (now (enforcer .entry)) r (now (enforcer .exit)) ⌝ }
 {
-    if header.len() != 14 {
+    if header.len() != 46 {
         return 9;
     }
     if 1 < notion {
@@ -374,7 +402,7 @@ pub extern "C" fn opacity_offer(
 ) -> u8
     ensures { λ r. ⌜ Offer (now (table .entry)) (now (header .entry)) event (now (enforcer .entry)) (now (output .entry)) (now (released .entry)) r (now (enforcer .exit)) (now (output .exit)) (now (released .exit)) ⌝ }
 {
-    if header.len() != 14 {
+    if header.len() != 46 {
         return 9;
     }
     if enforcer.len() != 178 {

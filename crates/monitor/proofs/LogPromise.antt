@@ -53,7 +53,7 @@ module _ (t : List ℕ) (h : Header) (sound : Sound t h) where
   by-verifier : (trace : List ℕ) (r : ℕ) (m : Monitor) (b : ℕ) (q : Refusal) (n : ℕ) (s : Estimator) (bytes rest after : List ℕ) (r′ : ℕ) → After trace r m
       → numberOf q ≡ n → Accepting t h (m .estimator) b (verifier.refused n) s → Prints t h trace r bytes rest after r′
       → Prints t h trace r (b ∷ bytes) (refusedLine b q ++ rest) after r′
-  by-verifier trace r m b q n s bytes rest after r′ a e (Accepting.malformed bad) p = absurd (bad (sound, grown-limits (automatonOf t h) (h .k) trace (m .estimator) (a .estimator)))
+  by-verifier trace r m b q n s bytes rest after r′ a e (Accepting.malformed bad) p = absurd (bad (sound, grown-limits (automatonOf t h) (h .k) trace (m .estimator) (a .estimator) (sound .symbols-small)))
   by-verifier trace r m b q n s bytes rest after r′ a e (Accepting.not-observable so li never) p =
       subst (λ (l : List ℕ). Prints t h trace r (b ∷ bytes) (l ++ rest) after r′) (sym (refused-as b q NotObservable (sym e))) (log.not-observable never p)
   by-verifier trace r m b q n s bytes rest after r′ a e (Accepting.incompatible so li ob impossible) p =

@@ -307,6 +307,7 @@ fn refused(refusal: Refusal) -> Opened
             k: 255,
             secret: 0,
             observable: 0,
+            symbols: [0u8; 32],
         },
         monitor: Monitor {
             estimator: estimator,

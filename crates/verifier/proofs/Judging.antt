@@ -60,9 +60,9 @@ judged-exact t h trace s a v weak strong g j =
     }
 
 -- the states that were explored from all entry sets are those of a look back
-pub near-gained : (p : Automaton) (from : ℕ) (silent : List ℕ) (r : Reach) (s : Estimator) → Gained p from silent r
-    → ((l q : ℕ) → l < 16 → In q (getD (s .entries) l 0) → In q from) → Near p s silent (r .states)
-near-gained p from silent r s g inside = record { closed = gained-closed p from silent r g; inside = λ l q h i. g .more q (inside l q h i) }
+pub near-gained : (p : Automaton) (from : ℕ) (entries silent : List ℕ) (r : Reach) → Gained p from silent r
+    → ((l q : ℕ) → l < 16 → In q (getD entries l 0) → In q from) → Near p entries silent (r .states)
+near-gained p from entries silent r g inside = record { closed = gained-closed p from silent r g; inside = λ l q h i. g .more q (inside l q h i) }
 
 -- the verdict that was found for an estimator, as that of the event that led to it
 pub found-by : (notion : Notion) (t : List ℕ) (h : Header) (self : Estimator) (event : ℕ) (s : Estimator) (v : Verdict) → Moved t h self event s

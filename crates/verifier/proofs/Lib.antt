@@ -6,3 +6,4 @@ pub mod LookBack
 pub mod Judging
 pub mod Storing
 pub mod SecondPoint
+pub mod Agreed

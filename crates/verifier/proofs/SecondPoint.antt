@@ -24,7 +24,7 @@ module _ (t : List ℕ) (h : Header) (sound : Sound t h) where
     grown : Grown (automatonOf t h) (h .k) (trace ++ takenBy says byte) m
 
   one : (trace : List ℕ) (s : Estimator) (byte : ℕ) (says : Said) (m : Estimator) → Grown (automatonOf t h) (h .k) trace s → Accepting t h s byte says m → One trace byte says m
-  one trace s byte says m g (Accepting.malformed bad) = absurd (bad (sound, grown-limits (automatonOf t h) (h .k) trace s g))
+  one trace s byte says m g (Accepting.malformed bad) = absurd (bad (sound, grown-limits (automatonOf t h) (h .k) trace s g (sound .symbols-small)))
   one trace s byte says m g (not-observable so li never) = record { answered = inl (refl, never); grown = rw (append-nil trace) g }
   one trace s byte says m g (incompatible so li ob none) = record { answered = inr (refl, ob, none trace g); grown = rw (append-nil trace) g }
   one trace s byte says m g (accepted so li ob after b c exact) =

@@ -5,8 +5,8 @@ ghost use mathlib.Core.List.{List, [], _∷_, _++_};
 ghost use Prim.Native.Nat.{ℕ, _+_, _≤_, _<_, min};
 ghost use lib.ListN.{length, getD};
 ghost use Rattle.stateset.specs.Set.{In, Is, Decided};
-ghost use Rattle.automaton.specs.Run.{Automaton, automatonOf, Possible, Sound, Observable};
-ghost use Rattle.automaton.specs.Reaching.{Enters, Arrives, Closed};
+ghost use Rattle.automaton.specs.Run.{Automaton, automatonOf, Possible, Sound};
+ghost use Rattle.automaton.specs.Reaching.{Enters, Arrives, Showing, Closed};
 ghost use Rattle.automaton.specs.Relation.{Sub};
 ghost use Rattle.verifier.specs.declared.Notion.the-variants as notion;
 ghost use Rattle.verifier.specs.Estimators.{Limits, Grown};
@@ -35,7 +35,7 @@ pub enum Answer {
     Accepted(Verdicts),
 }
 
-// The last events, the newest first, and for each step back the states right after the last event that is left (01: watch).
+// The last symbols (02: lamps), the newest first, and for each step back the states right after the last one that is left (01: watch).
 pub struct Estimator {
     pub count: u8,
     pub events: [u8; 15],
@@ -127,20 +127,14 @@ fn entered(estimator: Estimator) -> u64
     r
 }
 
-// The states right after one more event, from those right after the event before it.
-fn next_estimate(
-    table: &[u64],
-    header: Header,
-    silent: &[u64],
-    states: u64,
-    entry: u64,
-    event: u8,
-) -> NextEstimate
-    requires { ⌜ Sound (now table) header × Observable header event × Closed (automatonOf (now table) header) states (now silent) × Sub entry states ⌝ }
-    ensures { λ r. ⌜ Next (automatonOf (now (table .entry)) header) entry event r ⌝ }
+// The states right after one more symbol, by the events that show it, from those right after the symbol before it.
+fn next_estimate(table: &[u64], silent: &[u64], states: u64, entry: u64, events: u64) -> NextEstimate
+    requires { ⌜ (length (now table) ≡ 2048) × (length (now silent) ≡ 64) × ((e : ℕ) → In e events → e < 32) ⌝ }
+    ensures { λ r. ⌜ ((p : Automaton) (symbol : ℕ) → p .table ≡ now (table .entry) → p .initial ≤ 63 → Closed p states (now (silent .entry)) → Sub entry states
+        → Showing p symbol events → Next p entry symbol r) ⌝ }
 {
     let estimate = automaton::unobservable_reach(silent, states, entry);
-    let after = automaton::observable_reach(table, header, event, estimate);
+    let after = automaton::observable_reach(table, events, estimate);
     if after == 0 {
         return NextEstimate::Empty;
     }
@@ -167,12 +161,13 @@ fn weak_verdict(
     estimator: Estimator,
     table: &[u64],
     header: Header,
+    sets: &[u32],
     silent: &[u64],
     back: &[u64],
     states: u64,
     last: u8,
 ) -> Verdict
-    requires { ⌜ Prepared (now table) header estimator (now silent) (now back) states × (last ≤ estimator .count) ⌝ }
+    requires { ⌜ Prepared (now table) header (now sets) estimator (now silent) (now back) states × (last ≤ estimator .count) ⌝ }
     ensures { λ r. ⌜ Found notion.Weak (automatonOf (now (table .entry)) header) (header .secret) last estimator r ⌝ }
 {
     let events = estimator.events;
@@ -197,7 +192,8 @@ fn weak_verdict(
         if l == last {
             return Verdict::NoLeak;
         }
-        then = automaton::backward_reach(table, header, back, states, events[at], then);
+        let shown = automaton::events_with(sets, events[at]);
+        then = automaton::backward_reach(table, back, states, shown, then);
         l += 1;
     }
 }
@@ -207,16 +203,18 @@ fn strong_verdict(
     estimator: Estimator,
     table: &[u64],
     header: Header,
+    sets: &[u32],
     silent: &[u64],
     back: &[u64],
     states: u64,
     last: u8,
 ) -> Verdict
-    requires { ⌜ Prepared (now table) header estimator (now silent) (now back) states × (last ≤ estimator .count) ⌝ }
+    requires { ⌜ Prepared (now table) header (now sets) estimator (now silent) (now back) states × (last ≤ estimator .count) ⌝ }
     ensures { λ r. ⌜ Found notion.Strong (automatonOf (now (table .entry)) header) (header .secret) last estimator r ⌝ }
 {
     let events = estimator.events;
     let entries = estimator.entries;
+    let secret = header.secret;
     let clear = states & !header.secret;
     let mut then = clear;
     let mut l: u8 = 0;
@@ -228,7 +226,8 @@ fn strong_verdict(
         if l == last {
             return Verdict::NoLeak;
         }
-        then = automaton::backward_reach(table, header, back, clear, events[at], then);
+        let shown = automaton::events_with(sets, events[at]);
+        then = automaton::backward_reach(table, back, clear, shown, then);
         l += 1;
     }
 }
@@ -238,22 +237,23 @@ fn judge(
     estimator: Estimator,
     table: &[u64],
     header: Header,
+    sets: &[u32],
     silent: &[u64],
     back: &[u64],
     states: u64,
     asked: Asked,
 ) -> Verdicts
-    requires { ⌜ Prepared (now table) header estimator (now silent) (now back) states ⌝ }
+    requires { ⌜ Prepared (now table) header (now sets) estimator (now silent) (now back) states ⌝ }
     ensures { λ r. ⌜ Judged (now (table .entry)) header estimator asked r ⌝ }
 {
     let last = estimator.count;
     let mut weak = Verdict::NoLeak;
     if asked.weak {
-        weak = weak_verdict(estimator, table, header, silent, back, states, last);
+        weak = weak_verdict(estimator, table, header, sets, silent, back, states, last);
     }
     let mut strong = Verdict::NoLeak;
     if asked.strong {
-        strong = strong_verdict(estimator, table, header, silent, back, states, last);
+        strong = strong_verdict(estimator, table, header, sets, silent, back, states, last);
     }
     Verdicts {
         weak: weak,
@@ -367,7 +367,17 @@ impl Estimator {
             weak: true,
             strong: true,
         };
-        let verdicts = judge(estimator, table, header, &silent, &back, near.states, asked);
+        let sets = automaton::by_symbol(header);
+        let verdicts = judge(
+            estimator,
+            table,
+            header,
+            &sets,
+            &silent,
+            &back,
+            near.states,
+            asked,
+        );
         Reply {
             estimator: estimator,
             answer: Answer::Accepted(verdicts),
@@ -384,7 +394,7 @@ impl Estimator {
         }
     }
 
-    // Accepts one event, or hands back the estimator as it was. (01: "An event on which no run is left is turned back, and the watch stays.") Only
+    // Accepts one symbol, or hands back the estimator as it was. (01: "An event on which no run is left is turned back, and the watch stays.") Only
     // the verdicts that are asked for are found. What is known of unobservable events grows with the states that matter.
     fn accept_asked(self, table: &[u64], header: Header, event: u8, asked: Asked) -> Reply
         ensures { λ r. ⌜ AcceptingAsked asked (now (table .entry)) header self event (r .answer) (r .estimator) ⌝ }
@@ -392,13 +402,15 @@ impl Estimator {
         if !self.sound(table, header) {
             return self.refused(Refusal::Malformed);
         }
-        if !automaton::observable(header, event) {
+        let sets = automaton::by_symbol(header);
+        let shown = automaton::events_with(&sets, event);
+        if shown == 0 {
             return self.refused(Refusal::NotObservable);
         }
         let mut silent = [0u64; 64];
         let newest = self.entries[0];
         let near = automaton::silent_rows(table, header, &mut silent, 0, newest);
-        let next = next_estimate(table, header, &silent, near.states, newest, event);
+        let next = next_estimate(table, &silent, near.states, newest, shown);
         let NextEstimate::States(entry) = next else {
             return self.refused(Refusal::Incompatible);
         };
@@ -407,14 +419,23 @@ impl Estimator {
         let reach = automaton::silent_rows(table, header, &mut silent, near.known, from);
         let mut back = [0u64; 64];
         automaton::silent_back(&silent, reach.states, &mut back);
-        let verdicts = judge(after, table, header, &silent, &back, reach.states, asked);
+        let verdicts = judge(
+            after,
+            table,
+            header,
+            &sets,
+            &silent,
+            &back,
+            reach.states,
+            asked,
+        );
         Reply {
             estimator: after,
             answer: Answer::Accepted(verdicts),
         }
     }
 
-    // Accepts one event, with both verdicts.
+    // Accepts one symbol, with both verdicts.
     pub fn accept(self, table: &[u64], header: Header, event: u8) -> Reply
         ensures { λ r. ⌜ Accepting (now (table .entry)) header self event (said (r .answer)) (r .estimator) ⌝ }
     {

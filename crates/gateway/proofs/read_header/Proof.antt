@@ -7,11 +7,14 @@ use borrow.Author.Needs.{needs}
 use Rattle.gateway.proofs.read_header.Statement.{statement}
 use Rattle.gateway.proofs.read_header.Tie as tie
 
-shared-slice-read-t3 : tie.Need-shared-slice-read-t3
-shared-slice-read-t3 c = search needs
+bytes32-requires : tie.Need-bytes32-requires
+bytes32-requires c κs = search needs
 
-shared-slice-read-t5 : tie.Need-shared-slice-read-t5
-shared-slice-read-t5 c = search needs
+shared-slice-read-t4 : tie.Need-shared-slice-read-t4
+shared-slice-read-t4 c = search needs
+
+shared-slice-read-t6 : tie.Need-shared-slice-read-t6
+shared-slice-read-t6 c = search needs
 
 number-at-requires : tie.Need-number-at-requires
 number-at-requires c κs = search needs
@@ -19,23 +22,24 @@ number-at-requires c κs = search needs
 number-at-requires-2 : tie.Need-number-at-requires-2
 number-at-requires-2 c κs = search needs
 
-cast-t8 : tie.Need-cast-t8
-cast-t8 c =
-    let bytes = now (c .before .before .before .before .before .args .bytes) in
-    omega (arith, c .number-at2 .ensures, number-lt bytes (λ k. omega (arith, c .before .before .before .before .shared-slice-known .given k)) 4 10)
+cast-t9 : tie.Need-cast-t9
+cast-t9 c =
+    let bytes = now (c .before .before .before .before .before .before .args .bytes) in
+    omega (arith, c .number-at2 .ensures, number-lt bytes (λ k. omega (arith, c .before .before .before .before .before .shared-slice-known .given k)) 4 10)
 
 returns : tie.Need-returns
 returns c =
-    let bytes = now (c .before .before .before .before .before .args .bytes) in
-    λ i. record { initial = getD bytes 0 0; k = getD bytes 1 0; secret = c .before .number-at .ensures i; observable = c .number-at2 .ensures i }
+    let bytes = now (c .before .before .before .before .before .before .args .bytes) in
+    λ i. record { initial = getD bytes 0 0; k = getD bytes 1 0; secret = c .before .number-at .ensures i; observable = c .number-at2 .ensures i; symbols = c .before .before .before .before .bytes32 .ensures i }
 
 pub read-header-spec : {M : Type 1} → statement M
 read-header-spec =
     tie.close
     (tie.spec
-    shared-slice-read-t3
-    shared-slice-read-t5
+    bytes32-requires
+    shared-slice-read-t4
+    shared-slice-read-t6
     number-at-requires
     number-at-requires-2
-    cast-t8
+    cast-t9
     returns)

@@ -1,4 +1,4 @@
--- `gateway::write_header` meets its contract: four stores, one behind the other.
+-- `gateway::write_header` meets its contract: five stores, one behind the other.
 use denote.Ref.{now}
 use Rattle.gateway.proofs.Saved.{wrote-header}
 use borrow.Author.Needs.{needs}
@@ -20,14 +20,18 @@ cast-store-number c = search needs
 store-number-requires-2 : tie.Need-store-number-requires-2
 store-number-requires-2 c κs = search needs
 
+store32-requires : tie.Need-store32-requires
+store32-requires c κs = search needs
+
 same-length : tie.Need-same-length
 same-length c = search needs
 
 returns : tie.Need-returns
 returns c =
-    let a = c .before .before .before .before .before .before .before .before .before .before .before .before .before .before .before .before .before .before .args in
-    let h = a .header in
-    wrote-header (now (a .bytes)) _ _ _ _ (h .initial) (h .k) (h .secret) (h .observable) (c .before .before .before .before .before .before .before .before .before .before .before .before .before .before .before .before .before .before .pre) (c .before .before .before .before .before .before .before .before .before .before .before .before .before .before .before .put .ensures) (c .before .before .before .before .before .before .before .before .before .before .before .put2 .ensures) (c .before .before .before .before .before .before .before .store-number .ensures) (c .before .before .store-number2 .ensures)
+    let s = c .before .before .before .before .before .before .before .before .before .before .before .before .before .before .before .before .before .before .before .before .before .before .before in
+    let h = s .args .header in
+    wrote-header (now (s .args .bytes)) _ _ _ _ _ (h .initial) (h .k) (h .secret) (h .observable) (h .symbols) (s .pre) (c .before .before .store32 .ensures .0)
+    (c .before .before .before .before .before .before .before .before .before .before .before .before .before .before .before .before .before .before .before .before .put .ensures) (c .before .before .before .before .before .before .before .before .before .before .before .before .before .before .before .before .put2 .ensures) (c .before .before .before .before .before .before .before .before .before .before .before .before .store-number .ensures) (c .before .before .before .before .before .before .before .store-number2 .ensures) (c .before .before .store32 .ensures .1)
 
 pub write-header-spec : {M : Type 1} → statement M
 write-header-spec =
@@ -38,5 +42,6 @@ write-header-spec =
     store-number-requires
     cast-store-number
     store-number-requires-2
+    store32-requires
     same-length
     returns)

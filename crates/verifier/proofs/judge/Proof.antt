@@ -26,8 +26,8 @@ strong-verdict-requires c κs = search needs
 returns : tie.Need-returns
 returns c = λ notion. go notion
   where
-    go : (notion : Notion) → Given notion (c .before .before .before .before .before .before .args .asked) (chosen notion (record { weak = c .before .before .if1 .weak; strong = c .strong-verdict .result }))
-        (Found notion (automatonOf (now (c .before .before .before .before .before .before .args .table)) (c .before .before .before .before .before .before .args .header)) (c .before .before .before .before .before .before .args .header .secret) (c .before .before .before .before .before .before .args .estimator .count) (c .before .before .before .before .before .before .args .estimator) (chosen notion (record { weak = c .before .before .if1 .weak; strong = c .strong-verdict .result })))
+    go : (notion : Notion) → Given notion (c .before .before .before .before .before .before .before .args .asked) (chosen notion (record { weak = c .before .before .if1 .weak; strong = c .strong-verdict .result }))
+        (Found notion (automatonOf (now (c .before .before .before .before .before .before .before .args .table)) (c .before .before .before .before .before .before .before .args .header)) (c .before .before .before .before .before .before .before .args .header .secret) (c .before .before .before .before .before .before .before .args .estimator .count) (c .before .before .before .before .before .before .before .args .estimator) (chosen notion (record { weak = c .before .before .if1 .weak; strong = c .strong-verdict .result })))
     go Weak = record {
       found = λ asks. ⊎-elim (λ w. rw (w .2) (w .1 .ensures)) (λ w. absurd (clash _ asks (w .0 .left))) (c .before .before .if1 .came);
       silent = λ not. ⊎-elim (λ w. absurd (not (w .0 .taken))) (λ w. w .1) (c .before .before .if1 .came);
@@ -37,8 +37,8 @@ returns c = λ notion. go notion
 returns-2 : tie.Need-returns-2
 returns-2 c = λ notion. go notion
   where
-    go : (notion : Notion) → Given notion (c .before .before .before .before .before .args .asked) (chosen notion (record { weak = c .before .if1 .weak; strong = NoLeak }))
-        (Found notion (automatonOf (now (c .before .before .before .before .before .args .table)) (c .before .before .before .before .before .args .header)) (c .before .before .before .before .before .args .header .secret) (c .before .before .before .before .before .args .estimator .count) (c .before .before .before .before .before .args .estimator) (chosen notion (record { weak = c .before .if1 .weak; strong = NoLeak })))
+    go : (notion : Notion) → Given notion (c .before .before .before .before .before .before .args .asked) (chosen notion (record { weak = c .before .if1 .weak; strong = NoLeak }))
+        (Found notion (automatonOf (now (c .before .before .before .before .before .before .args .table)) (c .before .before .before .before .before .before .args .header)) (c .before .before .before .before .before .before .args .header .secret) (c .before .before .before .before .before .before .args .estimator .count) (c .before .before .before .before .before .before .args .estimator) (chosen notion (record { weak = c .before .if1 .weak; strong = NoLeak })))
     go Weak = record {
       found = λ asks. ⊎-elim (λ w. rw (w .2) (w .1 .ensures)) (λ w. absurd (clash _ asks (w .0 .left))) (c .before .if1 .came);
       silent = λ not. ⊎-elim (λ w. absurd (not (w .0 .taken))) (λ w. w .1) (c .before .if1 .came);

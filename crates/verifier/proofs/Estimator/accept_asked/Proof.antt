@@ -1,14 +1,18 @@
 -- `Estimator::accept_asked` meets its contract: the tests in their order, the states that are explored before and after the event, and the verdicts
 -- of the look back.
-use mathlib.Core.Path.{subst}
+use mathlib.Core.Path.{refl, sym, subst}
+use mathlib.Core.List.{[]}
 use borrow.Author.Tests.{not-true, not-false}
 use borrow.Author.Needs.{needs}
 use denote.Ref.{now}
+use lib.ListN.{getD}
 use native.Mathlib.Omega.{arith}
 use Rattle.stateset.proofs.Bits.{or-l, or-r}
 use Rattle.stateset.proofs.Decides.{holds, fails}
 use Rattle.automaton.specs.Run.{automatonOf, Sound, Observable}
 use Rattle.automaton.specs.declared.Refusal.the-variants as refusal
+use Rattle.automaton.specs.Reaching.{Showing}
+use Rattle.automaton.proofs.SymbolSets.{some-observable, none-observable, observable-small}
 use Rattle.automaton.proofs.Entering.{gained-closed, known-none, known-more}
 use Rattle.verifier.specs.Estimators.{Limits}
 use Rattle.verifier.specs.Replies.{Accepting, not-observable, incompatible, Moved}
@@ -21,8 +25,12 @@ use Rattle.verifier.proofs.Estimator.accept_asked.Tie as tie
 ok : (c : tie.Else1) → Sound (now (c .before .before .before .args .table)) (c .before .before .before .args .header) × Limits (c .before .before .before .args .header .k) (c .before .before .before .args .t1)
 ok c = holds (c .before .sound .result) (not-false _ (c .if1 .left)) (c .before .sound .ensures)
 
-observed : (c : tie.Else2) → Observable (c .before .before .before .before .before .args .header) (c .before .before .before .before .before .args .event)
-observed c = holds (c .before .observable .result) (not-false _ (c .if2 .left)) (c .before .observable .ensures)
+-- the events that show the symbol
+showing : (c : tie.After-events-with) → Showing (automatonOf (now (c .before .before .before .before .before .before .args .table)) (c .before .before .before .before .before .before .args .header)) (c .before .before .before .before .before .before .args .event) (c .events-with .result)
+showing c = c .events-with .ensures _ (ok (c .before .before .before) .0 .symbols-small) (c .before .before .by-symbol .ensures (now (c .before .before .before .before .before .before .args .table)))
+
+observed : (c : tie.Else2) → Observable (c .before .before .before .before .before .before .before .args .header) (c .before .before .before .before .before .before .before .args .event)
+observed c = some-observable (now (c .before .before .before .before .before .before .before .args .table)) _ _ _ (showing (c .before)) (omega arith) (c .if2 .left)
 
 sound-requires : tie.Need-sound-requires
 sound-requires c κs = search needs
@@ -36,8 +44,14 @@ returns c =
     let s = c .before .before in
     refused-asked _ _ _ _ _ refusal.Malformed _ (r .0) (r .1) (Accepting.malformed (fails (s .sound .result) (not-true _ (c .before .if1 .taken)) (s .sound .ensures)))
 
-observable-requires : tie.Need-observable-requires
-observable-requires c κs = search needs
+by-symbol-requires : tie.Need-by-symbol-requires
+by-symbol-requires c κs = ok c .0 .symbols-small
+
+slice-aggregate-events-with : tie.Need-slice-aggregate-events-with
+slice-aggregate-events-with c = search needs
+
+events-with-requires : tie.Need-events-with-requires
+events-with-requires c κs = c .before .by-symbol .ensures [] .size
 
 refused-requires-2 : tie.Need-refused-requires-2
 refused-requires-2 c κs = search needs
@@ -45,9 +59,9 @@ refused-requires-2 c κs = search needs
 returns-2 : tie.Need-returns-2
 returns-2 c =
     let r = c .refused2 .ensures in
-    let s = c .before .before in
-    let o = ok (s .before) in
-    refused-asked _ _ _ _ _ refusal.NotObservable _ (r .0) (r .1) (not-observable (o .0) (o .1) (fails (s .observable .result) (not-true _ (c .before .if2 .taken)) (s .observable .ensures)))
+    let v = c .before .before in
+    let o = ok (v .before .before .before) in
+    refused-asked _ _ _ _ _ refusal.NotObservable _ (r .0) (r .1) (not-observable (o .0) (o .1) (none-observable (now (v .before .before .before .before .before .before .args .table)) _ _ _ (showing v) (c .before .if2 .taken)))
 
 element-copy-out-newest : tie.Need-element-copy-out-newest
 element-copy-out-newest c = search needs
@@ -56,7 +70,7 @@ slice-aggregate-silent-rows : tie.Need-slice-aggregate-silent-rows
 slice-aggregate-silent-rows c = search needs
 
 silent-rows-requires : tie.Need-silent-rows-requires
-silent-rows-requires c κs = (ok (c .before .before .before .before) .0 .words, known-none _ _)
+silent-rows-requires c κs = (ok (c .before .before .before .before .before .before) .0 .words, known-none _ _)
 
 slice-aggregate-next-estimate : tie.Need-slice-aggregate-next-estimate
 slice-aggregate-next-estimate c = search needs
@@ -65,7 +79,14 @@ next-estimate-requires : tie.Need-next-estimate-requires
 next-estimate-requires c κs =
     let e = c .before .before .before .before .before in
     let g = c .before .before .silent-rows .ensures in
-    (ok (e .before .before) .0, observed e, gained-closed _ _ _ _ g, g .more)
+    (ok (e .before .before .before .before) .0 .words, gained-closed _ _ _ _ g .size, λ x i. showing (e .before) .sound x i .0)
+
+-- what the new symbol gives, for a trace by which the estimator has grown
+next-of : (c : tie.After-next-estimate) → Next (automatonOf (now (c .before .before .before .before .before .before .before .before .before .before .before .before .before .args .table)) (c .before .before .before .before .before .before .before .before .before .before .before .before .before .args .header)) (getD (c .before .before .before .before .before .before .before .before .before .before .before .before .before .args .t1 .entries) 0 0) (c .before .before .before .before .before .before .before .before .before .before .before .before .before .args .event) (c .next-estimate .result)
+next-of c =
+    let g = c .before .before .before .silent-rows .ensures in
+    let e = c .before .before .before .before .before .before in
+    c .next-estimate .ensures _ _ refl (ok (e .before .before .before .before) .0 .start) (gained-closed _ _ _ _ g) (g .more) (showing (e .before))
 
 enum-known-next : tie.Need-enum-known-next
 enum-known-next c = search needs
@@ -80,16 +101,16 @@ returns-3 : tie.Need-returns-3
 returns-3 c =
     let r = c .refused3 .ensures in
     let e = c .before .before .before .before .before .before .before .before .before in
-    let o = ok (e .before .before) in
+    let o = ok (e .before .before .before .before) in
     refused-asked _ _ _ _ _ refusal.Incompatible _ (r .0) (r .1)
     (incompatible (o .0) (o .1) (observed e)
-    (λ trace g. subst (Next _ _ _) (c .before .enum-told .given .1) (c .before .before .before .next-estimate .ensures) trace (grown-entry _ _ trace _ g)))
+    (λ trace g. subst (Next _ _ _) (c .before .enum-told .given .1) (next-of (c .before .before .before)) trace (grown-entry _ _ trace _ g)))
 
 push-requires : tie.Need-push-requires
 push-requires c κs =
     let e = c .before .before .before .before .before .before .before .before .before in
-    let o = ok (e .before .before) in
-    (o .0 .back, omega (arith, observed e .event-small), o .1)
+    let o = ok (e .before .before .before .before) in
+    (o .0 .back, observable-small (now (e .before .before .before .before .before .before .before .args .table)) _ _ (o .0) (observed e), o .1)
 
 entered-requires : tie.Need-entered-requires
 entered-requires c κs = search needs
@@ -101,7 +122,7 @@ silent-rows-requires-2 : tie.Need-silent-rows-requires-2
 silent-rows-requires-2 c κs =
     let n = c .before .before .before .before .before .before .before .before .before .before in
     let e = n .before .before .before in
-    (ok (e .before .before) .0 .words, known-more _ _ (n .silent-rows .result .states) _ _ (λ q i. or-l q (n .silent-rows .result .states) (c .before .before .entered .result) i) (n .silent-rows .ensures .known-are))
+    (ok (e .before .before .before .before) .0 .words, known-more _ _ (n .silent-rows .result .states) _ _ (λ q i. or-l q (n .silent-rows .result .states) (c .before .before .entered .result) i) (n .silent-rows .ensures .known-are))
 
 slice-aggregate-silent-back : tie.Need-slice-aggregate-silent-back
 slice-aggregate-silent-back c = search needs
@@ -113,29 +134,44 @@ silent-back-requires : tie.Need-silent-back-requires
 silent-back-requires c κs = search needs
 
 slice-aggregate-judge : tie.Need-slice-aggregate-judge
-slice-aggregate-judge c = search needs
+slice-aggregate-judge c = sym (c .before .before .before .before .before .before .before .before .before .before .before .before .before .before .before .before .before .before .before .before .before .before .before .by-symbol .ensures [] .size)
 
 slice-aggregate-judge-2 : tie.Need-slice-aggregate-judge-2
 slice-aggregate-judge-2 c = search needs
 
+slice-aggregate-judge-3 : tie.Need-slice-aggregate-judge-3
+slice-aggregate-judge-3 c = search needs
+
 judge-requires : tie.Need-judge-requires
 judge-requires c κs =
-    let r = c .before .before .before .before .before .before .before in
+    let r = c .before .before .before .before .before .before .before .before in
     let f = r .before .before .before in
     let n = f .before .before .before .before .before .before .before .before in
     let e = n .before .before .before in
-    let a = e .before .before .before .before .before .args in
+    let o = ok (e .before .before .before .before) in
+    let a = e .before .before .before .before .before .before .before .args in
     let near : Near (automatonOf (now (a .table)) (a .header)) _ _ (r .silent-rows2 .result .states) = near-gained _ _ _ _ _ (r .silent-rows2 .ensures)
     (λ l q h i. or-r q (n .silent-rows .result .states) (f .entered .result) (f .entered .ensures l q h i)) in
-    record { sound = ok (e .before .before) .0; limits = f .before .push .ensures .0; near = near; back-are = c .before .before .before .silent-back .ensures _ (near .closed) }
+    record {
+      sound = o .0;
+      limits = f .before .push .ensures .0;
+      looks = record {
+        table-is = refl;
+        start = o .0 .start;
+        symbols-small = o .0 .symbols-small;
+        sets-are = e .before .before .before .by-symbol .ensures _;
+        near = near;
+        back-are = c .before .before .before .before .silent-back .ensures _ (near .closed);
+      };
+    }
 
 returns-4 : tie.Need-returns-4
 returns-4 c =
-    let pushed = c .before .before .before .before .before .before .before .before .before .before .before .before in
+    let pushed = c .before .before .before .before .before .before .before .before .before .before .before .before .before in
     let k = pushed .before in
     let e = k .before .before .before .before .before .before .before .before .before in
-    let a = e .before .before .before .before .before .args in
-    let o = ok (e .before .before) in
+    let a = e .before .before .before .before .before .before .before .args in
+    let o = ok (e .before .before .before .before) in
     let after = pushed .push .ensures in
     let moved : Moved (now (a .table)) (a .header) (a .t1) (a .event) (pushed .push .result) = record {
       sound = o .0;
@@ -143,7 +179,7 @@ returns-4 c =
       observable = observed e;
       limits-after = after .0;
       grown = λ trace g.
-          let x = subst (Next _ _ _) (k .before .next .given .1) (k .before .before .before .next-estimate .ensures) trace (grown-entry _ _ trace _ g) in
+          let x = subst (Next _ _ _) (k .before .next .given .1) (next-of (k .before .before .before)) trace (grown-entry _ _ trace _ g) in
           after .1 _ trace g (x .0) (x .1);
     } in
     (moved, λ notion. given-by (found-by notion _ _ _ _ _ _ moved) (c .judge .ensures notion))
@@ -155,7 +191,9 @@ accept-asked-spec =
     sound-requires
     refused-requires
     returns
-    observable-requires
+    by-symbol-requires
+    slice-aggregate-events-with
+    events-with-requires
     refused-requires-2
     returns-2
     element-copy-out-newest
@@ -176,5 +214,6 @@ accept-asked-spec =
     silent-back-requires
     slice-aggregate-judge
     slice-aggregate-judge-2
+    slice-aggregate-judge-3
     judge-requires
     returns-4)

@@ -1,0 +1,51 @@
+-- What agrees where the compatible runs do: refusal 7, both notions. Each law goes both ways, by `agree-back`. Assumes nothing.
+use mathlib.Core.Path.{_≡_, sym, subst, _∙_}
+use mathlib.Core.List.{List}
+use Prim.Native.Nat.{ℕ, _≤_}
+use native.Mathlib.Omega.{arith}
+use Rattle.stateset.specs.Set.{In}
+use Rattle.automaton.specs.Run.{Automaton, Possible, Impossible}
+use Rattle.automaton.specs.Notion.{SureAt, SureFrom, ClearAt, ClearFrom}
+use Rattle.automaton.specs.Symbols.{Agree}
+
+pub agree-back : (p q : Automaton) (a b : List ℕ) → Agree p q a b → Agree q p b a
+agree-back p q a b g =
+    record { to = g .from; from = g .to; counts = λ run m. sym (g .counts run m); states = λ run m. sym (g .states run m); sizes = sym (g .sizes) }
+
+module _ (p q : Automaton) (a b : List ℕ) (g : Agree p q a b) where
+  pub possible-agree : Possible p a → Possible q b
+  possible-agree x = record { run = x .run; compatible = g .to (x .run) (x .compatible) }
+
+  pub impossible-agree : Impossible p a → Impossible q b
+  impossible-agree x run f = x run (g .from run f)
+
+  module _ (secret : ℕ) (j : ℕ) where
+    pub sureAt-agree : SureAt p secret a j → SureAt q secret b j
+    sureAt-agree x run f m c = subst (λ (s : ℕ). In s secret) (g .states run m) (x run (g .from run f) m (g .counts run m ∙ c))
+
+    pub sureFrom-agree : SureFrom p secret a j → SureFrom q secret b j
+    sureFrom-agree x run f =
+        let c = x run (g .from run f) in
+        record {
+          position = c .position;
+          late = omega (arith, c .late, g .counts run (c .position));
+          inside = subst (λ (s : ℕ). In s secret) (g .states run (c .position)) (c .inside);
+        }
+
+    pub clearAt-agree : ClearAt p secret a j → ClearAt q secret b j
+    clearAt-agree x =
+        record {
+          run = x .run;
+          compatible = g .to (x .run) (x .compatible);
+          position = x .position;
+          here = sym (g .counts (x .run) (x .position)) ∙ x .here;
+          outside = λ i. x .outside (subst (λ (s : ℕ). In s secret) (sym (g .states (x .run) (x .position))) i);
+        }
+
+    pub clearFrom-agree : ClearFrom p secret a j → ClearFrom q secret b j
+    clearFrom-agree x =
+        record {
+          run = x .run;
+          compatible = g .to (x .run) (x .compatible);
+          outside = λ m late i. x .outside m (omega (arith, g .counts (x .run) m)) (subst (λ (s : ℕ). In s secret) (sym (g .states (x .run) m)) i);
+        }

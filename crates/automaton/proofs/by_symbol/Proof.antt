@@ -1,0 +1,111 @@
+-- `automaton::by_symbol` meets its contract. The invariant: each set has the events with its symbol that are no longer in `todo`, which falls. Assumes nothing.
+use mathlib.Core.Path.{_≡_, refl}
+use Prim.Native.Nat.{ℕ, _-_, _^_, _≤_, _<_}
+use native.Mathlib.Omega.{arith}
+use lib.ListN.{length, getD, length-set}
+use lib.Bits.{bitAnd}
+use lib.Count.{trailingZeros}
+use Rattle.stateset.specs.Set.{In}
+use Rattle.stateset.proofs.Bits.{Taken, taken, in-lt}
+use Rattle.automaton.specs.Run.{automatonOf}
+use Rattle.automaton.proofs.Filled.{zeros}
+use Rattle.automaton.proofs.SymbolSets.{Sorted, with-event, sort-start, sort-turn, sort-end}
+use Rattle.automaton.proofs.by_symbol.Statement.{statement}
+use Rattle.automaton.proofs.by_symbol.Tie as tie
+
+abbrev Inv-loop : tie.InvT-loop
+Inv-loop symbols observable sets₀ todo₀ sets todo = (todo < 2 ^ 64) × (length sets ≡ 32) × (observable < 2 ^ 32)
+    × ((e : ℕ) → In e todo → In e observable)
+    × ((k : ℕ) → k < 32 → Sorted symbols observable todo k (getD sets k 0))
+
+abbrev μ-loop : tie.MeasureT-loop
+μ-loop symbols observable sets₀ todo₀ sets todo = todo
+
+pick : (c : tie.In-loop Inv-loop μ-loop) → Taken (c .before .loop .todo) (trailingZeros 64 (c .before .loop .todo)) (bitAnd (c .before .loop .todo) (c .before .loop .todo - 1))
+pick c = taken (c .before .loop .todo) (omega arith) (c .before .loop .inv .0)
+
+-- the event that is looked at, and its symbol
+seen : (c : tie.In-loop Inv-loop μ-loop) → In (trailingZeros 64 (c .before .loop .todo)) (c .before .before .before .before .args .header .observable)
+seen c = c .before .loop .inv .3 _ (pick c .inside)
+
+small : (c : tie.In-loop Inv-loop μ-loop) → getD (c .before .before .before .before .args .header .symbols) (trailingZeros 64 (c .before .loop .todo)) 0 ≤ 31
+small c = c .before .before .before .before .pre _ (seen c)
+
+cast-observable : tie.Need-cast-observable Inv-loop μ-loop
+cast-observable c = omega arith
+
+loop-holds : tie.Need-loop-holds Inv-loop μ-loop
+loop-holds c = (omega arith, refl, omega arith, λ e i. i, λ k h. sort-start _ _ k _ (zeros 32 k))
+
+cast-e : tie.Need-cast-e Inv-loop μ-loop
+cast-e c = omega (arith, pick c .small)
+
+array-read-s : tie.Need-array-read-s Inv-loop μ-loop
+array-read-s c =
+    let v = c .before .loop .inv in
+    omega (arith, in-lt 32 _ _ (v .2) (v .3 _ (pick c .inside)))
+
+cast-s : tie.Need-cast-s Inv-loop μ-loop
+cast-s c = omega (arith, small c)
+
+-- the number of the event
+low : (c : tie.In-loop Inv-loop μ-loop) → trailingZeros 64 (c .before .loop .todo) < 32
+low c = in-lt 32 _ _ (c .before .loop .inv .2) (seen c)
+
+cast-sets : tie.Need-cast-sets Inv-loop μ-loop
+cast-sets c = omega (arith, low c)
+
+shl-sets : tie.Need-shl-sets Inv-loop μ-loop
+shl-sets c = omega (arith, low c)
+
+mul-sets : tie.Need-mul-sets Inv-loop μ-loop
+mul-sets c = omega (arith, small c)
+
+array-read-sets : tie.Need-array-read-sets Inv-loop μ-loop
+array-read-sets c = omega (arith, small c)
+
+array-write-sets : tie.Need-array-write-sets Inv-loop μ-loop
+array-write-sets c = omega (arith, small c)
+
+sub-todo : tie.Need-sub-todo Inv-loop μ-loop
+sub-todo c = omega arith
+
+loop-less : tie.Need-loop-less Inv-loop μ-loop
+loop-less c = pick c .less
+
+loop-again : tie.Need-loop-again Inv-loop μ-loop
+loop-again c =
+    let v = c .before .loop .inv in
+    let k = pick c in (
+      omega (arith, k .less),
+      simp length-set (v .1),
+      v .2,
+      λ e i. v .3 e (k .kept e i),
+      sort-turn _ _ _ _ _ _ _ (c .before .loop .sets) k refl (omega (arith, v .1, small c)) (seen c) (with-event _ _ (low c)) (v .4),
+    )
+
+returns : tie.Need-returns Inv-loop μ-loop
+returns c = λ t.
+    let v = c .before .loop .inv in
+    record { size = v .1; each = λ k h. sort-end (automatonOf t (c .before .before .before .before .args .header)) _ _ _ (v .2) (c .loop-test .left) (v .4 k h) }
+
+pub by-symbol-spec : {M : Type 1} → statement M
+by-symbol-spec =
+    tie.close
+    (tie.spec
+    Inv-loop
+    μ-loop
+    cast-observable
+    loop-holds
+    cast-e
+    array-read-s
+    cast-s
+    cast-sets
+    shl-sets
+    mul-sets
+    array-read-sets
+    array-write-sets
+    sub-todo
+    loop-less
+    loop-again
+    returns)

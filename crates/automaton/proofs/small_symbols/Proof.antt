@@ -1,0 +1,65 @@
+-- `automaton::small_symbols` meets its contract. The invariant: the events that are no longer in `todo`, which falls, have small symbols. Assumes nothing.
+use Prim.Native.Nat.{ℕ, _-_, _^_, _<_}
+use native.Mathlib.Omega.{arith}
+use lib.Bits.{bitAnd}
+use lib.Count.{trailingZeros}
+use Rattle.stateset.proofs.Bits.{Taken, taken, in-lt}
+use Rattle.automaton.proofs.SymbolSets.{Tested, test-start, test-turn, test-end}
+use Rattle.automaton.proofs.small_symbols.Statement.{statement}
+use Rattle.automaton.proofs.small_symbols.Tie as tie
+
+abbrev Inv-loop : tie.InvT-loop
+Inv-loop symbols observable todo₀ todo = (todo < 2 ^ 64) × Tested symbols observable todo
+
+abbrev μ-loop : tie.MeasureT-loop
+μ-loop symbols observable todo₀ todo = todo
+
+pick : (c : tie.In-loop Inv-loop μ-loop) → Taken (c .before .loop .todo) (trailingZeros 64 (c .before .loop .todo)) (bitAnd (c .before .loop .todo) (c .before .loop .todo - 1))
+pick c = taken (c .before .loop .todo) (omega arith) (c .before .loop .inv .0)
+
+cast-observable : tie.Need-cast-observable Inv-loop μ-loop
+cast-observable c = omega arith
+
+loop-holds : tie.Need-loop-holds Inv-loop μ-loop
+loop-holds c = (omega arith, test-start _ _ (omega arith))
+
+cast-e : tie.Need-cast-e Inv-loop μ-loop
+cast-e c = omega (arith, pick c .small)
+
+array-read-if1 : tie.Need-array-read-if1 Inv-loop μ-loop
+array-read-if1 c =
+    let g = c .before .loop .inv .1 in
+    omega (arith, in-lt 32 _ _ (g .small) (g .sub _ (pick c .inside)))
+
+returns : tie.Need-returns Inv-loop μ-loop
+returns c = λ all. 
+    let g = c .before .before .loop .inv .1 in
+    omega (arith, all _ (g .sub _ (pick (c .before) .inside)), c .if1 .taken)
+
+sub-todo : tie.Need-sub-todo Inv-loop μ-loop
+sub-todo c = omega arith
+
+loop-less : tie.Need-loop-less Inv-loop μ-loop
+loop-less c = pick (c .before) .less
+
+loop-again : tie.Need-loop-again Inv-loop μ-loop
+loop-again c = (omega (arith, pick (c .before) .less), test-turn _ _ _ _ _ (pick (c .before)) (omega (arith, c .if1 .left)) (c .before .before .loop .inv .1))
+
+returns-2 : tie.Need-returns-2 Inv-loop μ-loop
+returns-2 c = test-end _ _ _ (c .loop-test .left) (c .before .loop .inv .1)
+
+pub small-symbols-spec : {M : Type 1} → statement M
+small-symbols-spec =
+    tie.close
+    (tie.spec
+    Inv-loop
+    μ-loop
+    cast-observable
+    loop-holds
+    cast-e
+    array-read-if1
+    returns
+    sub-todo
+    loop-less
+    loop-again
+    returns-2)

@@ -1,0 +1,29 @@
+-- `automaton::sound` meets its contract: each test decides one of the limits.
+use native.Mathlib.Omega.{arith}
+use borrow.Author.Needs.{needs}
+use Rattle.stateset.proofs.Decides.{decided-as}
+use Rattle.automaton.specs.Run.{SmallSymbols, Sound}
+use Rattle.automaton.proofs.sound.Statement.{statement}
+use Rattle.automaton.proofs.sound.Tie as tie
+
+returns : tie.Need-returns
+returns c = search needs
+
+returns-2 : tie.Need-returns-2
+returns-2 c = search needs
+
+returns-3 : tie.Need-returns-3
+returns-3 c = search needs
+
+small-symbols-requires : tie.Need-small-symbols-requires
+small-symbols-requires c κs = search needs
+
+returns-4 : tie.Need-returns-4
+returns-4 c =
+    decided-as (c .small-symbols .result)
+    (λ s. record { words = search needs; back = search needs; start = search needs; symbols-small = s })
+    (λ x. x .symbols-small)
+    (c .small-symbols .ensures)
+
+pub sound-spec : {M : Type 1} → statement M
+sound-spec = tie.close (tie.spec returns returns-2 returns-3 small-symbols-requires returns-4)

@@ -5,6 +5,7 @@ use Prim.Native.Nat.{ℕ, _+_, _*_, _^_, _≤_, _-_}
 use lib.ListN.{length, replicate, set}
 use Rattle.stateset.specs.Set.{In}
 use Rattle.automaton.specs.Run.{Automaton, Transition, Step, shows}
+use Rattle.automaton.specs.Symbols.{ownNumbers}
 use Rattle.verifier.specs.declared.Notion.{Notion}
 use Rattle.verifier.specs.declared.Notion.the-variants.{Weak, Strong}
 use Rattle.published.specs.Source.{Prefix}
@@ -70,7 +71,7 @@ tabled [] = replicate 2048 0
 tabled ((from, event, to) ∷ rest) = set (tabled rest) (64 * event + from) (2 ^ to)
 
 abbrev pub listedBy : List (ℕ × ℕ × ℕ) → (initial observable : ℕ) → Automaton
-listedBy l initial observable = record { table = tabled l; initial = initial; observable = observable }
+listedBy l initial observable = record { table = tabled l; initial = initial; observable = observable; symbols = ownNumbers }
 
 -- 01's P
 abbrev pub transitionsP : List (ℕ × ℕ × ℕ)
@@ -81,4 +82,4 @@ exampleP = listedBy transitionsP 0 (2 ^ 1 + 2 ^ 2)
 
 -- two targets: event 1 leads from 0 to 1 and to 2
 abbrev pub twoTargets : Automaton
-twoTargets = record { table = set (replicate 2048 0) 64 (2 ^ 1 + 2 ^ 2); initial = 0; observable = 2 ^ 1 }
+twoTargets = record { table = set (replicate 2048 0) 64 (2 ^ 1 + 2 ^ 2); initial = 0; observable = 2 ^ 1; symbols = ownNumbers }

@@ -25,7 +25,7 @@ use Rattle.gateway.specs.Layout.{headerAt, estimatorAt, notionAt, enforc
 use Rattle.gateway.specs.Interface.{Decode, Fresh, Accept, Start, Offer}
 use Rattle.gateway.specs.SavedCalls.{AcceptCall, AcceptCalls, weakAt, strongAt, callsOf, OfferCall, OfferCalls, offersOf}
 use Rattle.gateway.proofs.Inverse.{header-length, verdict-back}
-use Rattle.gateway.proofs.Sizes.{decoded-header-back}
+use Rattle.gateway.proofs.Sizes.{header-sized, decoded-header-back}
 use Rattle.gateway.proofs.Numbered.{not-zero}
 use Rattle.gateway.proofs.SavedSteps.{accept-calls, offer-calls}
 

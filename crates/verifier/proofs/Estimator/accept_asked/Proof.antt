@@ -26,10 +26,10 @@ ok : (c : tie.Else1) → Sound (now (c .before .before .before .args .table)) (c
 ok c = holds (c .before .sound .result) (not-false _ (c .if1 .left)) (c .before .sound .ensures)
 
 -- the events that show the symbol
-showing : (c : tie.After-events-with) → Showing (automatonOf (now (c .before .before .before .before .before .before .args .table)) (c .before .before .before .before .before .before .args .header)) (c .before .before .before .before .before .before .args .event) (c .events-with .result)
+showing : (c : tie.After-events-with) → Showing (automatonOf (now (c .before .before .before .before .before .before .args .table)) (c .before .before .before .before .before .before .args .header)) (c .before .before .before .before .before .before .args .symbol) (c .events-with .result)
 showing c = c .events-with .ensures _ (ok (c .before .before .before) .0 .symbols-small) (c .before .before .by-symbol .ensures (now (c .before .before .before .before .before .before .args .table)))
 
-observed : (c : tie.Else2) → Observable (c .before .before .before .before .before .before .before .args .header) (c .before .before .before .before .before .before .before .args .event)
+observed : (c : tie.Else2) → Observable (c .before .before .before .before .before .before .before .args .header) (c .before .before .before .before .before .before .before .args .symbol)
 observed c = some-observable (now (c .before .before .before .before .before .before .before .args .table)) _ _ _ (showing (c .before)) (omega arith) (c .if2 .left)
 
 sound-requires : tie.Need-sound-requires
@@ -82,7 +82,7 @@ next-estimate-requires c κs =
     (ok (e .before .before .before .before) .0 .words, gained-closed _ _ _ _ g .size, λ x i. showing (e .before) .sound x i .0)
 
 -- what the new symbol gives, for a trace by which the estimator has grown
-next-of : (c : tie.After-next-estimate) → Next (automatonOf (now (c .before .before .before .before .before .before .before .before .before .before .before .before .before .args .table)) (c .before .before .before .before .before .before .before .before .before .before .before .before .before .args .header)) (getD (c .before .before .before .before .before .before .before .before .before .before .before .before .before .args .t1 .entries) 0 0) (c .before .before .before .before .before .before .before .before .before .before .before .before .before .args .event) (c .next-estimate .result)
+next-of : (c : tie.After-next-estimate) → Next (automatonOf (now (c .before .before .before .before .before .before .before .before .before .before .before .before .before .args .table)) (c .before .before .before .before .before .before .before .before .before .before .before .before .before .args .header)) (getD (c .before .before .before .before .before .before .before .before .before .before .before .before .before .args .t1 .entries) 0 0) (c .before .before .before .before .before .before .before .before .before .before .before .before .before .args .symbol) (c .next-estimate .result)
 next-of c =
     let g = c .before .before .before .silent-rows .ensures in
     let e = c .before .before .before .before .before .before in
@@ -173,7 +173,7 @@ returns-4 c =
     let a = e .before .before .before .before .before .before .before .args in
     let o = ok (e .before .before .before .before) in
     let after = pushed .push .ensures in
-    let moved : Moved (now (a .table)) (a .header) (a .t1) (a .event) (pushed .push .result) = record {
+    let moved : Moved (now (a .table)) (a .header) (a .t1) (a .symbol) (pushed .push .result) = record {
       sound = o .0;
       limits = o .1;
       observable = observed e;

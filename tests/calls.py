@@ -10,7 +10,8 @@ import copy
 from logs import INCOMPATIBLE, INITIAL_LEAK, NOT_OBSERVABLE, Refused, decoded
 from runs import Listing
 from saved import (
-    HEADER_BYTES, SYMBOLS, WORDS, automaton_of, grown_enforcer, grown_estimator, header_of, observable_of, safe_of, symbol_at, table_of, verdict_bytes,
+    HEADER_BYTES, SYMBOLS, WORDS, automaton_of, grown_enforcer, grown_estimator, header_of, observable_of, safe_of, symbol_at, table_of,
+    verdict_bytes,
 )
 
 MALFORMED, OUTPUT_TOO_SMALL = 9, 10

@@ -10,20 +10,13 @@ def random_symbols(rng, top_event, observable):
     """A symbol for each event, or none listed: own numbers, numbers of other events, any, or some that events share. Those of unobservable events say
     anything."""
     events = range(top_event + 1)
-    few = rng.sample(range(32), rng.choice((1, 2)))
-    chosen = rng.choice(
-        (
-            None,
-            None,
-            None,
-            list(events),
-            rng.sample(events, len(events)),
-            rng.sample(range(32), len(events)),
-            [rng.choice(events) for _ in events],
-            [rng.choice(few) for _ in events],
-            [rng.choice(few) for _ in events],
-        )
-    )
+    few = rng.sample(range(32), 2)
+    kinds = (list(events), rng.sample(events, len(events)), rng.sample(range(32), len(events)))
+    shared = rng.choice(([rng.choice(events) for _ in events], [rng.choice(few) for _ in events], [few[0]] * len(events)))
+    if 1 < len(observable):
+        one, other = rng.sample(sorted(observable), 2)
+        shared[one] = shared[other]
+    chosen = rng.choice((None, rng.choice(kinds), shared, shared))
     if chosen is None:
         return None
     return [chosen[e] if e in observable else rng.choice((rng.choice(chosen), rng.randrange(32))) for e in events]
@@ -42,7 +35,7 @@ def random_transitions(rng, states, used, events, unobservable, alike):
     if rng.random() < 0.3:  # one event that may lead anywhere
         source, event = rng.randrange(used), rng.randrange(events)
         transitions += [(source, event, target) for target in range(used)]
-    if 1 < len(alike) and rng.random() < 0.6:  # a state that each of them leaves
+    if 1 < len(alike) and rng.random() < 0.7:  # a state that each of them leaves
         source = rng.randrange(used)
         transitions += [(source, event, rng.randrange(used)) for event in alike]
     transitions = list(dict.fromkeys(transitions))
@@ -57,14 +50,14 @@ def many_transitions(rng, count):
 
 def random_automaton(rng):
     """An automaton with one to four states, not all of which need be reached, and one to four events."""
-    states, events = rng.choice((1, 2, 2, 3, 3, 3, 4, 4, 4)), rng.choice((1, 2, 2, 3, 3, 4))
+    states, events = rng.choice((1, 2, 2, 3, 3, 3, 4, 4, 4)), rng.choice((1, 2, 2, 3, 3, 4, 4))
     used = rng.choice((states, states, states, max(1, states - 1)))
-    often = rng.choice((0.3, 0.6, 0.9))
+    often = rng.choice((0.4, 0.7, 0.9))
     observable = {e for e in range(events) if rng.random() < often} or {0}
     if rng.random() < 0.03:
         observable = set()
     symbols = random_symbols(rng, events - 1, observable)
-    one = rng.choice(symbols or [None])
+    one = rng.choice([symbols[e] for e in sorted(observable)]) if symbols and observable else None
     alike = [e for e in sorted(observable) if symbols and symbols[e] == one]
     transitions = random_transitions(rng, states, used, events, [e for e in range(events) if e not in observable], alike)
     dense = rng.choice((0.2, 0.4, 0.6, 0.8))

@@ -61,7 +61,7 @@ def estimator_bytes(symbols, entries):
 
 
 def grown_estimator(listing):
-    """The estimator after the trace of a listing: its last symbols, and where runs are right after the last observable event of each shorter trace."""
+    """The estimator after the trace of a listing: its last symbols, and where runs are right after the last symbol of each shorter trace."""
     n = len(listing.trace)
     count = min(listing.automaton.k, n)
     return estimator_bytes([listing.trace[n - 1 - l] for l in range(count)], [listing.entered[n - l] for l in range(count + 1)])

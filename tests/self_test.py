@@ -74,13 +74,17 @@ def test_symbols():
 
 
 def test_saved():
-    """P after 1 2, by hand. Right after 1 2 a run is in 0, right after 1 in 1 or 3, and it starts in 0; 2 is pending and waits for two more."""
+    """P after 1 2, by hand. Right after 1 2 a run is in 0, right after 1 in 1 or 3, and it starts in 0; 2 is pending and waits for two more. The
+    same with symbols."""
     listing = Listing(P)
     assert listing.accept(1) and listing.accept(2)
     assert elements(grown_estimator(listing)) == "144 0:2*2,1 16:1 24:a 32:1"
     assert verdict_bytes(listing) == bytes((1, 1))
     assert elements(grown_enforcer(listing, 0)) == "178 0:2*2,1 16:1 24:a 32:1 145:1,2 162:2"
     assert elements(grown_enforcer(listing, 1)) == "178 0:2*2,1 16:1 24:a 32:1 144:1*2,2 162:2"
+    listing = Listing(P_SYMBOLS)
+    assert listing.accept(2) and listing.accept(0)
+    assert elements(grown_enforcer(listing, 0)) == "178 0:2 2:2 16:1 24:a 32:1 145:1 162:2"
 
 
 def every_run(automaton, trace, bound):

@@ -87,7 +87,8 @@ def symbol_decodings(calls):
         calls.decode()
     calls.say("own numbers listed; a stray initial state before symbols that are cut, and stray transitions behind symbols")
     own = with_symbols(P, range(3))
-    for data in (encoded(own), encoded(with_transitions(own, [], 4))[:4], encoded(with_transitions(own, [(4, 3, 0)])), encoded(with_repeat(own, 0, 5))):
+    strays = [encoded(with_transitions(own, [], 4))[:4], encoded(with_transitions(own, [(4, 3, 0)])), encoded(with_transitions(own, [(0, 3, 4)]))]
+    for data in [encoded(own)] + strays:
         calls.put(encoding=data, header=HEADER)
         calls.decode()
     calls.say("symbols of 1 to 32 events, of which all, some or none are observable")
@@ -213,15 +214,14 @@ def verifiers(calls):
 
 
 def alike():
-    """A state that all 32 events leave, each for two others, with two symbols for them. Only one of the even events leads to a state that is not
-    secret, and to no other."""
+    """All 32 events leave state 0: event 30 for state 1, each other one for two further states, and again from one of them. The even events have the
+    symbol 30, the odd ones 1. States 0 and 1 are not secret."""
     words = [0] * WORDS
-    for event in range(32):
+    for event in range(1, 32):
         words[64 * event] = 3 << 2 * event
         words[64 * event + 2 * event] = 1 << 63 - event
-    words[64 * 30] = 1 << 5
-    header = bytes((0, 2)) + (2**64 - 1 - (1 << 5 | 1)).to_bytes(8, "little") + b"\xff" * 4 + bytes((30, 1) * 16)
-    return words, header
+    words[0], words[64 * 30] = 1 << 63, 1 << 1
+    return words, bytes((0, 2, 0xFC)) + b"\xff" * 11 + bytes((30, 1) * 16)
 
 
 def symbols(calls):
@@ -251,7 +251,7 @@ def symbols(calls):
     calls.put_table([0] * 64 * 5 + [6] + [0] * (WORDS - 64 * 5 - 1))
     calls.put(header=header_of(Automaton(63, 31, 0, 0, (), {5, 6, 31}, (), [9] * 5 + [0] + [4] * 25 + [30])))
     observe(calls, (5, 4, 30, 9, 31, 0, 0))
-    calls.say("32 events with two symbols: one of them, and then none, does not lead to secret states alone")
+    calls.say("32 events with two symbols: event 30, and then none, leads to a state that is not secret")
     words, header = alike()
     calls.put_table(words)
     for given in (header, changed(header, 2, 0xFE)):
@@ -426,15 +426,18 @@ def header_symbols(calls):
     calls.put(output=OUTPUT)
     calls.say("the trace goes on, also where the symbols of the other events change")
     everywhere = good[:SYMBOLS] + bytes(good[SYMBOLS + event] if event in BY_HAND.observable else 255 - event for event in range(32))
-    for header, byte in ((good, 0), (everywhere, 2), (changed(good, SYMBOLS, 2), 31), (changed(good, SYMBOLS + 30, 32), 2)):
+    for header, byte in ((good, 0), (changed(good, SYMBOLS, 2), 2), (everywhere, 31), (changed(good, SYMBOLS + 30, 32), 2)):
         calls.put(header=header)
         calls.accept(byte)
         calls.offer(byte)
     calls.say("headers: symbols of events that are not observable")
-    for header in (changed(good, SYMBOLS, 32), changed(good, SYMBOLS, 255), changed(good, SYMBOLS + 3, 32), everywhere):
-        calls.put(header=header)
-        observe(calls, (2, 32, 255, 0))
-        enforce(calls, 0, (2, 32, 255, 0), b"\xee" * 17)
+    for event, symbol in ((0, 32), (0, 255), (0, 9), (0, 2), (0, 31), (3, 0)):
+        calls.put(header=changed(good, SYMBOLS + event, symbol))
+        observe(calls, (symbol, 2, symbol, 0))
+        enforce(calls, 0, (symbol, 2, symbol, 0), b"\xee" * 17)
+    calls.put(header=everywhere)
+    observe(calls, (2, 255, 252, 0))
+    enforce(calls, 1, (2, 255, 252, 0), b"\xee" * 17)
     calls.say("headers: a symbol of 32 at each event, of which every other is observable")
     every_other = header_of(Automaton(63, 31, 0, 0, (), range(1, 32, 2), ()))
     calls.put(estimator=ESTIMATOR, verdicts=VERDICTS)

@@ -16,9 +16,9 @@ STRONG_ONLY = Automaton(2, 2, 2, 0, {1}, {1, 2}, [(0, 1, 1), (1, 0, 2), (2, 1, 0
 # P with the symbols 2 and 0 for its observable events 1 and 2, and one for event 0 that is ignored
 P_SYMBOLS = Automaton(3, 2, 2, 0, {1}, {1, 2}, P.transitions, [31, 2, 0])
 
-# S-2's pumps: event 0 starts one (state 1, secret), event 1 the other (state 2), event 2 stops it; told apart, and with one symbol
-PUMPS = Automaton(2, 2, 1, 0, {1}, {0, 1, 2}, [(0, 0, 1), (0, 1, 2), (1, 2, 0), (2, 2, 0)])
-ONE_SYMBOL = Automaton(2, 2, 1, 0, {1}, {0, 1, 2}, PUMPS.transitions, [7, 7, 2])
+# event 0 leads to the secret state 1, event 1 to state 2, and event 2 back: with the events' own numbers, and with one symbol for the first two
+OWN_NUMBERS = Automaton(2, 2, 1, 0, {1}, {0, 1, 2}, [(0, 0, 1), (0, 1, 2), (1, 2, 0), (2, 2, 0)])
+ONE_SYMBOL = Automaton(2, 2, 1, 0, {1}, {0, 1, 2}, OWN_NUMBERS.transitions, [7, 7, 2])
 
 # two events with one symbol, of which the next symbol tells which it was: a leak that starts one step back
 LATER = Automaton(3, 2, 2, 0, {1}, {0, 1, 2}, [(0, 0, 1), (0, 1, 2), (1, 2, 3), (3, 0, 3), (3, 1, 0)], [7, 7, 3])
@@ -45,7 +45,7 @@ EXAMPLES = (
     (ONE, (), "refused 11\n"),
     (P, (), "refused 11\n"),
     (P_SYMBOLS, (2, 0, 1, 2, 31, 2), "1 2 - - 2\n2 0 1 1 -\n! 1 6\n3 2 2 2 -\n! 31 6\n4 2 - - 0,2,2\nend 4 4 0\n"),
-    (PUMPS, (0, 2, 1, 2), "1 0 0 0 -\n2 2 1 1 -\n3 1 - - 0,2,1\n4 2 - - 2\nend 4 4 0\n"),
+    (OWN_NUMBERS, (0, 2, 1, 2), "1 0 0 0 -\n2 2 1 1 -\n3 1 - - 0,2,1\n4 2 - - 2\nend 4 4 0\n"),
     (ONE_SYMBOL, (7, 2, 0, 1, 7, 7, 2), "1 7 - - 7\n2 2 - - 2\n! 0 6\n! 1 6\n3 7 - - 7\n! 7 7\n4 2 - - 2\nend 4 4 0\n"),
     (LATER, (7, 3, 7, 2, 7), "1 7 - - 7\n2 3 1 1 -\n3 7 2 2 -\n! 2 6\n4 7 - - 3,7,7\nend 4 4 0\n"),
 )

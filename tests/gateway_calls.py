@@ -10,7 +10,7 @@ import sys
 
 from calls import Calls
 from examples import (
-    ALL_SECRET, CORNERS, LATER, NONE_SECRET, ONE, ONE_SYMBOL, P, P0, P1, P_ENCODING, P_SYMBOLS, PUMPS, Q, Q_ENCODING, STRONG_ONLY, T, U,
+    ALL_SECRET, CORNERS, LATER, NONE_SECRET, ONE, ONE_SYMBOL, OWN_NUMBERS, P, P0, P1, P_ENCODING, P_SYMBOLS, Q, Q_ENCODING, STRONG_ONLY, T, U,
 )
 from generate import (
     any_bytes, cut_symbols, flipped_bits, further_bytes, many_transitions, out_of_range, padding_bits, random_automaton, random_offers, repeated,
@@ -229,7 +229,7 @@ def symbols(calls):
     others = (31, 32, 255)
     for name, automaton, offered in (
         ("P, with symbols", P_SYMBOLS, (1, 2, 34, 0) + others + (0, 2, 2, 0, 2)),
-        ("two events, told apart", PUMPS, (0, 7, 2, 1, 2)),
+        ("two events with their own numbers", OWN_NUMBERS, (0, 7, 2, 1, 2)),
         ("two events with one symbol", ONE_SYMBOL, (0, 7, 1, 39, 7, 2) + others + (7, 2)),
         ("two events with one symbol, told apart by what follows", LATER, (7, 0, 3, 7, 2, 7, 7)),
     ):

@@ -21,16 +21,16 @@ FOLDER = pathlib.Path(__file__).resolve().parent.parent / "crates" / "log_sample
 
 def longest_release():
     """With K 15 the first symbol waits for 16 more, and 17 go at once, each with two digits: the longest line. The event is 31, and then 0."""
-    for event, symbols in ((31, None), (0, [31])):
-        automaton = Automaton(2, event, 15, 0, {1}, {event}, [(0, event, 1), (1, event, 2), (2, event, 2)], symbols)
+    for event, listed in ((31, None), (0, [31])):
+        automaton = Automaton(2, event, 15, 0, {1}, {event}, [(0, event, 1), (1, event, 2), (2, event, 2)], listed)
         yield with_length(encoded(automaton), bytes([31] * 18))
 
 
 def largest():
     """The longest encoding there is, with symbols and 1,023 different transitions: as it is, a byte shorter, a byte longer; then without symbols."""
     rng = random.Random("largest")
-    symbols = [rng.randrange(32) for _ in range(32)]
-    automaton = Automaton(63, 31, 1, 5, set(range(0, 60)), set(range(3, 32)), many_transitions(rng, 1023), symbols)
+    listed = [rng.randrange(32) for _ in range(32)]
+    automaton = Automaton(63, 31, 1, 5, set(range(0, 60)), set(range(3, 32)), many_transitions(rng, 1023), listed)
     longest, offered = encoded(automaton), bytes(range(32)) + bytes((32, 255))
     assert len(longest) == 2210
     yield with_length(longest, offered)

@@ -51,8 +51,8 @@ def test_symbols():
     """S-2, by hand: the fields of an encoding with symbols, where it is cut, the longest one, and the header."""
     fixed = "000011" + "00010" + "0010" + "000000" + "0000000101" + "1"
     sets, symbols = "0100" + "011", "11111" + "00010" + "00000"
-    moves = "00000000000000010" + "00000000001000001" + "00000100010000000" + "00001000001000011" + "00001100001000011"
-    bits = fixed + sets + symbols + moves
+    transitions = "00000000000000010" + "00000000001000001" + "00000100010000000" + "00001000001000011" + "00001100001000011"
+    bits = fixed + sets + symbols + transitions
     assert len(bits) == 139
     encoding = int(bits + "00000", 2).to_bytes(18, "big")
     assert encoded(P_SYMBOLS) == encoding

@@ -135,14 +135,13 @@ pub fn sound(table: &[u64], header: Header) -> bool
 }
 
 // For each symbol the observable events that have it. (One walk over the observable events for a whole call; a step by a symbol then finds its
-// events at once. Inner, as the functions below.)
-pub fn by_symbol(header: Header) -> [u32; 32]
-    requires { ⌜ SmallSymbols (header .observable) (header .symbols) ⌝ }
-    ensures { λ r. ⌜ ((t : List ℕ) → BySymbol (automatonOf t header) r) ⌝ }
+// events at once. To a lent slice: an array that is handed back would be copied. Inner, as the functions below.)
+pub fn by_symbol(header: Header, sets: &mut [u32])
+    requires { ⌜ SmallSymbols (header .observable) (header .symbols) × (now sets ≡ replicate 32 0) ⌝ }
+    ensures { λ _. ⌜ ((t : List ℕ) → BySymbol (automatonOf t header) (now (sets .exit))) ⌝ }
 {
     let symbols = header.symbols;
     let observable = header.observable as u64;
-    let mut sets = [0u32; 32];
     let mut todo = observable;
     while todo != 0 {
         let e = u64::trailing_zeros(todo) as usize;
@@ -150,7 +149,6 @@ pub fn by_symbol(header: Header) -> [u32; 32]
         sets[s] |= 1 << e;
         todo &= todo - 1;
     }
-    sets
 }
 
 // The observable events with a symbol; none where the byte is above 31.

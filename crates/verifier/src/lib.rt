@@ -367,7 +367,8 @@ impl Estimator {
             weak: true,
             strong: true,
         };
-        let sets = automaton::by_symbol(header);
+        let mut sets = [0u32; 32];
+        automaton::by_symbol(header, &mut sets);
         let verdicts = judge(
             estimator,
             table,
@@ -402,7 +403,8 @@ impl Estimator {
         if !self.sound(table, header) {
             return self.refused(Refusal::Malformed);
         }
-        let sets = automaton::by_symbol(header);
+        let mut sets = [0u32; 32];
+        automaton::by_symbol(header, &mut sets);
         let shown = automaton::events_with(&sets, symbol);
         if shown == 0 {
             return self.refused(Refusal::NotObservable);

@@ -87,6 +87,13 @@ same-list (a ∷ l) [] t = absurd t
 same-list (a ∷ l) (b ∷ m) t =
     ap₂ (λ (x : ℕ) (xs : List ℕ). x ∷ xs) (eqb→eq a b (and-left (eqb a b) (sameList l m) t)) (same-list l m (and-right (eqb a b) (sameList l m) t))
 
+same-refl : (l : List ℕ) → T (sameList l l)
+same-refl [] = tt
+same-refl (a ∷ l) = and-both (eqb a a) (sameList l l) (eqb-refl a) (same-refl l)
+
+pub list-same : (l m : List ℕ) → l ≡ m → T (sameList l m)
+list-same l m e = subst (λ (x : List ℕ). T (sameList l x)) e (same-refl l)
+
 module _ {A : Type 0} where
   abbrev pub every : (A → Bool) → List A → Bool
   every f [] = true

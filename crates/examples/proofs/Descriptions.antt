@@ -4,31 +4,31 @@ use mathlib.Core.Bool.{Bool, true, false, _&&_}
 use mathlib.Core.List.{List, [], _∷_}
 use Prim.Native.Nat.{ℕ}
 use lib.Dec.{T, eqb, eqb→eq}
+use lib.ListN.{getD}
 use Rattle.automaton.specs.declared.Header.{Header}
 use Rattle.bitfields.specs.Bits.{bitsOf}
 use Rattle.encoding.specs.Transitions.{Transition, sameTransition}
 use Rattle.encoding.specs.Encoding.{encoding}
 use Rattle.examples.specs.Meaning.{Example, Contents, automaton, refusal, contentsOf}
 use Rattle.encoding.proofs.Listed.{same-equal}
-use Rattle.examples.proofs.Booleans.{and-left, and-right, is-true}
+use Rattle.examples.proofs.Booleans.{and-left, and-right, is-true, sameList, same-list}
 use Rattle.examples.proofs.Checks.{Check, by}
 
 abbrev sameHeader : Header → Header → Bool
-sameHeader a b = eqb (a .initial) (b .initial) && (eqb (a .k) (b .k) && (eqb (a .secret) (b .secret) && eqb (a .observable) (b .observable)))
+sameHeader a b =
+    sameList (a .initial ∷ a .k ∷ a .secret ∷ a .observable ∷ []) (b .initial ∷ b .k ∷ b .secret ∷ b .observable ∷ []) && sameList (a .symbols) (b .symbols)
+
+-- a field at its place in the list of numbers
+abbrev place : List ℕ → ℕ → ℕ
+place l n = getD l n 0
 
 same-header : (a b : Header) → T (sameHeader a b) → a ≡ b
 same-header a b t =
-    let initial = eqb (a .initial) (b .initial) in
-    let k = eqb (a .k) (b .k) in
-    let secret = eqb (a .secret) (b .secret) in
-    let observable = eqb (a .observable) (b .observable) in
-    let after-initial = and-right initial (k && (secret && observable)) t in
-    let after-k = and-right k (secret && observable) after-initial in
-    let i-is : a .initial ≡ b .initial = eqb→eq (a .initial) (b .initial) (and-left initial (k && (secret && observable)) t) in
-    let k-is : a .k ≡ b .k = eqb→eq (a .k) (b .k) (and-left k (secret && observable) after-initial) in
-    let s-is : a .secret ≡ b .secret = eqb→eq (a .secret) (b .secret) (and-left secret observable after-k) in
-    let o-is : a .observable ≡ b .observable = eqb→eq (a .observable) (b .observable) (and-right secret observable after-k) in
-    λ i. record { initial = i-is i; k = k-is i; secret = s-is i; observable = o-is i }
+    let x = a .initial ∷ a .k ∷ a .secret ∷ a .observable ∷ [] in
+    let y = b .initial ∷ b .k ∷ b .secret ∷ b .observable ∷ [] in
+    let numbers : x ≡ y = same-list x y (and-left (sameList x y) (sameList (a .symbols) (b .symbols)) t) in
+    let symbols : a .symbols ≡ b .symbols = same-list (a .symbols) (b .symbols) (and-right (sameList x y) (sameList (a .symbols) (b .symbols)) t) in
+    λ i. record { initial = place (numbers i) 0; k = place (numbers i) 1; secret = place (numbers i) 2; observable = place (numbers i) 3; symbols = symbols i }
 
 abbrev sameTransitions : List Transition → List Transition → Bool
 sameTransitions [] [] = true

@@ -1,16 +1,20 @@
 -- Every row of the table holds: the checker computes a check of each row. Assumes nothing.
-use mathlib.Core.Bool.{not, _&&_}
+use mathlib.Core.Path.{_≡_}
+use mathlib.Core.Bool.{not}
 use mathlib.Core.List.{List, [], _∷_, _++_}
 use mathlib.Core.Logic.{inl, inr, ⊎-elim}
-use Prim.Native.Nat.{ℕ, suc}
-use lib.Dec.{T, eqb, ltb, lt→ltb, T-not}
-use lib.ListN.{length, take}
+use Prim.Native.Nat.{ℕ, _≤_, _<_}
+use native.Mathlib.Omega.{arith}
+use native.Mathlib.Decide.{decLt}
+use lib.Dec.{T, T-not}
+use lib.ListN.{length, getD, take, List·getD-eq-default}
 use Rattle.stateset.specs.Set.{bit}
-use Rattle.automaton.specs.Run.{automatonOf, Observable}
+use Rattle.automaton.specs.Run.{automatonOf, showsBy, Observable, SmallSymbols}
 use Rattle.automaton.specs.declared.Header.{Header}
 use Rattle.bitfields.specs.Bits.{bitsOf, byteBits, numberAt, numberFrom, setOf}
 use Rattle.bitfields.specs.Parser.{field, flags}
-use Rattle.encoding.specs.Encoding.{encoding, fixed, front, transition, transitions, ending}
+use Rattle.encoding.specs.Encoding.{encoding, fixed, front, symbols, preamble, transition, transitions, ending}
+use Rattle.encoding.specs.Answers.{headerSymbols}
 use Rattle.encoding.specs.Transitions.{Transition}
 use Rattle.verifier.specs.declared.Notion.{Notion}
 use Rattle.verifier.specs.declared.Notion.the-variants.{Weak, Strong}
@@ -21,19 +25,38 @@ use Rattle.verifier.proofs.Exactness.{exactly}
 use Rattle.enforcer.specs.Offerings.{Begun, started, not-started}
 use Rattle.examples.specs.Meaning.{Question, verdicts-of, answers-after, start-of, releases-of, VerdictsAre, Opened, StartIs, ReleasedIs, EachReleases, Says, Example, Row, about, description, AboutHolds, RowHolds, All}
 use Rattle.examples.specs.StarredRows.{rows, EveryRowHolds}
-use Rattle.examples.proofs.Booleans.{and-both, eq-eqb, every, sameList, same-list}
-use Rattle.examples.proofs.Checks.{Check, done, failed, checked, map, then, both, either, by, le?, eq?}
+use Rattle.examples.proofs.Booleans.{every, sameList, same-list, list-same}
+use Rattle.examples.proofs.Checks.{Check, done, failed, checked, map, then, both, either, by, le?, eq?, all-below, some-below}
 use Rattle.examples.proofs.TableLaw.{inRange, some-table, sound}
 use Rattle.examples.proofs.Descriptions.{description?}
 use Rattle.examples.proofs.NotionChecks.{For, possible?, impossible?, tells?, longest?}
 
-abbrev observable? : (h : Header) (byte : ℕ) → Check (Observable h byte)
-observable? h byte = map (λ f. record { event-small = f .0; observable = f .1 }) (both (le? (suc byte) 32) (eq? (bit byte (h .observable)) 1))
+all-small : (observable : ℕ) (symbols : List ℕ) → length symbols ≡ 32 → ((e : ℕ) → e < 32 → getD symbols e 0 ≤ 31) → SmallSymbols observable symbols
+all-small observable symbols size small e i =
+    elim (decLt e 32) [
+      | yes l ↦ small e l
+      | no l ↦ omega (arith, List·getD-eq-default symbols 0 {n = e} (omega arith))
+    ]
 
-not-observable : (h : Header) (byte : ℕ) → T (not (ltb byte 32 && eqb (bit byte (h .observable)) 1)) → Observable h byte → ⊥
-not-observable h byte t o =
-    T-not (ltb byte 32 && eqb (bit byte (h .observable)) 1) t
-    (and-both (ltb byte 32) (eqb (bit byte (h .observable)) 1) (lt→ltb byte 32 (o .event-small)) (eq-eqb (bit byte (h .observable)) 1 (o .observable)))
+abbrev outOf : Header → ℕ → List ℕ
+outOf h e = showsBy (h .observable) (h .symbols) e
+
+abbrev observable? : (h : Header) (byte : ℕ) → Check (Observable h byte)
+observable? h byte =
+    map (λ b. record { event = b .at; event-small = b .small; shows-it = b .holds })
+    (some-below {A = λ e. outOf h e ≡ byte ∷ []} (λ e. by (sameList (outOf h e) (byte ∷ [])) (same-list (outOf h e) (byte ∷ []))) 32)
+
+abbrev not-observable? : (h : Header) (byte : ℕ) → Check (Observable h byte → ⊥)
+not-observable? h byte =
+    map (λ f o. f (o .event) (o .event-small) (o .shows-it))
+    (all-below {A = λ e. outOf h e ≡ byte ∷ [] → ⊥}
+    (λ e. by (not (sameList (outOf h e) (byte ∷ []))) (λ t same. T-not (sameList (outOf h e) (byte ∷ [])) t (list-same (outOf h e) (byte ∷ []) same))) 32)
+
+-- past the 32 symbols there is none
+abbrev symbols? : (h : Header) → Check (SmallSymbols (h .observable) (h .symbols))
+symbols? h =
+    map (λ f. all-small (h .observable) (h .symbols) (f .0) (f .1))
+    (both (eq? (length (h .symbols)) 32) (all-below {A = λ e. getD (h .symbols) e 0 ≤ 31} (λ e. le? (getD (h .symbols) e 0) 31) 32))
 
 -- by the definition, so exactly so in 01's words
 right : (t : List ℕ) (h : Header) (trace : List ℕ) (v w : Steps) → VerdictsAre t h trace v w → Right t h trace v w
@@ -54,7 +77,7 @@ module _ (ts : List Transition) (h : Header) (range : T (every inRange ts)) wher
   abbrev answered? : (trace : List ℕ) (byte : ℕ) (s : Said) → Check (For ts (λ t. Answered t h trace byte s))
   answered? trace byte (refused n) =
       map (λ f x. ⊎-elim (λ a. inl a) (λ b. inr (b .0, b .1 .0, b .1 .1 x)) f)
-      (either (both (eq? n 6) (by (not (ltb byte 32 && eqb (bit byte (h .observable)) 1)) (not-observable h byte)))
+      (either (both (eq? n 6) (not-observable? h byte))
       (both (eq? n 7) (both (observable? h byte) (impossible? ts h range (trace ++ byte ∷ [])))))
   answered? trace byte (verdicts v w) =
       map (λ f x. (f .0, f .1 x .possible, right (x .table) h (trace ++ byte ∷ []) v w (f .1 x)))
@@ -105,10 +128,10 @@ about? e q =
     then (by (every inRange ts) (λ range. range)) (λ range.
     map (λ f. record {
       some = some-table ts range;
-      sound = λ t law. sound ts t law h (f .0) (f .1 .0);
-      says = λ t law. f .1 .1 (record { table = t; holds = law });
+      sound = λ t law. sound ts t law h (f .0) (f .1 .0) (f .1 .1 .0);
+      says = λ t law. f .1 .1 .1 (record { table = t; holds = law });
     })
-    (both (le? (h .k) 15) (both (le? (h .initial) 63) (says? ts h range q))))
+    (both (le? (h .k) 15) (both (le? (h .initial) 63) (both (symbols? h) (says? ts h range q)))))
 
 abbrev row? : (r : Row) → Check (RowHolds r)
 row? (about e q) = about? e q
@@ -120,5 +143,5 @@ all? (r ∷ rs) = both (row? r) (all? rs)
 
 -- THE THEOREM: every check passes
 pub every-row-holds : EveryRowHolds
-unfolding bit encoding fixed front transition transitions ending field flags bitsOf byteBits numberAt numberFrom setOf
+unfolding bit encoding fixed front symbols preamble headerSymbols transition transitions ending field flags bitsOf byteBits numberAt numberFrom setOf
 every-row-holds = checked (all? rows) tt

@@ -83,7 +83,7 @@ pub data Contents : Type 0 where
   refusal : ℕ → Contents
 
 abbrev pub contentsOf : Parsed Encoding → Contents
-contentsOf (done e next) = automaton (record { transitions = e .transitions; header = headerOf (e .front) })
+contentsOf (done e next) = automaton (record { transitions = e .transitions; header = headerOf (e .front) (e .symbols) })
 contentsOf (refused n) = refusal n
 
 -- a row is about an automaton, or about the bytes of a description

@@ -1,6 +1,6 @@
--- The starred examples of 01's section "Feeds to try" as one table.
+-- The starred examples of 01's section "Feeds to try" as one table, and an example for 02's S-2.
 use mathlib.Core.List.{List, [], _∷_, _++_}
-use lib.ListN.{take}
+use lib.ListN.{take, replicate}
 use Prim.Native.Nat.{ℕ, _+_, _^_}
 use Rattle.encoding.specs.Transitions.{Transition}
 use Rattle.verifier.specs.declared.Notion.the-variants.{Weak, Strong}
@@ -13,36 +13,43 @@ use Rattle.examples.specs.Meaning.{Example, Question, verdicts-of, answe
 abbrev pub transition : (from event to : ℕ) → Transition
 transition from event to = record { from = from; event = event; to = to }
 
--- 01's P, with any K. A set is written as a sum of powers: {1, 2} is 2 ^ 1 + 2 ^ 2
+-- 01's P, with any K. A set is written as a sum of powers: {1, 2} is 2 ^ 1 + 2 ^ 2. Without symbols each observable event has its own number, and the others 0
 abbrev pub P : ℕ → Example
 P k = record {
   transitions = transition 0 0 2 ∷ transition 0 1 1 ∷ transition 1 2 0 ∷ transition 2 1 3 ∷ transition 3 1 3 ∷ [];
-  header = record { initial = 0; k = k; secret = 2 ^ 1; observable = 2 ^ 1 + 2 ^ 2 };
+  header = record { initial = 0; k = k; secret = 2 ^ 1; observable = 2 ^ 1 + 2 ^ 2; symbols = 0 ∷ 1 ∷ 2 ∷ replicate 29 0 };
 }
 
 -- 01's Q
 abbrev pub Q : Example
 Q = record {
   transitions = transition 0 1 1 ∷ transition 1 0 2 ∷ [];
-  header = record { initial = 0; k = 1; secret = 2 ^ 1; observable = 2 ^ 1 };
+  header = record { initial = 0; k = 1; secret = 2 ^ 1; observable = 2 ^ 1; symbols = 0 ∷ 1 ∷ replicate 30 0 };
 }
 
 -- 01's T: event 0 is not observable, and there is no other
 abbrev pub T : Example
 T = record {
   transitions = transition 0 0 1 ∷ [];
-  header = record { initial = 0; k = 0; secret = 2 ^ 0; observable = 0 };
+  header = record { initial = 0; k = 0; secret = 2 ^ 0; observable = 0; symbols = replicate 32 0 };
 }
 
 -- the one state 0, secret
 abbrev pub One : Example
-One = record { transitions = []; header = record { initial = 0; k = 0; secret = 2 ^ 0; observable = 0 } }
+One = record { transitions = []; header = record { initial = 0; k = 0; secret = 2 ^ 0; observable = 0; symbols = replicate 32 0 } }
 
 -- 01's U
 abbrev pub U : Example
 U = record {
   transitions = transition 0 1 1 ∷ transition 1 1 0 ∷ [];
-  header = record { initial = 0; k = 0; secret = 2 ^ 1; observable = 2 ^ 1 };
+  header = record { initial = 0; k = 0; secret = 2 ^ 1; observable = 2 ^ 1; symbols = 0 ∷ 1 ∷ replicate 30 0 };
+}
+
+-- 02's two pumps: event 0 leads to the secret state 1, event 1 to state 2. With symbols 0 and 1 the reader tells them apart; with one symbol for both not
+abbrev pub Pumps : (first second : ℕ) → Example
+Pumps first second = record {
+  transitions = transition 0 0 1 ∷ transition 0 1 2 ∷ [];
+  header = record { initial = 0; k = 0; secret = 2 ^ 1; observable = 2 ^ 0 + 2 ^ 1; symbols = first ∷ second ∷ replicate 30 0 };
 }
 
 abbrev pub call : ℕ → Said → Call
@@ -54,6 +61,10 @@ q-bytes fourth last = 0x08 ∷ 0x22 ∷ 0x00 ∷ fourth ∷ 0x48 ∷ 0x01 ∷ 0x
 
 abbrev pub p-bytes : List ℕ
 p-bytes = 0x0C ∷ 0x44 ∷ 0x00 ∷ 0x0A ∷ 0x46 ∷ 0x00 ∷ 0x02 ∷ 0x00 ∷ 0x20 ∷ 0x82 ∷ 0x20 ∷ 0x02 ∷ 0x08 ∷ 0x61 ∷ 0x84 ∷ 0x30 ∷ []
+
+-- with symbol 7 for both events
+abbrev pub pumps-bytes : List ℕ
+pumps-bytes = 0x08 ∷ 0x20 ∷ 0x00 ∷ 0x05 ∷ 0x59 ∷ 0xCE ∷ 0x00 ∷ 0x01 ∷ 0x00 ∷ 0x21 ∷ 0x00 ∷ []
 
 -- K 0 and U are shown under both notions, and P's description too
 abbrev pub rows : List Row
@@ -75,7 +86,7 @@ rows =
     ∷ description (take 8 (q-bytes 0x04 0x04)) (refusal 1)
     ∷ description (q-bytes 0x04 0x05) (refusal 5)
     ∷ description (q-bytes 0x04 0x04 ++ 0x00 ∷ []) (refusal 5)
-    ∷ description (q-bytes 0x05 0x04) (refusal 2)
+    ∷ description (q-bytes 0x05 0x04) (refusal 3)
     ∷ about T (verdicts-of [] none (leak 0))
     ∷ about T (start-of Weak started)
     ∷ about T (start-of Strong (not-started 8))
@@ -85,6 +96,15 @@ rows =
     ∷ about U (releases-of Weak (1 ∷ 1 ∷ []) ([] ∷ (1 ∷ 1 ∷ []) ∷ []))
     ∷ about U (releases-of Strong (1 ∷ 1 ∷ []) ([] ∷ (1 ∷ 1 ∷ []) ∷ []))
     ∷ description p-bytes (automaton (P 2))
+    ∷ about (Pumps 0 1) (verdicts-of (0 ∷ []) (leak 0) (leak 0))
+    ∷ about (Pumps 7 7) (verdicts-of (7 ∷ []) none none)
+    -- 6 is judged by the symbols: an event's number that is none is refused
+    ∷ about (Pumps 7 7) (answers-after [] (call 0 (refused 6) ∷ call 7 (verdicts none none) ∷ call 7 (refused 7) ∷ []))
+    ∷ about (Pumps 7 7) (releases-of Weak (7 ∷ []) ((7 ∷ []) ∷ []))
+    -- without symbols; with one symbol for both; cut inside the first symbol
+    ∷ description (0x08 ∷ 0x20 ∷ 0x00 ∷ 0x04 ∷ 0x58 ∷ 0x00 ∷ 0x04 ∷ 0x00 ∷ 0x84 ∷ []) (automaton (Pumps 0 1))
+    ∷ description pumps-bytes (automaton (Pumps 7 7))
+    ∷ description (take 5 pumps-bytes) (refusal 1)
     ∷ []
 
 -- the statement; the proof is every-row-holds of proofs/EveryRow

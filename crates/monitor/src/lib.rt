@@ -290,7 +290,7 @@ fn refused(refusal: Refusal) -> Opened
 {
     let estimator = Estimator {
         count: 255,
-        events: [0u8; 15],
+        symbols: [0u8; 15],
         entries: [0u64; 16],
     };
     let enforcer = Enforcer {

@@ -7,7 +7,7 @@ use mathlib.Core.List.{List, [], _∷_, _++_, append-assoc, append-nil, map}
 use lib.ListN.{length, take, drop, getD, length-append}
 use lib.Seq.{sets, take-suc, take-all}
 use Rattle.automaton.proofs.Filled.{sets-append}
-use Rattle.report.specs.Text.{decimal, led, line, events}
+use Rattle.report.specs.Text.{decimal, led, line, symbols}
 use Rattle.report.specs.Writing.{Wrote, Written, written}
 use Rattle.report.specs.declared.Line.the-variants.{Next}
 
@@ -60,18 +60,18 @@ led-one s l i h =
     sym (led-snoc s (map decimal (take i l)) (decimal (getD l i 0)))
     ∙ ap (led s) (sym (map-snoc decimal (take i l) (getD l i 0)) ∙ ap (map decimal) (take-one l i h))
 
--- a list of events: none, or the first and the others
-pub events-none : (l : List ℕ) → length l ≡ 0 → 32 ∷ 45 ∷ [] ≡ 32 ∷ events l
-events-none [] h = refl
-events-none (x ∷ l) h = absurd (omega arith)
+-- a list of symbols: none, or the first and the others
+pub symbols-none : (l : List ℕ) → length l ≡ 0 → 32 ∷ 45 ∷ [] ≡ 32 ∷ symbols l
+symbols-none [] h = refl
+symbols-none (x ∷ l) h = absurd (omega arith)
 
 tail-part : (x : ℕ) (l : List ℕ) → take (length (x ∷ l) - 1) (drop 1 (x ∷ l)) ≡ l
 tail-part x l = take-all (length (x ∷ l) - 1) l (omega arith)
 
-pub events-some : (l : List ℕ) (k : ℕ) → (length l ≡ 0 → ⊥) → k ≡ getD l 0 0
-    → (32 ∷ decimal k) ++ led 44 (map decimal (take (length l - 1) (drop 1 l))) ≡ 32 ∷ events l
-events-some [] k h e = absurd (h refl)
-events-some (x ∷ l) k h e =
+pub symbols-some : (l : List ℕ) (k : ℕ) → (length l ≡ 0 → ⊥) → k ≡ getD l 0 0
+    → (32 ∷ decimal k) ++ led 44 (map decimal (take (length l - 1) (drop 1 l))) ≡ 32 ∷ symbols l
+symbols-some [] k h e = absurd (h refl)
+symbols-some (x ∷ l) k h e =
     ap (λ (j : ℕ). (32 ∷ decimal j) ++ led 44 (map decimal (take (length (x ∷ l) - 1) (drop 1 (x ∷ l))))) e
     ∙ ap (λ (t : List ℕ). (32 ∷ decimal x) ++ led 44 (map decimal t)) (tail-part x l)
 

@@ -49,14 +49,14 @@ abbrev pub steps : Verdict → List ℕ
 steps NoLeak = 45 ∷ []
 steps (Leak l) = decimal l
 
--- the events, joined by commas, or `-`
-abbrev pub events : List ℕ → List ℕ
-events [] = 45 ∷ []
-events (e ∷ es) = joined 44 (map decimal (e ∷ es))
+-- symbols, joined by commas, or `-`
+abbrev pub symbols : List ℕ → List ℕ
+symbols [] = 45 ∷ []
+symbols (e ∷ es) = joined 44 (map decimal (e ∷ es))
 
--- an accepted event: its place from 1, the event, the verdicts, the events that it released (01: freed)
+-- an accepted event: its place from 1, its symbol (01: the event; 02: a lamp), the verdicts, the symbols that it released (01: freed)
 abbrev pub acceptedLine : ℕ → ℕ → Verdict → Verdict → List ℕ → List ℕ
-acceptedLine place event weak strong released = line (decimal place ∷ decimal event ∷ steps weak ∷ steps strong ∷ events released ∷ [])
+acceptedLine place symbol weak strong released = line (decimal place ∷ decimal symbol ∷ steps weak ∷ steps strong ∷ symbols released ∷ [])
 
 -- a refused event: `!`, the byte, the number of the refusal
 abbrev pub refusedLine : ℕ → Refusal → List ℕ

@@ -8,7 +8,7 @@ ghost use Prim.Native.Nat.{_+_, _*_, _%_, _≤_, _<_};
 ghost use lib.ListN.{length};
 ghost use Rattle.stateset.specs.Set.{Decided};
 ghost use Rattle.automaton.specs.Refusals.{numberOf};
-ghost use Rattle.report.specs.Text.{decimal, led, steps, events, acceptedLine, refusedLine, endLine, refusedLog};
+ghost use Rattle.report.specs.Text.{decimal, led, steps, symbols, acceptedLine, refusedLine, endLine, refusedLog};
 ghost use Rattle.report.specs.Writing.{roomFor, Written, Wrote};
 
 // Room for any line that names at most 17 released events.
@@ -96,8 +96,8 @@ fn verdict_field(out: &mut [u8], at: usize, verdict: Verdict) -> usize
     }
 }
 
-// Each event with a comma in front of it.
-fn more_events(out: &mut [u8], at: usize, released: &[u8]) -> usize
+// Each symbol with a comma in front of it.
+fn more_symbols(out: &mut [u8], at: usize, released: &[u8]) -> usize
     requires { ⌜ at + 11 * length (now released) ≤ length (now out) ⌝ }
     ensures { λ r. ⌜ Wrote (11 * length (now (released .entry))) (now (out .entry)) at (led 44 (map decimal (now (released .entry)))) (now (out .exit)) r ⌝ }
 {
@@ -110,16 +110,16 @@ fn more_events(out: &mut [u8], at: usize, released: &[u8]) -> usize
     next
 }
 
-// A space and the events, or a space and `-`.
-fn events_field(out: &mut [u8], at: usize, released: &[u8]) -> usize
+// A space and the symbols, or a space and `-`.
+fn symbols_field(out: &mut [u8], at: usize, released: &[u8]) -> usize
     requires { ⌜ at + 2 + 11 * length (now released) ≤ length (now out) ⌝ }
-    ensures { λ r. ⌜ Wrote (2 + 11 * length (now (released .entry))) (now (out .entry)) at (32 ∷ events (now (released .entry))) (now (out .exit)) r ⌝ }
+    ensures { λ r. ⌜ Wrote (2 + 11 * length (now (released .entry))) (now (out .entry)) at (32 ∷ symbols (now (released .entry))) (now (out .exit)) r ⌝ }
 {
     if released.len() == 0 {
         return dash(out, at);
     }
     let next = field(out, at, 32, wide(released[0]));
-    more_events(out, next, &released[1..])
+    more_symbols(out, next, &released[1..])
 }
 
 // A space and a refusal's number: for an event's line and for a refused log.
@@ -134,20 +134,20 @@ fn put_accepted(
     out: &mut [u8],
     at: usize,
     place: u32,
-    event: u8,
+    symbol: u8,
     verdicts: Verdicts,
     released: &[u8],
 ) -> usize
     requires { ⌜ at + roomFor (length (now released)) ≤ length (now out) ⌝ }
-    ensures { λ r. ⌜ Wrote (roomFor (length (now (released .entry)))) (now (out .entry)) at (acceptedLine place event (verdicts .weak) (verdicts .strong) (now (released .entry))) (now (out .exit)) r ⌝ }
+    ensures { λ r. ⌜ Wrote (roomFor (length (now (released .entry)))) (now (out .entry)) at (acceptedLine place symbol (verdicts .weak) (verdicts .strong) (now (released .entry))) (now (out .exit)) r ⌝ }
 {
     let weak = verdicts.weak;
     let strong = verdicts.strong;
     let a = number(out, at, place);
-    let b = field(out, a, 32, wide(event));
+    let b = field(out, a, 32, wide(symbol));
     let c = verdict_field(out, b, weak);
     let d = verdict_field(out, c, strong);
-    let e = events_field(out, d, released);
+    let e = symbols_field(out, d, released);
     put(out, e, 10)
 }
 
@@ -198,19 +198,19 @@ fn has_room(out: &[u8], at: usize, released: usize) -> bool
     true
 }
 
-// The line of an accepted event: its place, the event, the verdicts and the events that it released.
+// The line of an accepted event: its place, its symbol, the verdicts and the symbols that it released.
 pub fn accepted(
     out: &mut [u8],
     at: usize,
     place: u32,
-    event: u8,
+    symbol: u8,
     verdicts: Verdicts,
     released: &[u8],
 ) -> Line
-    ensures { λ r. ⌜ Written (roomFor (length (now (released .entry)))) (now (out .entry)) at (acceptedLine place event (verdicts .weak) (verdicts .strong) (now (released .entry))) r (now (out .exit)) ⌝ }
+    ensures { λ r. ⌜ Written (roomFor (length (now (released .entry)))) (now (out .entry)) at (acceptedLine place symbol (verdicts .weak) (verdicts .strong) (now (released .entry))) r (now (out .exit)) ⌝ }
 {
     if has_room(out, at, released.len()) {
-        return Line::Next(put_accepted(out, at, place, event, verdicts, released));
+        return Line::Next(put_accepted(out, at, place, symbol, verdicts, released));
     }
     Line::NoRoom
 }

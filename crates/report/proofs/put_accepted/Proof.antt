@@ -3,7 +3,7 @@ use Prim.Native.Nat.{ℕ}
 use native.Mathlib.Omega.{arith}
 use mathlib.Core.Path.{ap, _∙_}
 use mathlib.Core.List.{[], _∷_, _++_}
-use Rattle.report.specs.Text.{decimal, steps, events}
+use Rattle.report.specs.Text.{decimal, steps, symbols}
 use Rattle.report.proofs.Laws.{then, same, lined}
 use Rattle.report.proofs.put_accepted.Statement.{statement}
 use Rattle.report.proofs.put_accepted.Tie as tie
@@ -23,8 +23,8 @@ verdict-field-requires c κs = search needs
 verdict-field-requires-2 : tie.Need-verdict-field-requires-2
 verdict-field-requires-2 c κs = search needs
 
-events-field-requires : tie.Need-events-field-requires
-events-field-requires c κs = search needs
+symbols-field-requires : tie.Need-symbols-field-requires
+symbols-field-requires c κs = search needs
 
 put-requires : tie.Need-put-requires
 put-requires c κs = search needs
@@ -35,9 +35,9 @@ same-length c = search needs
 returns : tie.Need-returns
 returns c =
     let a = c .before .before .before .before .before .before .before .before .before .before .before .before .before .before .before .before .before .before .before .before .before .before .before .before .before .before .before .args in
-    same (ap (λ (k : ℕ). decimal (a .place) ++ ((32 ∷ decimal k) ++ ((32 ∷ steps (a .verdicts .weak)) ++ ((32 ∷ steps (a .verdicts .strong)) ++ ((32 ∷ events (a .released .now)) ++ (10 ∷ [])))))) (c .before .before .before .before .before .before .before .before .before .before .before .before .before .before .before .before .before .before .before .wide .ensures)
-    ∙ lined (decimal (a .place)) (decimal (a .event) ∷ steps (a .verdicts .weak) ∷ steps (a .verdicts .strong) ∷ events (a .released .now) ∷ [])) (omega arith)
-    (then (c .before .before .before .before .before .before .before .before .before .before .before .before .before .before .before .before .before .before .before .before .before .before .before .number .ensures) (then (c .before .before .before .before .before .before .before .before .before .before .before .before .before .before .before .before .before .before .field .ensures) (then (c .before .before .before .before .before .before .before .before .before .before .before .before .before .before .verdict-field .ensures) (then (c .before .before .before .before .before .before .before .before .before .before .verdict-field2 .ensures) (then (c .before .before .before .before .before .before .events-field .ensures) (c .before .before .put .ensures))))))
+    same (ap (λ (k : ℕ). decimal (a .place) ++ ((32 ∷ decimal k) ++ ((32 ∷ steps (a .verdicts .weak)) ++ ((32 ∷ steps (a .verdicts .strong)) ++ ((32 ∷ symbols (a .released .now)) ++ (10 ∷ [])))))) (c .before .before .before .before .before .before .before .before .before .before .before .before .before .before .before .before .before .before .before .wide .ensures)
+    ∙ lined (decimal (a .place)) (decimal (a .symbol) ∷ steps (a .verdicts .weak) ∷ steps (a .verdicts .strong) ∷ symbols (a .released .now) ∷ [])) (omega arith)
+    (then (c .before .before .before .before .before .before .before .before .before .before .before .before .before .before .before .before .before .before .before .before .before .before .before .number .ensures) (then (c .before .before .before .before .before .before .before .before .before .before .before .before .before .before .before .before .before .before .field .ensures) (then (c .before .before .before .before .before .before .before .before .before .before .before .before .before .before .verdict-field .ensures) (then (c .before .before .before .before .before .before .before .before .before .before .verdict-field2 .ensures) (then (c .before .before .before .before .before .before .symbols-field .ensures) (c .before .before .put .ensures))))))
 
 pub put-accepted-spec : {M : Type 1} → statement M
 put-accepted-spec =
@@ -48,7 +48,7 @@ put-accepted-spec =
     field-requires
     verdict-field-requires
     verdict-field-requires-2
-    events-field-requires
+    symbols-field-requires
     put-requires
     same-length
     returns)

@@ -8,8 +8,8 @@ use lib.Seq.{take-all}
 use Rattle.report.specs.Text.{decimal, led}
 use Rattle.report.specs.Writing.{Wrote}
 use Rattle.report.proofs.Laws.{then, none, same, led-one}
-use Rattle.report.proofs.more_events.Statement.{statement}
-use Rattle.report.proofs.more_events.Tie as tie
+use Rattle.report.proofs.more_symbols.Statement.{statement}
+use Rattle.report.proofs.more_symbols.Tie as tie
 
 abbrev Inv-loop : tie.InvT-loop
 Inv-loop out₀ at released i₀ next₀ out i next = (i ≤ length released) × Wrote (11 * i) out₀ at (led 44 (map decimal (take i released))) out next
@@ -53,8 +53,8 @@ returns c =
     let l = c .before .before .before .before .args .released .now in
     same (ap (λ (k : List ℕ). led 44 (map decimal k)) (take-all (c .before .loop .i) l (omega arith))) (omega arith) (c .before .loop .inv .1)
 
-pub more-events-spec : {M : Type 1} → statement M
-more-events-spec =
+pub more-symbols-spec : {M : Type 1} → statement M
+more-symbols-spec =
     tie.close
     (tie.spec
     Inv-loop

@@ -21,16 +21,16 @@ use Rattle.enforcer.proofs.Unique.{grown-unique}
 use Rattle.enforcer.proofs.Lists.{passes-refused, passes-accepted, One, kept}
 
 module _ (notion : Notion) (t : List ℕ) (h : Header) (sound : Sound t h) where
-  abbrev GrownBy : List ℕ → Enforcer → Type 0
+  abbrev pub GrownBy : List ℕ → Enforcer → Type 0
   GrownBy trace s = Grown notion (automatonOf t h) (h .secret) (h .k) trace s
 
-  abbrev Table : List ℕ → Offer → Type 0
+  abbrev pub Table : List ℕ → Offer → Type 0
   Table trace o = ByTable t h trace o (o .says)
 
-  abbrev pendingCount : Enforcer → ℕ
+  abbrev pub pendingCount : Enforcer → ℕ
   pendingCount s = s .count
 
-  abbrev OneOf : List ℕ → Enforcer → Offer → Enforcer → Type 0
+  abbrev pub OneOf : List ℕ → Enforcer → Offer → Enforcer → Type 0
   OneOf trace s o m = One Enforcer (Offered t h) pendingCount GrownBy Table trace s o m
 
   -- an offer that the table turns back changes nothing
@@ -39,7 +39,7 @@ module _ (notion : Notion) (t : List ℕ) (h : Header) (sound : Sound t h) where
   turned trace s b output left n g back =
       record { judged = back; after = rw (append-nil trace) g; passes = passes-refused trace (s .count) b n output left (g .queue .few) }
 
-  one : (trace : List ℕ) (s : Enforcer) (b : ℕ) (output : List ℕ) (r : Said) (m : Enforcer) (left : List ℕ) → GrownBy trace s
+  pub one : (trace : List ℕ) (s : Enforcer) (b : ℕ) (output : List ℕ) (r : Said) (m : Enforcer) (left : List ℕ) → GrownBy trace s
       → Offering t h s b output r m left → OneOf trace s (record { byte = b; output = output; says = r; left = left }) m
   one trace s b output r m left g (Offering.malformed bad) = absurd (bad (sound, g .limits))
   one trace s b output r m left g (Offering.output-too-small so li few) = turned trace s b output left 10 g (TurnedBack.output-too-small few)

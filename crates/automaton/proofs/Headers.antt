@@ -1,4 +1,4 @@
--- Headers that are the same but for symbols: refusals 6 and 9. Assumes nothing.
+-- Headers that are the same but for symbols: refusals 6 and 9, and which offered bytes correspond. Assumes nothing.
 use mathlib.Core.Path.{_≡_, refl, sym, subst, _∙_}
 use mathlib.Core.List.{List, []}
 use mathlib.Core.Logic.{_↔_}
@@ -10,7 +10,7 @@ use Rattle.stateset.specs.Set.{In}
 use Rattle.stateset.proofs.Bits.{in?, in-lt}
 use Rattle.automaton.specs.Run.{automatonOf, Observable, Sound}
 use Rattle.automaton.specs.declared.Header.{Header}
-use Rattle.automaton.specs.Symbols.{WithoutSymbols, SameButSymbols, SameSymbols, OneEvent}
+use Rattle.automaton.specs.Symbols.{WithoutSymbols, SameButSymbols, SameSymbols, OneEvent, SameByte, of-event, of-none}
 use Rattle.automaton.proofs.Entering.{shows-one, only-shows}
 use Rattle.automaton.proofs.Spelling.{in-same, same-back}
 
@@ -85,6 +85,21 @@ module _ (t : List ℕ) where
     pub same-sound : h .k ≡ h′ .k → Sound t h ↔ Sound t h′
     same-sound k = (sound-to h h′ g k, sound-to h′ h (same-back _ _ g) (sym k))
 
+-- what is the same under a header with other symbols for unobservable events is the same under any two headers that differ there alone
+abbrev pub relabelled : Header → List ℕ → Header
+relabelled h symbols = record { initial = h .initial; k = h .k; secret = h .secret; observable = h .observable; symbols = symbols }
+
+module _ (t : List ℕ) (C : Header → Type 0)
+    (to : (h : Header) (symbols : List ℕ) → SameSymbols (automatonOf t h) (automatonOf t (relabelled h symbols)) → C h → C (relabelled h symbols)) where
+  header-to : (h h′ : Header) → SameSymbols (automatonOf t h) (automatonOf t h′) → h .secret ≡ h′ .secret → h .k ≡ h′ .k → C h → C h′
+  header-to h h′ g secret k x =
+      let e : relabelled h (h′ .symbols) ≡ h′ =
+      λ i. record { initial = g .same .initial i; k = k i; secret = secret i; observable = g .same .observable i; symbols = h′ .symbols } in
+      subst C e (to h (h′ .symbols) (record { same = record { table = refl; initial = refl; observable = refl }; symbols-are = g .symbols-are }) x)
+
+  pub same-header : (h h′ : Header) → SameSymbols (automatonOf t h) (automatonOf t h′) → h .secret ≡ h′ .secret → h .k ≡ h′ .k → C h ↔ C h′
+  same-header h h′ g secret k = (header-to h h′ g secret k, header-to h′ h (same-back _ _ g) (sym secret) (sym k))
+
 -- a byte is the symbol of an observable event, or it is not
 module _ (h : Header) (byte : ℕ) where
   abbrev Has : ℕ → Type 0
@@ -117,3 +132,11 @@ module _ (h : Header) (byte : ℕ) where
       go : Dec ((e : ℕ) × (e < 32) × Has e) → Dec (Observable h byte)
       go (yes x) = yes (subst (λ (n : ℕ). Observable h n) (x .2 .1) (event-observable h (x .0) (x .1) (x .2 .0)))
       go (no none) = no (λ o. let x = observable-event h byte o in none (x .0, x .1, (x .2, x .3)))
+
+-- so each byte under the one header has a byte under the other that corresponds to it
+pub same-byte : (t : List ℕ) (h h′ : Header) → SameButSymbols (automatonOf t h) (automatonOf t h′) → Sound t h′ → (x : ℕ) → (y : ℕ) × SameByte t h h′ x y
+same-byte t h h′ s sound x = go (observable? h x)
+  where
+    go : Dec (Observable h x) → (y : ℕ) × SameByte t h h′ x y
+    go (yes o) = let y = other-symbol t h h′ s x o in (y .0, of-event (y .1))
+    go (no never) = (32, of-none never (λ o. let e = observable-event h′ 32 o in omega (arith, e .3, sound .symbols-small (e .0) (e .2))))

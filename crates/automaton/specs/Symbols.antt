@@ -5,7 +5,8 @@ use mathlib.Core.Logic.{_↔_}
 use Prim.Native.Nat.{ℕ, zero, suc, _<_}
 use lib.ListN.{length, getD}
 use Rattle.stateset.specs.Set.{In}
-use Rattle.automaton.specs.Run.{Automaton, Step, Compatible, Position, count, stateAt}
+use Rattle.automaton.specs.Run.{Automaton, automatonOf, Step, Compatible, Position, count, stateAt, Observable}
+use Rattle.automaton.specs.declared.Header.{Header}
 
 -- the n numbers from the first on
 abbrev pub numbersFrom : ℕ → ℕ → List ℕ
@@ -57,6 +58,16 @@ pub record OneEvent (p q : Automaton) (x y : ℕ) : Type 0 where
   pub event-observable : In event (p .observable)
   pub first : getD (p .symbols) event 0 ≡ x
   pub second : getD (q .symbols) event 0 ≡ y
+
+-- two offered bytes: the symbols of one observable event, each under its header, or neither is the symbol of any
+pub data SameByte (t : List ℕ) (h h′ : Header) (x y : ℕ) : Type 0 where
+  of-event : OneEvent (automatonOf t h) (automatonOf t h′) x y → SameByte t h h′ x y
+  of-none : (Observable h x → ⊥) → (Observable h′ y → ⊥) → SameByte t h h′ x y
+
+-- two lists, equally long, item by item
+pub data Pairs {A : Type 0} (R : A → A → Type 0) : List A → List A → Type 0 where
+  no-more : Pairs R [] []
+  both : {x y : A} {xs ys : List A} → R x y → Pairs R xs ys → Pairs R (x ∷ xs) (y ∷ ys)
 
 -- the traces a and b have the same observable events behind them, in p and in q
 pub record SameEvents (p q : Automaton) (a b : List ℕ) : Type 0 where

@@ -1,5 +1,6 @@
--- Starts and lists of offers under two headers that are the same but for symbols and tell the same observable events apart: offer by offer they are
--- answered alike, and what is accepted and released has the same events behind it. Assumes nothing.
+-- Starts and lists of offers under two headers that are the same but for symbols. Where they tell the same observable events apart, they are answered
+-- alike, offer by offer, and what is accepted and released has the same events behind it; where they differ in the symbols of unobservable events alone,
+-- the contracts say the same. Assumes nothing.
 use mathlib.Core.Path.{_≡_, refl, ap, ap₂, sym, subst, _∙_}
 use mathlib.Core.List.{List, [], _∷_, _++_}
 use mathlib.Core.Logic.{_↔_}
@@ -7,18 +8,19 @@ use Prim.Native.Nat.{ℕ, _+_, _-_}
 use native.Mathlib.Omega.{arith}
 use lib.ListN.{length, take, drop}
 use Rattle.automaton.specs.Run.{automatonOf, Observable, Sound}
-use Rattle.automaton.specs.Symbols.{WithoutSymbols, Distinct, SameButSymbols, Alike, SameEvents, Events, symbolsOf}
+use Rattle.automaton.specs.Symbols.{WithoutSymbols, Distinct, SameButSymbols, Alike, SameSymbols, symbolsOf, SameByte, of-event, of-none, Pairs, no-more, both, SameEvents}
 use Rattle.automaton.specs.declared.Header.{Header}
-use Rattle.automaton.proofs.Spelling.{no-events, one-event, join-events, take-events, drop-events, alike-possible, alike-impossible, distinct-alike, spelled-own}
-use Rattle.automaton.proofs.Headers.{both-observable}
+use Rattle.automaton.proofs.Spelling.{no-events, one-event, join-events, take-events, drop-events, alike-possible, alike-impossible, distinct-alike, spelled-own, same-agree}
+use Rattle.automaton.proofs.Agreeing.{possible-agree, impossible-agree}
+use Rattle.automaton.proofs.Headers.{both-observable, same-observable, same-sound, relabelled, same-header}
 use Rattle.verifier.specs.declared.Notion.{Notion}
 use Rattle.verifier.specs.Verdicts.{Steps, none, leak, Tells}
 use Rattle.verifier.proofs.Exactness.{in-words, exactly}
-use Rattle.verifier.proofs.Agreed.{alike-tells}
+use Rattle.verifier.proofs.Agreed.{alike-tells, same-tells}
 use Rattle.enforcer.specs.SafePrefix.{Safe}
 use Rattle.enforcer.specs.Queues.{Longest}
 use Rattle.enforcer.specs.Enforcers.{Grown}
-use Rattle.enforcer.specs.Offerings.{Begun, Said, refused, released, started, Starting}
+use Rattle.enforcer.specs.Offerings.{Begun, Said, refused, released, started, Starting, Offering}
 use Rattle.enforcer.specs.Offers.{
   Offer,
   Offered,
@@ -37,9 +39,9 @@ use Rattle.enforcer.specs.Offers.{
   LetThrough,
   ByTable,
 }
-use Rattle.enforcer.specs.Paired.{SameByte, of-event, of-none, SameOffered, SameAnswered, Pairs, no-offers, both, Corresponds}
+use Rattle.enforcer.specs.Paired.{SameOffered, SameAnswered, Corresponds}
 use Rattle.enforcer.specs.declared.Enforcer.{Enforcer}
-use Rattle.enforcer.proofs.Agreed.{alike-longest}
+use Rattle.enforcer.proofs.Agreed.{alike-longest, same-grown}
 use Rattle.enforcer.proofs.Unique.{one-longest}
 use Rattle.enforcer.proofs.ThirdPoint as third
 
@@ -159,9 +161,9 @@ module _ (t : List ℕ) (h h′ : Header) (like : Alike (automatonOf t h) (autom
 
       all-pairs : (a b : List ℕ) (s s′ : Enforcer) (os os′ : List Offer) (e e′ : Enforcer) → Same a b → GrownA a s → GrownB b s′
           → Pairs (SameOffered t h h′) os os′ → Offers t h s os e → Offers t h′ s′ os′ e′ → Corresponds (automatonOf t h) (automatonOf t h′) os os′
-      all-pairs a b s s′ os os′ e e′ x g g′ no-offers done done =
-          record { answers = no-offers; accepted = no-events _ _; released = no-events _ _; counts = refl }
-      all-pairs a b s s′ os os′ e e′ x g g′ (both {o = o} {o′ = o′} {os = rest} {os′ = rest′} offered more) (next {m = m} f fs) (next {m = m′} f′ fs′) =
+      all-pairs a b s s′ os os′ e e′ x g g′ no-more done done =
+          record { answers = no-more; accepted = no-events _ _; released = no-events _ _; counts = refl }
+      all-pairs a b s s′ os os′ e e′ x g g′ (both {x = o} {y = o′} {xs = rest} {ys = rest′} offered more) (next {m = m} f fs) (next {m = m′} f′ fs′) =
           let y = one-pair a b s s′ o o′ m m′ x g g′ offered f f′ in
           let z : Corresponds (automatonOf t h) (automatonOf t h′) rest rest′ =
           all-pairs (a ++ takenBy (o .says) (o .byte)) (b ++ takenBy (o′ .says) (o′ .byte)) m m′ rest rest′ e e′ (join-events _ _ a b _ _ x (y .taken))
@@ -217,3 +219,45 @@ alike-starts notion t h h′ like secret k sounds r r′ s s′ x y = go x y
     go (Starting.ready so n g) (Starting.malformed bad out) = absurd (bad (sounds .0 so))
     go (Starting.ready so n g) (Starting.initial-leak so′ l out) = absurd (differ (too none n) l)
     go (Starting.ready so n g) (Starting.ready so′ n′ g′) = refl
+
+-- ---- an unobservable event's symbol counts for nothing
+
+module _ (t : List ℕ) (h : Header) (symbols : List ℕ) (g : SameSymbols (automatonOf t h) (automatonOf t (relabelled h symbols))) where
+  abbrev other : Header
+  other = relabelled h symbols
+
+  sound-to : Sound t h → Sound t other
+  sound-to so = same-sound t h other g refl .0 so
+
+  starting-to : (notion : Notion) (r : Begun) (s : Enforcer) → Starting t h notion r s → Starting t other notion r s
+  starting-to notion r s (Starting.malformed bad out) = Starting.malformed (λ so. bad (same-sound t h other g refl .1 so)) out
+  starting-to notion r s (Starting.initial-leak so l out) =
+      Starting.initial-leak (sound-to so) (same-tells _ _ g [] (h .secret) (h .k) notion (leak 0) .0 l) out
+  starting-to notion r s (Starting.ready so n x) =
+      Starting.ready (sound-to so) (same-tells _ _ g [] (h .secret) (h .k) notion none .0 n) (same-grown _ _ g notion (h .secret) (h .k) [] s .0 x)
+
+  offering-to : (self : Enforcer) (byte : ℕ) (output : List ℕ) (r : Said) (after : Enforcer) (left : List ℕ) → Offering t h self byte output r after left
+      → Offering t other self byte output r after left
+  offering-to self byte output r after left (Offering.malformed bad) = Offering.malformed (λ x. bad (same-sound t h other g refl .1 (x .0), x .1))
+  offering-to self byte output r after left (Offering.output-too-small so li few) = Offering.output-too-small (sound-to so) li few
+  offering-to self byte output r after left (Offering.not-observable so li wide never) =
+      Offering.not-observable (sound-to so) li wide (λ o. never (same-observable t h other g byte .1 o))
+  offering-to self byte output r after left (Offering.incompatible so li wide ob nobody) =
+      Offering.incompatible (sound-to so) li wide (same-observable t h other g byte .0 ob) (λ notion trace x.
+          impossible-agree _ _ _ _ (same-agree _ _ g (trace ++ byte ∷ [])) (nobody notion trace (same-grown _ _ g notion (h .secret) (h .k) trace self .1 x)))
+  offering-to self byte output r after left (Offering.accepted so li wide ob la bal front rest exact) =
+      Offering.accepted (sound-to so) li wide (same-observable t h other g byte .0 ob) la bal front rest (λ notion trace x.
+          let y = exact notion trace (same-grown _ _ g notion (h .secret) (h .k) trace self .1 x) in
+          record {
+            possible = possible-agree _ _ _ _ (same-agree _ _ g (trace ++ byte ∷ [])) (y .possible);
+            grown = same-grown _ _ g notion (h .secret) (h .k) (trace ++ byte ∷ []) after .0 (y .grown);
+          })
+
+module _ (t : List ℕ) (h h′ : Header) (g : SameSymbols (automatonOf t h) (automatonOf t h′)) (secret : h .secret ≡ h′ .secret) (k : h .k ≡ h′ .k) where
+  pub same-starting : (notion : Notion) (r : Begun) (s : Enforcer) → Starting t h notion r s ↔ Starting t h′ notion r s
+  same-starting notion r s = same-header t (λ x. Starting t x notion r s) (λ h symbols g. starting-to t h symbols g notion r s) h h′ g secret k
+
+  pub same-offering : (self : Enforcer) (byte : ℕ) (output : List ℕ) (r : Said) (after : Enforcer) (left : List ℕ)
+      → Offering t h self byte output r after left ↔ Offering t h′ self byte output r after left
+  same-offering self byte output r after left =
+      same-header t (λ x. Offering t x self byte output r after left) (λ h symbols g. offering-to t h symbols g self byte output r after left) h h′ g secret k

@@ -1,17 +1,12 @@
 -- Two lists of offers under headers that are the same but for symbols (02, S-2), offer by offer.
 use mathlib.Core.Path.{_≡_}
-use mathlib.Core.List.{List, [], _∷_}
+use mathlib.Core.List.{List}
 use Prim.Native.Nat.{ℕ}
 use lib.ListN.{length, take}
-use Rattle.automaton.specs.Run.{Automaton, automatonOf, Observable}
-use Rattle.automaton.specs.Symbols.{OneEvent, SameEvents}
+use Rattle.automaton.specs.Run.{Automaton}
+use Rattle.automaton.specs.Symbols.{SameByte, SameEvents, Pairs}
 use Rattle.automaton.specs.declared.Header.{Header}
 use Rattle.enforcer.specs.Offers.{Offer, acceptedOf, countBy, releasedCount, releasedOf}
-
--- two bytes: the symbols of one observable event, each under its header, or neither is the symbol of any
-pub data SameByte (t : List ℕ) (h h′ : Header) (x y : ℕ) : Type 0 where
-  of-event : OneEvent (automatonOf t h) (automatonOf t h′) x y → SameByte t h h′ x y
-  of-none : (Observable h x → ⊥) → (Observable h′ y → ⊥) → SameByte t h h′ x y
 
 -- two offers of the same: such bytes, and outputs of one length
 pub record SameOffered (t : List ℕ) (h h′ : Header) (o o′ : Offer) : Type 0 where
@@ -22,11 +17,6 @@ pub record SameOffered (t : List ℕ) (h h′ : Header) (o o′ : Offer) : Type 
 pub record SameAnswered (p q : Automaton) (o o′ : Offer) : Type 0 where
   pub says : o .says ≡ o′ .says
   pub released : SameEvents p q (take (countBy (o .says)) (o .left)) (take (countBy (o′ .says)) (o′ .left))
-
--- two lists, equally long, offer by offer
-pub data Pairs (R : Offer → Offer → Type 0) : List Offer → List Offer → Type 0 where
-  no-offers : Pairs R [] []
-  both : {o o′ : Offer} {os os′ : List Offer} → R o o′ → Pairs R os os′ → Pairs R (o ∷ os) (o′ ∷ os′)
 
 -- what corresponds after two lists of offers: each answer, the accepted events, and the released ones with their number
 pub record Corresponds (p q : Automaton) (os os′ : List Offer) : Type 0 where

@@ -1,6 +1,6 @@
 -- Headers that are the same but for symbols: refusals 6 and 9, and which offered bytes correspond. Assumes nothing.
 use mathlib.Core.Path.{_≡_, refl, sym, subst, _∙_}
-use mathlib.Core.List.{List, []}
+use mathlib.Core.List.{List, [], _∷_}
 use mathlib.Core.Logic.{_↔_}
 use Prim.Native.Nat.{ℕ, zero, suc, _<_, _^_}
 use native.Mathlib.Omega.{arith}
@@ -10,7 +10,7 @@ use Rattle.stateset.specs.Set.{In}
 use Rattle.stateset.proofs.Bits.{in?, in-lt}
 use Rattle.automaton.specs.Run.{automatonOf, Observable, Sound}
 use Rattle.automaton.specs.declared.Header.{Header}
-use Rattle.automaton.specs.Symbols.{WithoutSymbols, SameButSymbols, SameSymbols, OneEvent, SameByte, of-event, of-none}
+use Rattle.automaton.specs.Symbols.{WithoutSymbols, SameButSymbols, SameSymbols, OneEvent, SameByte, of-event, of-none, Pairs, no-more, both}
 use Rattle.automaton.proofs.Entering.{shows-one, only-shows}
 use Rattle.automaton.proofs.Spelling.{in-same, same-back}
 
@@ -133,10 +133,18 @@ module _ (h : Header) (byte : ℕ) where
       go (yes x) = yes (subst (λ (n : ℕ). Observable h n) (x .2 .1) (event-observable h (x .0) (x .1) (x .2 .0)))
       go (no none) = no (λ o. let x = observable-event h byte o in none (x .0, x .1, (x .2, x .3)))
 
--- so each byte under the one header has a byte under the other that corresponds to it
-pub same-byte : (t : List ℕ) (h h′ : Header) → SameButSymbols (automatonOf t h) (automatonOf t h′) → Sound t h′ → (x : ℕ) → (y : ℕ) × SameByte t h h′ x y
-same-byte t h h′ s sound x = go (observable? h x)
-  where
-    go : Dec (Observable h x) → (y : ℕ) × SameByte t h h′ x y
-    go (yes o) = let y = other-symbol t h h′ s x o in (y .0, of-event (y .1))
-    go (no never) = (32, of-none never (λ o. let e = observable-event h′ 32 o in omega (arith, e .3, sound .symbols-small (e .0) (e .2))))
+-- so each list of bytes under the one header has a list under the other that corresponds to it
+module _ (t : List ℕ) (h h′ : Header) (s : SameButSymbols (automatonOf t h) (automatonOf t h′)) (sound : Sound t h′) where
+  pub same-byte : (x : ℕ) → (y : ℕ) × SameByte t h h′ x y
+  same-byte x = go (observable? h x)
+    where
+      go : Dec (Observable h x) → (y : ℕ) × SameByte t h h′ x y
+      go (yes o) = let y = other-symbol t h h′ s x o in (y .0, of-event (y .1))
+      go (no never) = (32, of-none never (λ o. let e = observable-event h′ 32 o in omega (arith, e .3, sound .symbols-small (e .0) (e .2))))
+
+  pub same-bytes : (xs : List ℕ) → (ys : List ℕ) × Pairs (SameByte t h h′) xs ys
+  same-bytes [] = ([], no-more)
+  same-bytes (x ∷ xs) =
+      let y = same-byte x in
+      let ys = same-bytes xs in
+      (y .0 ∷ ys .0, both (y .1) (ys .1))

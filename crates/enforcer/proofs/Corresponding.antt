@@ -244,14 +244,14 @@ module _ (t : List ℕ) (h : Header) (symbols : List ℕ) (g : SameSymbols (auto
       Offering.not-observable (sound-to so) li wide (λ o. never (same-observable t h other g byte .1 o))
   offering-to self byte output r after left (Offering.incompatible so li wide ob nobody) =
       Offering.incompatible (sound-to so) li wide (same-observable t h other g byte .0 ob) (λ notion trace x.
-          impossible-agree _ _ _ _ (same-agree _ _ g (trace ++ byte ∷ [])) (nobody notion trace (same-grown _ _ g notion (h .secret) (h .k) trace self .1 x)))
+      impossible-agree _ _ _ _ (same-agree _ _ g (trace ++ byte ∷ [])) (nobody notion trace (same-grown _ _ g notion (h .secret) (h .k) trace self .1 x)))
   offering-to self byte output r after left (Offering.accepted so li wide ob la bal front rest exact) =
       Offering.accepted (sound-to so) li wide (same-observable t h other g byte .0 ob) la bal front rest (λ notion trace x.
-          let y = exact notion trace (same-grown _ _ g notion (h .secret) (h .k) trace self .1 x) in
-          record {
-            possible = possible-agree _ _ _ _ (same-agree _ _ g (trace ++ byte ∷ [])) (y .possible);
-            grown = same-grown _ _ g notion (h .secret) (h .k) (trace ++ byte ∷ []) after .0 (y .grown);
-          })
+      let y = exact notion trace (same-grown _ _ g notion (h .secret) (h .k) trace self .1 x) in
+      record {
+        possible = possible-agree _ _ _ _ (same-agree _ _ g (trace ++ byte ∷ [])) (y .possible);
+        grown = same-grown _ _ g notion (h .secret) (h .k) (trace ++ byte ∷ []) after .0 (y .grown);
+      })
 
 module _ (t : List ℕ) (h h′ : Header) (g : SameSymbols (automatonOf t h) (automatonOf t h′)) (secret : h .secret ≡ h′ .secret) (k : h .k ≡ h′ .k) where
   pub same-starting : (notion : Notion) (r : Begun) (s : Enforcer) → Starting t h notion r s ↔ Starting t h′ notion r s

@@ -9,7 +9,7 @@ use native.Mathlib.Nat.{zero-add}
 use lib.ListN.{length, getD, take, drop, length-append}
 use Rattle.stateset.specs.Set.{bit, In}
 use Rattle.stateset.proofs.Bits.{in?}
-use Rattle.automaton.specs.Run.{Automaton, Transition, Step, Takes, endOf, showIf, shows, shown, Compatible, Possible, Impossible}
+use Rattle.automaton.specs.Run.{Automaton, Transition, Step, Takes, endOf, showIf, shows, shown, Possible, Impossible}
 use Rattle.automaton.specs.Symbols.{
   numbersFrom,
   ownNumbers,

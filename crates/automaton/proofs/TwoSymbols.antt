@@ -6,7 +6,7 @@ use native.Mathlib.Omega.{arith}
 use lib.ListN.{getD, replicate}
 use Rattle.stateset.specs.Set.{bit, In}
 use Rattle.stateset.proofs.Bits.{in-lt}
-use Rattle.automaton.specs.Run.{Automaton, automatonOf, Observable, Possible}
+use Rattle.automaton.specs.Run.{Automaton, automatonOf, Possible}
 use Rattle.automaton.specs.declared.Header.{Header}
 use Rattle.automaton.specs.Symbols.{WithoutSymbols, Distinct, SameButSymbols, Alike, SameSymbols, Events, SameByte, of-event, of-none}
 use Rattle.automaton.proofs.Spelling.{distinct-alike, alike-possible, events-spelled}

@@ -7,10 +7,35 @@ use mathlib.Core.Logic.{_↔_}
 use Prim.Native.Nat.{ℕ, _+_, _-_}
 use native.Mathlib.Omega.{arith}
 use lib.ListN.{length, take, drop}
-use Rattle.automaton.specs.Run.{automatonOf, Observable, Sound}
-use Rattle.automaton.specs.Symbols.{WithoutSymbols, Distinct, SameButSymbols, Alike, SameSymbols, symbolsOf, SameByte, of-event, of-none, Pairs, no-more, both, SameEvents}
+use Rattle.automaton.specs.Run.{automatonOf, Sound}
+use Rattle.automaton.specs.Symbols.{
+  WithoutSymbols,
+  Distinct,
+  SameButSymbols,
+  Alike,
+  SameSymbols,
+  symbolsOf,
+  SameByte,
+  of-event,
+  of-none,
+  Pairs,
+  no-more,
+  both,
+  SameEvents,
+}
 use Rattle.automaton.specs.declared.Header.{Header}
-use Rattle.automaton.proofs.Spelling.{no-events, one-event, join-events, take-events, drop-events, alike-possible, alike-impossible, distinct-alike, spelled-own, same-agree}
+use Rattle.automaton.proofs.Spelling.{
+  no-events,
+  one-event,
+  join-events,
+  take-events,
+  drop-events,
+  alike-possible,
+  alike-impossible,
+  distinct-alike,
+  spelled-own,
+  same-agree,
+}
 use Rattle.automaton.proofs.Agreeing.{possible-agree, impossible-agree}
 use Rattle.automaton.proofs.Headers.{both-observable, same-observable, same-sound, relabelled, same-header}
 use Rattle.verifier.specs.declared.Notion.{Notion}
@@ -30,7 +55,6 @@ use Rattle.enforcer.specs.Offers.{
   takenBy,
   acceptedOf,
   countBy,
-  releasedCount,
   releasedOf,
   TurnedBack,
   output-too-small,

@@ -21,16 +21,16 @@ use Rattle.enforcer.proofs.Unique.{grown-unique}
 use Rattle.enforcer.proofs.Lists.{passes-refused, passes-accepted, One, kept}
 
 module _ (notion : Notion) (t : List ℕ) (h : Header) (sound : Sound t h) where
-  abbrev pub GrownBy : List ℕ → Enforcer → Type 0
+  abbrev GrownBy : List ℕ → Enforcer → Type 0
   GrownBy trace s = Grown notion (automatonOf t h) (h .secret) (h .k) trace s
 
-  abbrev pub Table : List ℕ → Offer → Type 0
+  abbrev Table : List ℕ → Offer → Type 0
   Table trace o = ByTable t h trace o (o .says)
 
-  abbrev pub pendingCount : Enforcer → ℕ
+  abbrev pendingCount : Enforcer → ℕ
   pendingCount s = s .count
 
-  abbrev pub OneOf : List ℕ → Enforcer → Offer → Enforcer → Type 0
+  abbrev OneOf : List ℕ → Enforcer → Offer → Enforcer → Type 0
   OneOf trace s o m = One Enforcer (Offered t h) pendingCount GrownBy Table trace s o m
 
   -- an offer that the table turns back changes nothing

@@ -1,6 +1,6 @@
 -- Verdicts agree where the compatible runs do; so where two automata tell the same observable events apart, they are the same over the events behind the
 -- symbols. Assumes nothing.
-use mathlib.Core.Path.{_≡_, sym, subst}
+use mathlib.Core.Path.{subst}
 use mathlib.Core.List.{List}
 use mathlib.Core.Logic.{_↔_}
 use Prim.Native.Nat.{ℕ, _-_}
@@ -14,7 +14,7 @@ use Rattle.verifier.specs.declared.Estimator.{Estimator}
 use Rattle.verifier.specs.Estimators.{Grown}
 use Rattle.verifier.specs.declared.Notion.{Notion}
 use Rattle.verifier.specs.declared.Notion.the-variants.{Weak, Strong}
-use Rattle.verifier.specs.Verdicts.{Steps, none, leak, Sure, Clear, LeastLeak, Tells, LeakAt, Words}
+use Rattle.verifier.specs.Verdicts.{Steps, none, leak, Sure, Clear, Tells, LeakAt, Words}
 
 module _ (p q : Automaton) (a b : List ℕ) (g : Agree p q a b) (secret : ℕ) where
   pub sure-agree : (notion : Notion) (j : ℕ) → Sure notion p secret a j → Sure notion q secret b j
@@ -45,7 +45,8 @@ module _ (p q : Automaton) (a b : List ℕ) (g : Agree p q a b) (secret : ℕ) w
   leak-agree : (notion : Notion) (K l : ℕ) → LeakAt notion p secret K a l → LeakAt notion q secret K b l
   leak-agree notion K l x = record { within = x .within; reached = omega (arith, x .reached, g .sizes); sure = sure-back notion l (x .sure) }
 
-pub words-agree : (p q : Automaton) (a b : List ℕ) → Agree p q a b → (secret : ℕ) (notion : Notion) (K : ℕ) (v : Steps) → Words notion p secret K a v → Words notion q secret K b v
+pub words-agree : (p q : Automaton) (a b : List ℕ) → Agree p q a b → (secret : ℕ) (notion : Notion) (K : ℕ) (v : Steps)
+    → Words notion p secret K a v → Words notion q secret K b v
 words-agree p q a b g secret notion K none x = λ l y. x l (leak-agree q p b a (agree-back p q a b g) secret notion K l y)
 words-agree p q a b g secret notion K (leak l) x = (
   leak-agree p q a b g secret notion K l (x .0),

@@ -4,7 +4,7 @@ use mathlib.Core.Path.{_≡_, refl, ap, ap₂, sym, _∙_}
 use mathlib.Core.List.{List, [], _∷_, _++_}
 use mathlib.Core.Logic.{inl, inr, _↔_}
 use Prim.Native.Nat.{ℕ}
-use Rattle.automaton.specs.Run.{automatonOf, Observable}
+use Rattle.automaton.specs.Run.{automatonOf}
 use Rattle.automaton.specs.Symbols.{
   WithoutSymbols,
   Distinct,
@@ -85,7 +85,8 @@ module _ (t : List ℕ) (h h′ : Header) (like : Alike (automatonOf t h) (autom
       record { answers = both (y .says) (z .answers); accepted = join-events _ _ _ _ _ _ (y .taken) (z .accepted) }
 
   -- THE THEOREM of S-2 for lists of calls: fresh estimators that were not refused have the same opening verdicts, and what follows corresponds
-  pub alike-calls : (v w v′ w′ : Steps) (s s′ : Estimator) (cs cs′ : List Call) (e e′ : Estimator) → Opening t h (verdicts v w) s → Opening t h′ (verdicts v′ w′) s′
+  pub alike-calls : (v w v′ w′ : Steps) (s s′ : Estimator) (cs cs′ : List Call) (e e′ : Estimator)
+      → Opening t h (verdicts v w) s → Opening t h′ (verdicts v′ w′) s′
       → Pairs (SameCalled t h h′) cs cs′ → Calls t h s cs e → Calls t h′ s′ cs′ e′
       → (verdicts v w ≡ verdicts v′ w′) × Corresponds (automatonOf t h) (automatonOf t h′) cs cs′
   alike-calls v w v′ w′ s s′ cs cs′ e e′ o o′ pairs f f′ =

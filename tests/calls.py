@@ -9,7 +9,10 @@ import copy
 
 from logs import INCOMPATIBLE, INITIAL_LEAK, NOT_OBSERVABLE, Refused, decoded
 from runs import Listing
-from saved import WORDS, automaton_of, grown_enforcer, grown_estimator, header_of, members, safe_of, table_of, verdict_bytes
+from saved import (
+    HEADER_BYTES, SYMBOLS, WORDS, automaton_of, grown_enforcer, grown_estimator, header_of, observable_of, safe_of, symbol_at, table_of,
+    verdict_bytes,
+)
 
 MALFORMED, OUTPUT_TOO_SMALL = 9, 10
 
@@ -27,11 +30,11 @@ def elements(data):
     return text
 
 
-def extended(listing, event):
-    """A listing by one event longer, or None where no run is compatible with it."""
+def extended(listing, symbol):
+    """A listing by one symbol longer, or None where no run is compatible with it."""
     longer = copy.copy(listing)
     longer.trace, longer.entered, longer.compatible = list(listing.trace), list(listing.entered), dict(listing.compatible)
-    return longer if longer.accept(event) else None
+    return longer if longer.accept(symbol) else None
 
 
 class Calls:
@@ -41,8 +44,8 @@ class Calls:
         self.lines, self.printed = [], []
         self.table = ()
         self.slices = {name: b"" for name in ("encoding", "header", "estimator", "verdicts", "enforcer", "output", "released")}
-        self.grown = {}  # table, header and the bytes of a state: the listing of its trace
-        self.openings = {}  # table and header: the listing of the empty trace
+        self.grown = {}  # an automaton and the bytes of a state: the listing of its trace
+        self.openings = {}  # an automaton: the listing of the empty trace
 
     # lines that print nothing, or themselves
 
@@ -88,7 +91,7 @@ class Calls:
 
     def decoding(self):
         """The answer of decode, after which the slices are as it leaves them."""
-        if len(self.slices["header"]) != 14 or len(self.table) != WORDS:
+        if len(self.slices["header"]) != HEADER_BYTES or len(self.table) != WORDS:
             return MALFORMED
         try:
             automaton = decoded(self.slices["encoding"])
@@ -108,17 +111,17 @@ class Calls:
             return MALFORMED
         return self.told(self.opened())
 
-    def accept(self, event):
-        """Accepts an event."""
-        return self.call(f"accept {event}", self.accepting(event), "estimator", "verdicts")
+    def accept(self, byte):
+        """Offers a symbol, or any other byte, to an estimator."""
+        return self.call(f"accept {byte}", self.accepting(byte), "estimator", "verdicts")
 
-    def accepting(self, event):
+    def accepting(self, byte):
         """The answer of accept."""
         if not self.sound(estimator=144, verdicts=2) or not self.estimator_sound(self.slices["estimator"]):
             return MALFORMED
-        if event not in self.observable():
+        if byte not in self.symbols():
             return NOT_OBSERVABLE
-        longer = extended(self.listing("estimator"), event)
+        longer = extended(self.listing("estimator"), byte)
         return INCOMPATIBLE if longer is None else self.told(longer)
 
     def told(self, listing):
@@ -141,20 +144,20 @@ class Calls:
         self.keep("enforcer", grown_enforcer(listing, notion), listing)
         return 0
 
-    def offer(self, event):
-        """Offers an event."""
-        return self.call(f"offer {event}", self.offering(event), "enforcer", "output", "released")
+    def offer(self, byte):
+        """Offers a symbol, or any other byte, to an enforcer."""
+        return self.call(f"offer {byte}", self.offering(byte), "enforcer", "output", "released")
 
-    def offering(self, event):
+    def offering(self, byte):
         """The answer of offer."""
         if not self.sound(enforcer=178, released=1) or not self.enforcer_sound(self.slices["enforcer"]):
             return MALFORMED
         if len(self.slices["output"]) < 17:
             return OUTPUT_TOO_SMALL
-        if event not in self.observable():
+        if byte not in self.symbols():
             return NOT_OBSERVABLE
         before, notion = self.listing("enforcer"), self.slices["enforcer"][144]
-        longer = extended(before, event)
+        longer = extended(before, byte)
         if longer is None:
             return INCOMPATIBLE
         released = longer.trace[before.longest(safe_of(before, notion)) : longer.longest(safe_of(longer, notion))]
@@ -163,47 +166,54 @@ class Calls:
         self.slices["released"] = bytes([len(released)])
         return 0
 
-    def open(self, function, event):
-        """Accepts or offers an event to a state within its limits that did not grow from a fresh one: every slice stays as it is."""
+    def open(self, function, symbol):
+        """Offers a symbol to a state within its limits that did not grow from a fresh one: every slice stays as it is."""
         name = {"accept": "estimator", "offer": "enforcer"}[function]
         assert self.sound(**({"estimator": 144, "verdicts": 2} if function == "accept" else {"enforcer": 178, "released": 1}))
         assert self.estimator_sound(self.slices[name]) if function == "accept" else self.enforcer_sound(self.slices[name])
-        assert event in self.observable() and len(self.slices["output"]) >= 17
-        return self.call(f"open {function} {event}", "open")
+        assert symbol in self.symbols() and len(self.slices["output"]) >= 17
+        return self.call(f"open {function} {symbol}", "open")
 
     # limits, and what is remembered
 
     def sound(self, **sizes):
-        """Whether table, header and the other slices have the sizes and numbers of their layouts."""
+        """Whether table, header and the other slices have the sizes and numbers of their layouts. Of the symbols those of observable events count."""
         header = self.slices["header"]
-        fit = len(self.table) == WORDS and len(header) == 14 and header[0] <= 63 and header[1] <= 15
-        return fit and all(len(self.slices[name]) == size for name, size in sizes.items())
+        fit = len(self.table) == WORDS and len(header) == HEADER_BYTES and header[0] <= 63 and header[1] <= 15
+        return fit and max(self.symbols(), default=0) <= 31 and all(len(self.slices[name]) == size for name, size in sizes.items())
 
     def estimator_sound(self, data):
-        """At most K events, each at most 31."""
-        return data[0] <= self.slices["header"][1] and all(event <= 31 for event in data[1 : 1 + data[0]])
+        """At most K symbols, each at most 31."""
+        return data[0] <= self.slices["header"][1] and all(symbol <= 31 for symbol in data[1 : 1 + data[0]])
 
     def enforcer_sound(self, data):
-        """Its estimator's limits, a notion, and at most K + 1 pending events, each at most 31."""
+        """Its estimator's limits, a notion, and at most K + 1 pending symbols, each at most 31."""
         few = data[145] <= self.slices["header"][1] + 1
-        return self.estimator_sound(data) and data[144] <= 1 and few and all(event <= 31 for event in data[146 : 146 + data[145]])
+        return self.estimator_sound(data) and data[144] <= 1 and few and all(symbol <= 31 for symbol in data[146 : 146 + data[145]])
 
-    def observable(self):
-        """The observable events."""
-        return members(int.from_bytes(self.slices["header"][10:14], "little"))
+    def symbols(self):
+        """The symbols of the observable events."""
+        header = self.slices["header"]
+        return {symbol_at(header, event) for event in observable_of(header)}
+
+    def automaton(self):
+        """The table and the header, which name one automaton whatever symbols the other events have."""
+        header = self.slices["header"]
+        observable = observable_of(header)
+        return self.table, header[:SYMBOLS] + bytes(symbol_at(header, event) if event in observable else 0 for event in range(32))
 
     def opened(self):
         """The listing of the empty trace."""
-        key = self.table, self.slices["header"]
-        if key not in self.openings:
-            self.openings[key] = Listing(automaton_of(*key))
-        return self.openings[key]
+        automaton = self.automaton()
+        if automaton not in self.openings:
+            self.openings[automaton] = Listing(automaton_of(*automaton))
+        return self.openings[automaton]
 
     def keep(self, name, data, listing):
         """Writes a state, and remembers by which trace it grew."""
         self.slices[name] = data
-        self.grown[self.table, self.slices["header"], data] = listing
+        self.grown[self.automaton(), data] = listing
 
     def listing(self, name):
         """The trace by which a state grew."""
-        return self.grown[self.table, self.slices["header"], self.slices[name]]
+        return self.grown[self.automaton(), self.slices[name]]

@@ -1,4 +1,4 @@
-"""The automata P, Q, T and U of 01, with the answers that it gives."""
+"""The automata P, Q, T and U of 01, with the answers that it gives, and automata with symbols (S-2), with answers worked out by hand."""
 
 from runs import Automaton
 
@@ -13,6 +13,16 @@ U = Automaton(1, 1, 0, 0, {1}, {1}, [(0, 1, 1), (1, 1, 0)])
 # each run passes the secret state and leaves it unobserved: leaks under strong, and none under weak
 STRONG_ONLY = Automaton(2, 2, 2, 0, {1}, {1, 2}, [(0, 1, 1), (1, 0, 2), (2, 1, 0), (0, 2, 0), (2, 2, 2)])
 
+# P with the symbols 2 and 0 for its observable events 1 and 2, and one for event 0 that is ignored
+P_SYMBOLS = Automaton(3, 2, 2, 0, {1}, {1, 2}, P.transitions, [31, 2, 0])
+
+# event 0 leads to the secret state 1, event 1 to state 2, and event 2 back: with the events' own numbers, and with one symbol for the first two
+OWN_NUMBERS = Automaton(2, 2, 1, 0, {1}, {0, 1, 2}, [(0, 0, 1), (0, 1, 2), (1, 2, 0), (2, 2, 0)])
+ONE_SYMBOL = Automaton(2, 2, 1, 0, {1}, {0, 1, 2}, OWN_NUMBERS.transitions, [7, 7, 2])
+
+# two events with one symbol, of which the next symbol tells which it was: a leak that starts one step back
+LATER = Automaton(3, 2, 2, 0, {1}, {0, 1, 2}, [(0, 0, 1), (0, 1, 2), (1, 2, 3), (3, 0, 3), (3, 1, 0)], [7, 7, 3])
+
 # states 60 to 63, event 31, K 15 and a cycle of unobservable transitions; every transition of all, all states secret and none
 CORNERS = Automaton(63, 31, 15, 63, {62}, {31}, [(63, 31, 62), (62, 31, 61), (61, 31, 61), (61, 0, 60), (60, 0, 61)])
 EVERY = [(source, event, target) for source in range(64) for event in range(32) for target in range(64)]
@@ -22,7 +32,7 @@ NONE_SECRET = Automaton(63, 31, 15, 63, set(), set(range(32)), EVERY)
 P_ENCODING = bytes.fromhex("0C44000A460002002082200208618430")
 Q_ENCODING = bytes.fromhex("082200044801041004")
 
-# an automaton, the event bytes, and the output
+# an automaton, the bytes that are offered, and the output
 EXAMPLES = (
     (P, (1, 2, 1, 1), "1 1 - - 1\n2 2 1 1 -\n3 1 2 2 -\n4 1 - - 2,1,1\nend 4 4 0\n"),
     (P, (1, 2, 2, 1, 0, 200), "1 1 - - 1\n2 2 1 1 -\n! 2 7\n3 1 2 2 -\n! 0 6\n! 200 6\nend 3 1 2\n"),
@@ -34,14 +44,18 @@ EXAMPLES = (
     (ONE, (0,), "refused 8\n"),
     (ONE, (), "refused 11\n"),
     (P, (), "refused 11\n"),
+    (P_SYMBOLS, (2, 0, 1, 2, 31, 2), "1 2 - - 2\n2 0 1 1 -\n! 1 6\n3 2 2 2 -\n! 31 6\n4 2 - - 0,2,2\nend 4 4 0\n"),
+    (OWN_NUMBERS, (0, 2, 1, 2), "1 0 0 0 -\n2 2 1 1 -\n3 1 - - 0,2,1\n4 2 - - 2\nend 4 4 0\n"),
+    (ONE_SYMBOL, (7, 2, 0, 1, 7, 7, 2), "1 7 - - 7\n2 2 - - 2\n! 0 6\n! 1 6\n3 7 - - 7\n! 7 7\n4 2 - - 2\nend 4 4 0\n"),
+    (LATER, (7, 3, 7, 2, 7), "1 7 - - 7\n2 3 1 1 -\n3 7 2 2 -\n! 2 6\n4 7 - - 3,7,7\nend 4 4 0\n"),
 )
 
-# an encoding with an event behind it, and the refusal
+# an encoding with a symbol behind it, and the refusal
 ENCODINGS = (
     (Q_ENCODING[:-1], 1),
     (Q_ENCODING[:-1] + b"\x05", 5),
     (Q_ENCODING + b"\x00", 5),
-    (Q_ENCODING[:3] + b"\x05" + Q_ENCODING[4:], 2),
+    (Q_ENCODING[:3] + b"\x05" + Q_ENCODING[4:], 3),
 )
 
 # an automaton, and its opening verdicts and whether the empty trace is safe, weak and strong

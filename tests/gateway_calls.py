@@ -3,19 +3,22 @@
 With `--check` nothing is written, and the exit status is 1 where the stored files differ from what would be written.
 """
 
+import copy
 import pathlib
 import random
 import sys
 
 from calls import Calls
-from examples import ALL_SECRET, CORNERS, NONE_SECRET, ONE, P, P0, P1, P_ENCODING, Q, Q_ENCODING, STRONG_ONLY, T, U
+from examples import (
+    ALL_SECRET, CORNERS, LATER, NONE_SECRET, ONE, ONE_SYMBOL, OWN_NUMBERS, P, P0, P1, P_ENCODING, P_SYMBOLS, Q, Q_ENCODING, STRONG_ONLY, T, U,
+)
 from generate import (
-    any_bytes, flipped_bits, further_bytes, many_transitions, out_of_range, padding_bits, random_automaton, random_events, repeated,
-    repeated_and_damaged, reserved_bit, short_encoding, with_repeat, with_transitions,
+    any_bytes, cut_symbols, flipped_bits, further_bytes, many_transitions, out_of_range, padding_bits, random_automaton, random_offers, repeated,
+    repeated_and_damaged, short_encoding, symbol_bit, with_repeat, with_symbols, with_transitions, wrong_count,
 )
 from logs import encoded
 from runs import Automaton, Listing, TooManyRuns
-from saved import WORDS, estimator_bytes, header_of, table_of
+from saved import HEADER_BYTES, SYMBOLS, WORDS, estimator_bytes, header_of, table_of
 from stored import store
 
 RANDOM, DAMAGED, OPEN = 150, 80, 40
@@ -23,11 +26,12 @@ SEED = 5
 FOLDER = pathlib.Path(__file__).resolve().parent.parent / "crates" / "gateway_calls"
 
 # what is lent to be written over: bytes that no function writes, and for an output a different one in each place
-HEADER, ESTIMATOR, VERDICTS, ENFORCER, RELEASED = b"\xee" * 14, b"\xee" * 144, b"\xee" * 2, b"\xee" * 178, b"\xee"
+HEADER, ESTIMATOR, VERDICTS, ENFORCER, RELEASED = b"\xee" * HEADER_BYTES, b"\xee" * 144, b"\xee" * 2, b"\xee" * 178, b"\xee"
 OUTPUT = bytes(range(0xA0, 0xB1))
-# the longest encoding there is: 1,023 different transitions, the last with every bit 1
-LONGEST = Automaton(63, 31, 15, 63, set(range(64)), set(range(32)), many_transitions(random.Random("longest"), 1022) + [(63, 31, 63)])
-SIZES = {"header": 14, "estimator": 144, "verdicts": 2, "enforcer": 178, "released": 1}
+# the longest encoding there is: symbols, and 1,023 different transitions, the last with every bit 1
+MANY = many_transitions(random.Random("longest"), 1022) + [(63, 31, 63)]
+LONGEST = Automaton(63, 31, 15, 63, set(range(64)), set(range(32)), MANY, range(31, -1, -1))
+SIZES = {"header": HEADER_BYTES, "estimator": 144, "verdicts": 2, "enforcer": 178, "released": 1}
 
 
 def changed(data, at, byte):
@@ -55,28 +59,58 @@ def decodings(calls):
     calls.put(header=HEADER)
     q, smallest = Q_ENCODING, bytes((0, 0, 0, 0, 0xC0))
     longest = encoded(LONGEST)
+    assert len(longest) == 2210
     damaged = [changed(q, at, byte) for at, byte in ((8, 0x05), (3, 0x05), (2, 0x18), (5, 0x61), (5, 0x02), (6, 0x0C))]
     damaged += [q[:8], q + b"\0", changed(q, 2, 0x18)[:3], q[:7] + b"\x00\x82", q[:7] + b"\x00\x84"]
     for data in [P_ENCODING[:15], b"", P_ENCODING, q] + damaged:
         calls.put(encoding=data)
         calls.decode()
     calls.say("the smallest and the longest encoding, with a padding bit, cut, and a byte longer")
-    for data in (smallest, changed(smallest, 4, 0xC1), smallest[:4], changed(longest, 2189, 0xFF), longest[:2189], longest, longest + b"\0"):
+    for data in (smallest, changed(smallest, 4, 0xC1), smallest[:4], changed(longest, 2209, 0xFF), longest[:2209], longest, longest + b"\0"):
         calls.put(encoding=data)
         calls.decode()
 
 
+def symbol_decodings(calls):
+    """Encodings with symbols."""
+    calls.say("decode: P with symbols; with one too few; without, but said to follow; cut at every byte from the first symbol on; with a padding bit")
+    calls.put_table([0] * WORDS)
+    whole = encoded(P_SYMBOLS)
+    few = copy.copy(P_SYMBOLS)
+    few.symbols = few.symbols[1:]
+    for data in [whole, encoded(few), encoded(P, listed=1)] + [whole[:size] for size in range(4, len(whole))] + [encoded(P_SYMBOLS, padding=1)]:
+        calls.put(encoding=data, header=HEADER)
+        calls.decode()
+    calls.say("the smallest encoding with symbols: observable, not observable, with a padding bit, cut")
+    for last in (b"\xfe", b"\xbe", b"\xff", b""):
+        calls.put(encoding=bytes((0, 0, 0, 1)) + last, header=HEADER)
+        calls.decode()
+    calls.say("own numbers listed; a stray initial state before symbols that are cut, and stray transitions behind symbols")
+    own = with_symbols(P, range(3))
+    strays = [encoded(with_transitions(own, [], 4))[:4], encoded(with_transitions(own, [(4, 3, 0)])), encoded(with_transitions(own, [(0, 3, 4)]))]
+    for data in [encoded(own)] + strays:
+        calls.put(encoding=data, header=HEADER)
+        calls.decode()
+    calls.say("symbols of 1 to 32 events, of which all, some or none are observable")
+    rng = random.Random("symbols")
+    for top in range(32):
+        observable = (range(top + 1), rng.sample(range(top + 1), (top + 1) // 2), ())[0 if top % 8 == 7 else 2 if top % 16 == 4 else 1]
+        automaton = Automaton(rng.randrange(64), top, 3, 0, (), observable, [(0, top, 0)], [rng.randrange(32) for _ in range(top + 1)])
+        calls.put(encoding=encoded(automaton), header=HEADER)
+        calls.decode()
+
+
 def decoding_sizes(calls):
-    """Tables and headers of other sizes: 9, whatever is wrong with the encoding (cut, reserved bit, state, event, padding bit, repeat)."""
+    """Tables and headers of other sizes: 9, whatever is wrong with the encoding (cut, cut symbols, state, event, padding bit, repeat)."""
     calls.say("decode: tables and headers of other sizes")
     q = Q_ENCODING
-    faults = [P_ENCODING[:15], changed(q, 3, 0x05), changed(q, 2, 0x18), encoded(with_transitions(P, [(0, 3, 0)])), changed(q, 8, 0x05)]
+    faults = [P_ENCODING[:15], encoded(P_SYMBOLS)[:6], changed(q, 2, 0x18), encoded(with_transitions(P, [(0, 3, 0)])), changed(q, 8, 0x05)]
     for data in faults + [encoded(with_repeat(P, 0, 1)), P_ENCODING]:
         calls.put(encoding=data, header=HEADER)
         for size in (2049, 2047, 0, 2048):
             calls.put_table([0] * min(size, 2046) + [5] * (2046 < size) + [0] * (size - 2047))
             calls.decode()
-        for size in (13, 15, 0):
+        for size in (14, 45, 47, 0):
             calls.put_table([0] * 2046 + [5, 0])
             calls.put(header=resized(HEADER, size))
             calls.decode()
@@ -85,9 +119,9 @@ def decoding_sizes(calls):
 def repeats(calls):
     """Transitions that are listed twice."""
     calls.put(header=HEADER)
-    calls.say("decode: one transition 1,023 times; cut behind the second, and inside it")
-    ones = changed(changed(b"\xff" * 2190, 3, 0xFE), 2189, 0xFE)
-    for data in (ones, ones[:21], ones[:20]):
+    calls.say("decode: one transition 1,023 times; cut behind the second, and inside it, with symbols and without")
+    ones = changed(b"\xff" * 2210, 2209, 0xFE)
+    for data in (ones, ones[:41], ones[:40], changed(ones[:21], 3, 0xFE), changed(ones[:20], 3, 0xFE)):
         calls.put(encoding=data)
         calls.decode()
     calls.say("P with each of its transitions a second time, at each place behind the first")
@@ -107,8 +141,8 @@ def repeats(calls):
 
 def random_decodings(calls):
     """Random encodings, whole and damaged."""
-    damages = (reserved_bit, padding_bits, further_bytes, short_encoding, flipped_bits, flipped_bits, out_of_range, any_bytes)
-    damages += (repeated, repeated_and_damaged)
+    damages = (symbol_bit, cut_symbols, wrong_count, padding_bits, further_bytes, short_encoding, flipped_bits, flipped_bits, out_of_range)
+    damages += (any_bytes, repeated, repeated_and_damaged)
     calls.say("decode: random encodings, whole and damaged")
     for i in range(DAMAGED):
         rng = random.Random(f"encoding {SEED} {i}")
@@ -177,6 +211,55 @@ def verifiers(calls):
     observe(calls, (31, 0, 31))
     calls.put(header=header_of(NONE_SECRET))
     observe(calls, (31, 0, 31))
+
+
+def alike():
+    """All 32 events leave state 0: event 30 for state 1, each other one for two further states, and again from one of them. The even events have the
+    symbol 30, the odd ones 1. States 0 and 1 are not secret."""
+    words = [0] * WORDS
+    for event in range(1, 32):
+        words[64 * event] = 3 << 2 * event
+        words[64 * event + 2 * event] = 1 << 63 - event
+    words[0], words[64 * 30] = 1 << 63, 1 << 1
+    return words, bytes((0, 2, 0xFC)) + b"\xff" * 11 + bytes((30, 1) * 16)
+
+
+def symbols(calls):
+    """Automata with symbols, with several K."""
+    others = (31, 32, 255)
+    for name, automaton, offered in (
+        ("P, with symbols", P_SYMBOLS, (1, 2, 34, 0) + others + (0, 2, 2, 0, 2)),
+        ("two events with their own numbers", OWN_NUMBERS, (0, 7, 2, 1, 2)),
+        ("two events with one symbol", ONE_SYMBOL, (0, 7, 1, 39, 7, 2) + others + (7, 2)),
+        ("two events with one symbol, told apart by what follows", LATER, (7, 0, 3, 7, 2, 7, 7)),
+    ):
+        for k in (0, 1, 15):
+            calls.say(f"{name}, K {k}")
+            decode(calls, with_symbols(automaton, automaton.symbols, k))
+            observe(calls, offered)
+            for notion in (0, 1):
+                enforce(calls, notion, offered, b"\xee" * 17)
+    calls.say("the symbol of an observable event is the number of an unobservable one, and the other way around")
+    calls.lend(with_symbols(CORNERS, [31] + [8] * 30 + [0]))
+    observe(calls, (31, 8) + (0,) * 4)
+    enforce(calls, 0, (31, 8) + (0,) * 4)
+    calls.say("every transition and no state secret, one symbol for all events; then one for each, and events that have no transitions")
+    calls.lend(with_symbols(NONE_SECRET, [31] * 32))
+    observe(calls, (0, 31, 30, 31))
+    calls.put(header=header_of(with_symbols(NONE_SECRET, range(31, -1, -1))))
+    observe(calls, (0, 31, 32))
+    calls.put_table([0] * 64 * 5 + [6] + [0] * (WORDS - 64 * 5 - 1))
+    calls.put(header=header_of(Automaton(63, 31, 0, 0, (), {5, 6, 31}, (), [9] * 5 + [0] + [4] * 25 + [30])))
+    observe(calls, (5, 4, 30, 9, 31, 0, 0))
+    calls.say("32 events with two symbols: event 30, and then none, leads to a state that is not secret")
+    words, header = alike()
+    calls.put_table(words)
+    for given in (header, changed(header, 2, 0xFE)):
+        calls.put(header=given)
+        observe(calls, (30, 0, 30, 1))
+        observe(calls, (1, 2, 1))
+        for notion in (0, 1):
+            enforce(calls, notion, (30, 1))
 
 
 def enforcers(calls):
@@ -261,7 +344,7 @@ def wrong_sizes(calls):
     calls.say("slices of other sizes")
     for function, arguments, names in FUNCTIONS:
         for name in ("table",) + names:
-            for off in (-1, 1, None):
+            for off in (-1, 1, None) + (-32,) * (name == "header"):
                 ready(calls, function)
                 if name == "table":
                     words = list(calls.table)
@@ -311,14 +394,66 @@ def outside_limits(calls):
         calls.start(notion)
 
 
+# P with events up to 31 and symbols, in a header by hand: event 31 has no transitions, and event 0 and the others are not observable
+BY_HAND = Automaton(63, 31, 2, 0, {1}, {1, 2, 31}, P.transitions, [0, 2, 0] + [0] * 28 + [31])
+
+
+def header_symbols(calls):
+    """Symbols above 31 in a header: 9 where the event is observable; of the other events they count for nothing."""
+    calls.say("headers: symbols above 31 of observable events")
+    calls.lend(BY_HAND)
+    lend_all(calls)
+    calls.fresh()
+    calls.start(1)
+    calls.accept(2)
+    calls.offer(2)
+    good = calls.slices["header"]
+    for event in (1, 2, 31):
+        for symbol in (32, 255):
+            calls.put(header=changed(good, SYMBOLS + event, symbol))
+            for byte in (2, symbol):
+                calls.accept(byte)
+                calls.offer(byte)
+            calls.fresh()
+            calls.start(0)
+            calls.start(1)
+    calls.say("9 before 10 and 6, and before a notion")
+    calls.put(output=OUTPUT[:16])
+    calls.offer(200)
+    calls.start(2)
+    calls.put(header=good)
+    calls.offer(200)
+    calls.put(output=OUTPUT)
+    calls.say("the trace goes on, also where the symbols of the other events change")
+    everywhere = good[:SYMBOLS] + bytes(good[SYMBOLS + event] if event in BY_HAND.observable else 255 - event for event in range(32))
+    for header, byte in ((good, 0), (changed(good, SYMBOLS, 2), 2), (everywhere, 31), (changed(good, SYMBOLS + 30, 32), 2)):
+        calls.put(header=header)
+        calls.accept(byte)
+        calls.offer(byte)
+    calls.say("headers: symbols of events that are not observable")
+    for event, symbol in ((0, 32), (0, 255), (0, 9), (0, 2), (0, 31), (3, 0)):
+        calls.put(header=changed(good, SYMBOLS + event, symbol))
+        observe(calls, (symbol, 2, symbol, 0))
+        enforce(calls, 0, (symbol, 2, symbol, 0), b"\xee" * 17)
+    calls.put(header=everywhere)
+    observe(calls, (2, 255, 252, 0))
+    enforce(calls, 1, (2, 255, 252, 0), b"\xee" * 17)
+    calls.say("headers: a symbol of 32 at each event, of which every other is observable")
+    every_other = header_of(Automaton(63, 31, 0, 0, (), range(1, 32, 2), ()))
+    calls.put(estimator=ESTIMATOR, verdicts=VERDICTS)
+    for event in range(32):
+        calls.put(header=changed(every_other, SYMBOLS + event, 32))
+        calls.fresh()
+
+
 def damaged_states(calls):
     """Saved states that no call wrote: outside their limits, or odd only in places that are not used."""
     calls.say("estimators outside their limits, and odd ones within them")
     calls.lend(P)
     calls.put(estimator=ESTIMATOR, verdicts=VERDICTS)
     calls.accept(200)
-    for count, event, entry in ((3, 1, 1), (255, 1, 1), (1, 32, 1), (2, 255, 1), (2, 31, 1), (0, 32, 1)):
-        calls.put(estimator=bytes([count] + [event] * 15) + bytes((entry, 0, 0, 0, 0, 0, 0, 0)) * 16)
+    for count, symbol, entry in ((3, 1, 1), (255, 1, 1), (1, 32, 1), (2, 255, 1), (2, 31, 1), (0, 32, 1)):
+        calls.put(estimator=bytes([count] + [symbol] * 15) + bytes((entry, 0, 0, 0, 0, 0, 0, 0)) * 16)
         calls.accept(200)
         if not calls.estimator_sound(calls.slices["estimator"]):
             calls.accept(1)
@@ -355,21 +490,20 @@ def open_states(calls):
     calls.say("states within their limits that did not grow from a fresh one: every answer that is allowed is `open`")
     calls.lend(P)
     lend_all(calls)
-    for count, event, entry in ((2, 31, 0), (0, 255, 255), (2, 0, 255), (1, 1, 255)):
-        calls.put(estimator=bytes([count] + [event] * 15) + bytes([entry]) * 128)
+    for count, symbol, entry in ((2, 31, 0), (0, 255, 255), (2, 0, 255), (1, 1, 255)):
+        calls.put(estimator=bytes([count] + [symbol] * 15) + bytes([entry]) * 128)
         for byte in (1, 2):
             calls.open("accept", byte)
-    one = bytes((0, 1)) + bytes(8) + bytes((2, 0, 0, 0))  # K 1, no state secret, event 1 observable: one state that takes event 1
-    calls.put_table([0] * 64 + [1] + [0] * 1983)
-    calls.put(header=one, output=OUTPUT, released=RELEASED)
+    calls.put_table([0] * 64 + [1] + [0] * 1983)  # one state that takes event 1
+    calls.put(header=header_of(Automaton(63, 31, 1, 0, (), {1}, ())), output=OUTPUT, released=RELEASED)
     calls.start(0)
     begun = calls.slices["enforcer"][:144]
     for notion in (0, 1):
-        for count, event in ((3, 31), (2, 32)):
-            calls.put(enforcer=begun + bytes([notion, count] + [event] * 16 + [200] * 16))
+        for count, symbol in ((3, 31), (2, 32)):
+            calls.put(enforcer=begun + bytes([notion, count] + [symbol] * 16 + [200] * 16))
             calls.offer(1)
-        for count, event in ((0, 31), (1, 31), (2, 31), (0, 32)):
-            calls.put(enforcer=begun + bytes([notion, count] + [event] * 16 + [200] * 16))
+        for count, symbol in ((0, 31), (1, 31), (2, 31), (0, 32)):
+            calls.put(enforcer=begun + bytes([notion, count] + [symbol] * 16 + [200] * 16))
             calls.offer(200)
             calls.open("offer", 1)
 
@@ -392,11 +526,11 @@ def random_open(calls):
         lend_all(calls)
         for _ in range(2):
             calls.put(estimator=random_state(rng, automaton.k))
-            calls.open("accept", rng.choice(sorted(automaton.observable)))
+            calls.open("accept", rng.choice(sorted(automaton.symbol_of.values())))
             rest = [rng.randrange(2), rng.randrange(automaton.k + 2)] + [rng.randrange(32) for _ in range(16)]
             waits = [rng.choice((0, 1, 2, 17, rng.randrange(256))) for _ in range(16)]
             calls.put(enforcer=random_state(rng, automaton.k) + bytes(rest + waits), output=resized(OUTPUT, rng.randrange(17, 20)))
-            calls.open("offer", rng.choice(sorted(automaton.observable)))
+            calls.open("offer", rng.choice(sorted(automaton.symbol_of.values())))
 
 
 # random automata
@@ -407,27 +541,27 @@ def random_case(i):
     rng = random.Random(f"chains {SEED} {i}")
     while True:
         automaton = random_automaton(rng)
-        events = random_events(rng, automaton, rng.choice((2, 4, 6, 8, 12)))[:12]
+        offered = random_offers(rng, automaton, rng.choice((2, 4, 6, 8, 12)))[:12]
         listing, differ = Listing(automaton), 0
         try:
-            for event in events:
-                if event in automaton.observable and listing.accept(event):
+            for byte in offered:
+                if byte in automaton.symbol_of.values() and listing.accept(byte):
                     differ += listing.weak() != listing.strong()
         except TooManyRuns:
             continue
         if i % 2 == 0 or differ:
-            return automaton, events
+            return automaton, offered
 
 
 def random_chains(calls):
     """Random automata, each with an estimator and an enforcer under either notion."""
     for i in range(RANDOM):
-        automaton, events = random_case(i)
+        automaton, offered = random_case(i)
         calls.say(f"random automaton {i}")
         decode(calls, automaton)
-        observe(calls, events)
+        observe(calls, offered)
         for notion in (0, 1):
-            enforce(calls, notion, events, b"\xee" * 17)
+            enforce(calls, notion, offered, b"\xee" * 17)
 
 
 def misread(calls):
@@ -454,17 +588,17 @@ def misread(calls):
         "header",
         "header x",
         "header 4097",
-        "header 14 0",
-        "header 14 0:",
-        "header 14 0:g",
-        "header 14 0:100",
-        "header 14 0:1*",
-        "header 14 0:1*4097",
-        "header 14 4096:1",
-        "header 14 0:1,",
-        "header 14 0:1 ",
-        "header 14  0:1",
-        "header 14 0:100 0:1",
+        "header 46 0",
+        "header 46 0:",
+        "header 46 0:g",
+        "header 46 0:100",
+        "header 46 0:1*",
+        "header 46 0:1*4097",
+        "header 46 4096:1",
+        "header 46 0:1,",
+        "header 46 0:1 ",
+        "header 46  0:1",
+        "header 46 0:100 0:1",
         "table 2048 0:11111111111111111",
     ):
         calls.misread(line)
@@ -477,13 +611,16 @@ def stored():
     calls = Calls()
     for part in (
         decodings,
+        symbol_decodings,
         decoding_sizes,
         repeats,
         verifiers,
         enforcers,
+        symbols,
         refused_everywhere,
         wrong_sizes,
         outside_limits,
+        header_symbols,
         damaged_states,
         open_states,
         misread,

@@ -1,11 +1,30 @@
 """Random small automata and logs, valid and damaged. All of it depends on the random numbers that are passed in, and on nothing else."""
 
+import copy
+
 from logs import encoded, output
 from runs import Automaton, TooManyRuns
 
 
-def random_transitions(rng, states, used, events, unobservable):
-    """Different transitions into the first `used` states: some from each state, and more of the kinds that matter."""
+def random_symbols(rng, top_event, observable):
+    """A symbol for each event, or none listed: own numbers, numbers of other events, any, or some that events share. Those of unobservable events say
+    anything."""
+    events = range(top_event + 1)
+    few = rng.sample(range(32), 2)
+    kinds = (list(events), rng.sample(events, len(events)), rng.sample(range(32), len(events)))
+    shared = rng.choice(([rng.choice(events) for _ in events], [rng.choice(few) for _ in events], [few[0]] * len(events)))
+    if 1 < len(observable):
+        one, other = rng.sample(sorted(observable), 2)
+        shared[one] = shared[other]
+    chosen = rng.choice((None, rng.choice(kinds), shared, shared))
+    if chosen is None:
+        return None
+    return [chosen[e] if e in observable else rng.choice((rng.choice(chosen), rng.randrange(32))) for e in events]
+
+
+def random_transitions(rng, states, used, events, unobservable, alike):
+    """Different transitions into the first `used` states: some from each state, and more of the kinds that matter. `alike` are observable events with
+    one symbol."""
     transitions = []
     for source in range(states):
         for _ in range(rng.choice((0, 1, 1, 2, 2, 3))):
@@ -16,6 +35,9 @@ def random_transitions(rng, states, used, events, unobservable):
     if rng.random() < 0.3:  # one event that may lead anywhere
         source, event = rng.randrange(used), rng.randrange(events)
         transitions += [(source, event, target) for target in range(used)]
+    if 1 < len(alike) and rng.random() < 0.7:  # a state that each of them leaves
+        source = rng.randrange(used)
+        transitions += [(source, event, rng.randrange(used)) for event in alike]
     transitions = list(dict.fromkeys(transitions))
     rng.shuffle(transitions)
     return transitions
@@ -28,123 +50,163 @@ def many_transitions(rng, count):
 
 def random_automaton(rng):
     """An automaton with one to four states, not all of which need be reached, and one to four events."""
-    states, events = rng.choice((1, 2, 2, 3, 3, 3, 4, 4, 4)), rng.choice((1, 2, 2, 3, 3, 4))
+    states, events = rng.choice((1, 2, 2, 3, 3, 3, 4, 4, 4)), rng.choice((1, 2, 2, 3, 3, 4, 4))
     used = rng.choice((states, states, states, max(1, states - 1)))
-    often = rng.choice((0.3, 0.6, 0.9))
+    often = rng.choice((0.4, 0.7, 0.9))
     observable = {e for e in range(events) if rng.random() < often} or {0}
     if rng.random() < 0.03:
         observable = set()
-    transitions = random_transitions(rng, states, used, events, [e for e in range(events) if e not in observable])
+    symbols = random_symbols(rng, events - 1, observable)
+    one = rng.choice([symbols[e] for e in sorted(observable)]) if symbols and observable else None
+    alike = [e for e in sorted(observable) if symbols and symbols[e] == one]
+    transitions = random_transitions(rng, states, used, events, [e for e in range(events) if e not in observable], alike)
     dense = rng.choice((0.2, 0.4, 0.6, 0.8))
     secret = {q for q in range(states) if rng.random() < dense}
     initial = rng.randrange(used)
     if rng.random() < 0.85:
         secret.discard(initial)
     k = rng.choice((0, 0, 1, 1, 2, 2, 3, 4, 5, rng.randrange(16), 15))
-    automaton = Automaton(states - 1, events - 1, k, initial, secret, observable, transitions)
+    automaton = Automaton(states - 1, events - 1, k, initial, secret, observable, transitions, symbols)
     return relabelled(rng, automaton) if rng.random() < 0.25 else automaton
 
 
 def relabelled(rng, automaton):
-    """The same with state numbers up to 63 and event numbers up to 31, and states and events beside them that nothing uses."""
+    """The same with state numbers up to 63 and event numbers up to 31, and states and events beside them that no transition uses."""
     state = rng.sample(range(64), automaton.top_state + 1)
     event = rng.sample(range(32), automaton.top_event + 1)
     top_state, top_event = rng.choice((63, max(state))), rng.choice((31, max(event)))
     unused = [q for q in range(top_state + 1) if q not in state]
+    unnamed = [e for e in range(top_event + 1) if e not in event]
+    symbols = None
+    if automaton.symbols:
+        symbol = rng.choice((range(32), event + [n for n in range(32) if n not in event]))
+        listed = {event[e]: symbol[automaton.symbols[e]] for e in range(automaton.top_event + 1)}
+        symbols = [listed[e] if e in listed else rng.randrange(32) for e in range(top_event + 1)]
     return Automaton(
         top_state,
         top_event,
         automaton.k,
         state[automaton.initial],
         {state[q] for q in automaton.secret} | set(rng.sample(unused, rng.randrange(len(unused) + 1))),
-        {event[e] for e in automaton.observable},
+        {event[e] for e in automaton.observable} | set(rng.sample(unnamed, min(len(unnamed), rng.choice((0, 0, 1, 3))))),
         [(state[source], event[e], state[target]) for source, e, target in automaton.transitions],
+        symbols,
     )
 
 
 def random_trace(rng, automaton, count):
-    """The observable events of a random run, at most `count`."""
+    """The symbols of the observable events of a random run, at most `count`."""
     trace, at = [], automaton.initial
     for _ in range(4 * count):
         if len(trace) == count or at not in automaton.leaving:
             break
         event, at = rng.choice(automaton.leaving[at])
         if event in automaton.observable:
-            trace.append(event)
+            trace.append(automaton.symbol_of[event])
     return trace
 
 
-def random_events(rng, automaton, count):
-    """A random trace, with other bytes among its events: any event, also one that is not observable or cannot follow, and any byte."""
-    events = bytearray()
-    for event in random_trace(rng, automaton, count) + [None]:
+def random_byte(rng, automaton):
+    """The number of an event, or the symbol of one, observable or not; or that number with higher bits, or any byte."""
+    numbers = rng.choice((range(automaton.top_event + 1), automaton.symbols or [0]))
+    return rng.choice((rng.choice(numbers), rng.choice(numbers), rng.choice(numbers) + 32 * rng.randrange(8), rng.randrange(256)))
+
+
+def random_offers(rng, automaton, count):
+    """A random trace, with other bytes among its symbols, which need be no symbols, or cannot follow."""
+    offered = bytearray()
+    for symbol in random_trace(rng, automaton, count) + [None]:
         while rng.random() < 0.12:
-            events.append(rng.randrange(256 if rng.random() < 0.3 else automaton.top_event + 1))
-        if event is not None:
-            events.append(event)
-    if not events and rng.random() < 0.9:
-        events.append(rng.randrange(automaton.top_event + 1))
-    return bytes(events)
+            offered.append(random_byte(rng, automaton))
+        if symbol is not None:
+            offered.append(symbol)
+    if not offered and rng.random() < 0.9:
+        offered.append(random_byte(rng, automaton))
+    return bytes(offered)
 
 
-def with_length(encoding, events, off=0):
+def with_length(encoding, offered, off=0):
     """A log, whose length says `off` more than the encoding (01: description) has."""
     length = max(0, min(65535, len(encoding) + off))
-    return bytes((length // 256, length % 256)) + encoding + events
+    return bytes((length // 256, length % 256)) + encoding + offered
 
 
-def cut(rng, automaton, events):
+def cut(rng, automaton, offered):
     """The log ends anywhere."""
-    log = with_length(encoded(automaton), events)
+    log = with_length(encoded(automaton), offered)
     return log[: rng.randrange(len(log) + 1)]
 
 
-def no_events(rng, automaton, events):
-    """No event follows."""
+def nothing_offered(rng, automaton, offered):
+    """No byte follows."""
     return with_length(encoded(automaton), b"")
 
 
-def reserved_bit(rng, automaton, events):
-    """The reserved bit is 1."""
-    return with_length(encoded(automaton, reserved=1), events)
+def symbol_bit(rng, automaton, offered):
+    """The bit that says whether symbols follow says the opposite."""
+    return with_length(encoded(automaton, listed=int(automaton.symbols is None)), offered)
 
 
-def padding_bits(rng, automaton, events):
+def cut_symbols(rng, automaton, offered):
+    """The encoding ends right before its symbols or inside them, where it has any, and its length says so."""
+    if not automaton.symbols:
+        return with_length(encoded(automaton), offered)
+    start = 32 + automaton.top_state + 1 + automaton.top_event + 1
+    size = rng.randrange(start // 8, (start + 5 * len(automaton.symbols) - 1) // 8 + 1)
+    return with_length(encoded(automaton)[:size], offered)
+
+
+def wrong_count(rng, automaton, offered):
+    """There is a symbol too few or too many, where there are any."""
+    other = copy.copy(automaton)
+    if other.symbols:
+        other.symbols = rng.choice((other.symbols[1:], other.symbols + [rng.randrange(32)]))
+    return with_length(encoded(other), offered)
+
+
+def padding_bits(rng, automaton, offered):
     """Padding bits are 1, where there are any."""
-    return with_length(encoded(automaton, padding=rng.randrange(1, 128)), events)
+    return with_length(encoded(automaton, padding=rng.randrange(1, 128)), offered)
 
 
-def further_bytes(rng, automaton, events):
+def further_bytes(rng, automaton, offered):
     """The encoding has bytes after its end."""
-    return with_length(encoded(automaton) + bytes(rng.randrange(2) for _ in range(rng.randrange(1, 4))), events)
+    return with_length(encoded(automaton) + bytes(rng.randrange(2) for _ in range(rng.randrange(1, 4))), offered)
 
 
-def wrong_length(rng, automaton, events):
+def wrong_length(rng, automaton, offered):
     """The length says more or less than the encoding has."""
-    return with_length(encoded(automaton), events, rng.choice((-2, -1, 1, 2, rng.randrange(-20, 200), 65535)))
+    return with_length(encoded(automaton), offered, rng.choice((-2, -1, 1, 2, rng.randrange(-20, 200), 65535)))
 
 
-def short_encoding(rng, automaton, events):
+def short_encoding(rng, automaton, offered):
     """The encoding ends early, and its length says so."""
     encoding = encoded(automaton)
-    return with_length(encoding[: rng.randrange(len(encoding))], events)
+    return with_length(encoding[: rng.randrange(len(encoding))], offered)
 
 
-def flipped_bits(rng, automaton, events):
+def flipped_bits(rng, automaton, offered):
     """Some bits of the encoding are turned over."""
     encoding = bytearray(encoded(automaton))
     for _ in range(rng.randrange(1, 4)):
         encoding[rng.randrange(len(encoding))] ^= 1 << rng.randrange(8)
-    return with_length(bytes(encoding), events)
+    return with_length(bytes(encoding), offered)
 
 
 def with_transitions(automaton, transitions, initial=None):
     """The automaton with other transitions, which need not be different, and perhaps another initial state."""
     first = automaton.initial if initial is None else initial
-    return Automaton(automaton.top_state, automaton.top_event, automaton.k, first, automaton.secret, automaton.observable, transitions)
+    tops = automaton.top_state, automaton.top_event
+    return Automaton(*tops, automaton.k, first, automaton.secret, automaton.observable, transitions, automaton.symbols)
 
 
-def out_of_range(rng, automaton, events):
+def with_symbols(automaton, symbols, k=None):
+    """The automaton with other symbols, or with none listed, and perhaps another K."""
+    tops, back = (automaton.top_state, automaton.top_event), automaton.k if k is None else k
+    return Automaton(*tops, back, automaton.initial, automaton.secret, automaton.observable, automaton.transitions, symbols)
+
+
+def out_of_range(rng, automaton, offered):
     """A state or an event is above the top one, where its field has room for such a number."""
     initial, transitions = automaton.initial, [list(t) for t in automaton.transitions]
     place = rng.randrange(4)
@@ -154,7 +216,7 @@ def out_of_range(rng, automaton, events):
         initial = number
     elif transitions:
         rng.choice(transitions)[place - 1] = number
-    return with_length(encoded(with_transitions(automaton, [tuple(t) for t in transitions], initial)), events)
+    return with_length(encoded(with_transitions(automaton, [tuple(t) for t in transitions], initial)), offered)
 
 
 def with_repeat(automaton, first, distance):
@@ -173,26 +235,28 @@ def random_repeat(rng, automaton):
     return with_repeat(automaton, first, rng.randrange(1, count - first + 1))
 
 
-def repeated(rng, automaton, events):
+def repeated(rng, automaton, offered):
     """A transition is listed twice, where there are any."""
-    return with_length(encoded(random_repeat(rng, automaton)), events)
+    return with_length(encoded(random_repeat(rng, automaton)), offered)
 
 
-def repeated_and_damaged(rng, automaton, events):
+def repeated_and_damaged(rng, automaton, offered):
     """A transition is listed twice, and the encoding is damaged anywhere, before the second or behind it."""
-    damage = rng.choice((padding_bits, further_bytes, short_encoding, flipped_bits, out_of_range, repeated))
-    return damage(rng, random_repeat(rng, automaton), events)
+    damage = rng.choice((padding_bits, further_bytes, short_encoding, flipped_bits, out_of_range, repeated, symbol_bit))
+    return damage(rng, random_repeat(rng, automaton), offered)
 
 
-def any_bytes(rng, automaton, events):
+def any_bytes(rng, automaton, offered):
     """No log at all."""
     return bytes(rng.randrange(256) for _ in range(rng.randrange(40)))
 
 
 DAMAGES = (
     cut,
-    no_events,
-    reserved_bit,
+    nothing_offered,
+    symbol_bit,
+    cut_symbols,
+    wrong_count,
     padding_bits,
     further_bytes,
     wrong_length,
@@ -209,15 +273,15 @@ DAMAGES = (
 def random_log(rng):
     """The bytes of a log, and what the log program prints for them."""
     automaton = random_automaton(rng)
-    events = random_events(rng, automaton, rng.choice((1, 2, 3, 4, 5, 6, 6, 8, 12, 24, 40)))
-    log = with_length(encoded(automaton), events)
+    offered = random_offers(rng, automaton, rng.choice((1, 2, 3, 4, 5, 6, 6, 8, 12, 24, 40)))
+    log = with_length(encoded(automaton), offered)
     if rng.random() < 0.25:
-        log = rng.choice(DAMAGES)(rng, automaton, events)
+        log = rng.choice(DAMAGES)(rng, automaton, offered)
     return cut_to_size(log)
 
 
 def cut_to_size(log):
-    """The log, cut to so few events that its runs can be listed, and what the log program prints for it."""
+    """The log, cut to so few symbols that its runs can be listed, and what the log program prints for it."""
     while True:
         try:
             return log, output(log)

@@ -2,7 +2,8 @@
 
 from runs import Automaton, Listing
 
-TRUNCATED, RESERVED, STATE, EVENT, TRAILING, NOT_OBSERVABLE, INCOMPATIBLE, INITIAL_LEAK = range(1, 9)
+TRUNCATED = 1
+STATE, EVENT, TRAILING, NOT_OBSERVABLE, INCOMPATIBLE, INITIAL_LEAK = range(3, 9)
 EMPTY_LOG, REPEATED = 11, 12
 
 
@@ -10,8 +11,9 @@ class Refused(Exception):
     """Carries the number of a refusal."""
 
 
-def encoded(automaton, reserved=0, padding=0):
-    """The encoding of an automaton, whose numbers are not checked: they need only fit their fields."""
+def encoded(automaton, listed=None, padding=0):
+    """The encoding of an automaton, whose numbers are not checked: they need only fit their fields. Its bit that says whether symbols follow may be
+    another than its symbols need."""
     bits = ""
     for value, width in (
         (automaton.top_state, 6),
@@ -19,11 +21,12 @@ def encoded(automaton, reserved=0, padding=0):
         (automaton.k, 4),
         (automaton.initial, 6),
         (len(automaton.transitions), 10),
-        (reserved, 1),
+        (int(automaton.symbols is not None) if listed is None else listed, 1),
     ):
         bits += format(value, f"0{width}b")
     bits += "".join(str(int(q in automaton.secret)) for q in range(automaton.top_state + 1))
     bits += "".join(str(int(e in automaton.observable)) for e in range(automaton.top_event + 1))
+    bits += "".join(format(symbol, "05b") for symbol in automaton.symbols or ())
     for source, event, target in automaton.transitions:
         bits += format(source, "06b") + format(event, "05b") + format(target, "06b")
     free = -len(bits) % 8
@@ -70,8 +73,9 @@ def decoded(data):
     initial = fields.field(6)
     demand(initial <= top_state, STATE)
     count = fields.field(10)
-    demand(fields.field(1) == 0, RESERVED)
+    listed = fields.field(1)
     secret, observable = fields.flags(top_state + 1), fields.flags(top_event + 1)
+    symbols = [fields.field(5) for _ in range(top_event + 1)] if listed else None
     transitions = []
     for _ in range(count):
         source = fields.field(6)
@@ -83,20 +87,20 @@ def decoded(data):
         demand((source, event, target) not in transitions, REPEATED)
         transitions.append((source, event, target))
     fields.end()
-    return Automaton(top_state, top_event, k, initial, secret, observable, transitions)
+    return Automaton(top_state, top_event, k, initial, secret, observable, transitions, symbols)
 
 
 def opened(log):
-    """The listing with which a log starts, and its event bytes; the refusals of a log in their order."""
+    """The listing with which a log starts, and the bytes that it offers; the refusals of a log in their order."""
     demand(2 <= len(log), TRUNCATED)
     length = 256 * log[0] + log[1]
     demand(2 + length <= len(log), TRUNCATED)
     automaton = decoded(log[2 : 2 + length])
-    events = log[2 + length :]
-    demand(events, EMPTY_LOG)
+    offered = log[2 + length :]
+    demand(offered, EMPTY_LOG)
     listing = Listing(automaton)
     demand(listing.weak() is None, INITIAL_LEAK)
-    return listing, events
+    return listing, offered
 
 
 def steps(verdict):
@@ -104,14 +108,14 @@ def steps(verdict):
     return "-" if verdict is None else str(verdict)
 
 
-def event_line(listing, released, byte):
-    """The line of an event byte, and how many events are released after it."""
-    if byte not in listing.automaton.observable:
+def offer_line(listing, released, byte):
+    """The line of an offered byte, and how many symbols are released after it."""
+    if byte not in listing.automaton.symbol_of.values():
         return f"! {byte} {NOT_OBSERVABLE}", released
     if not listing.accept(byte):
         return f"! {byte} {INCOMPATIBLE}", released
     longest = listing.longest(listing.weak_safe)
-    assert released <= longest, "a released event is no longer safe"
+    assert released <= longest, "a released symbol is no longer safe"
     going = ",".join(map(str, listing.trace[released:longest])) or "-"
     return f"{len(listing.trace)} {byte} {steps(listing.weak())} {steps(listing.strong())} {going}", longest
 
@@ -119,12 +123,12 @@ def event_line(listing, released, byte):
 def output(log):
     """What the log program prints for the bytes of a log."""
     try:
-        listing, events = opened(log)
+        listing, offered = opened(log)
     except Refused as refused:
         return f"refused {refused.args[0]}\n"
     lines, released = [], 0
-    for byte in events:
-        line, released = event_line(listing, released, byte)
+    for byte in offered:
+        line, released = offer_line(listing, released, byte)
         lines.append(line)
     accepted = len(listing.trace)
     lines.append(f"end {accepted} {released} {accepted - released}")

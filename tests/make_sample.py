@@ -8,47 +8,75 @@ import pathlib
 import random
 import sys
 
-from examples import ENCODINGS, EXAMPLES, P_ENCODING
-from generate import many_transitions, random_log, with_length, with_repeat, with_transitions
+from examples import ENCODINGS, EXAMPLES, ONE_SYMBOL, P_ENCODING, P_SYMBOLS
+from generate import many_transitions, random_log, with_length, with_repeat, with_symbols, with_transitions
 from logs import encoded, output
 from runs import Automaton
 from stored import store
 
 RANDOM = 220
-SEED = 4
+SEED = 6
 FOLDER = pathlib.Path(__file__).resolve().parent.parent / "crates" / "log_sample"
 
 
 def longest_release():
-    """With K 15 the first event waits for 16 more, and 17 events go at once, each with two digits: the longest line."""
-    automaton = Automaton(2, 31, 15, 0, {1}, {31}, [(0, 31, 1), (1, 31, 2), (2, 31, 2)])
-    return with_length(encoded(automaton), bytes([31] * 18))
+    """With K 15 the first symbol waits for 16 more, and 17 go at once, each with two digits: the longest line. The event is 31, and then 0."""
+    for event, listed in ((31, None), (0, [31])):
+        automaton = Automaton(2, event, 15, 0, {1}, {event}, [(0, event, 1), (1, event, 2), (2, event, 2)], listed)
+        yield with_length(encoded(automaton), bytes([31] * 18))
 
 
 def largest():
-    """The longest encoding there is: 1,023 different transitions."""
-    automaton = Automaton(63, 31, 1, 5, set(range(0, 60)), set(range(3, 32)), many_transitions(random.Random("largest"), 1023))
-    assert len(encoded(automaton)) == 2190
-    return with_length(encoded(automaton), bytes(range(32)) + bytes((32, 255)))
+    """The longest encoding there is, with symbols and 1,023 different transitions: as it is, a byte shorter, a byte longer; then without symbols."""
+    rng = random.Random("largest")
+    listed = [rng.randrange(32) for _ in range(32)]
+    automaton = Automaton(63, 31, 1, 5, set(range(0, 60)), set(range(3, 32)), many_transitions(rng, 1023), listed)
+    longest, offered = encoded(automaton), bytes(range(32)) + bytes((32, 255))
+    assert len(longest) == 2210
+    yield with_length(longest, offered)
+    yield with_length(longest[:-1], offered)
+    yield with_length(longest + b"\x00", offered)
+    yield with_length(encoded(with_symbols(automaton, None)), offered)
 
 
-def too_long():
-    """One byte more than the longest encoding has."""
-    log = largest()
-    return with_length(log[2 : 2 + 2190] + b"\x00", b"\x01")
+def symbols():
+    """Encodings with symbols that are cut at every byte and that have padding bits; offered bytes that are no symbols, or are so only in their low
+    bits; the symbols of all 32 events turned around, with and without events that have no transitions; and one symbol or two for all, where all of
+    them but one lead to a secret state."""
+    for automaton in (P_SYMBOLS, Automaton(4, 6, 2, 0, {1}, {0, 3, 6}, [(0, 3, 1), (0, 6, 2)], [31, 21, 10, 31, 0, 1, 31])):
+        encoding = encoded(automaton)
+        for size in range(len(encoding)):
+            yield with_length(encoding[:size], b"\x02")
+        yield with_length(encoded(automaton, padding=1), b"\x02")
+        yield with_length(encoded(automaton, listed=0), b"\x02")
+        yield with_length(encoding + b"\x00", b"\x02")
+    yield with_length(encoded(ONE_SYMBOL), bytes((7, 39, 71, 135, 231, 255, 2, 34, 66, 130, 7, 31, 32, 2)))
+    ring = [(event, event, (event + 1) % 32) for event in range(32)]
+    around = Automaton(31, 31, 15, 0, {7, 20}, set(range(32)), ring, range(31, -1, -1))
+    yield with_length(encoded(around), bytes(range(31, -1, -1)) + bytes((0, 31, 32, 255)))
+    yield with_length(encoded(with_transitions(around, ring[::2])), bytes((31, 30, 1, 0)))
+    half = Automaton(31, 31, 15, 0, {8, 20}, set(range(0, 32, 2)), ring, [(event * 7 + 3) % 32 for event in range(32)])
+    yield with_length(encoded(half), bytes((event * 7 + 3) % 32 for event in range(32)) + bytes((3, 0, 32)))
+    anywhere = [(0, event, event + 1) for event in range(32)] + [(event + 1, 31 - event, 33 + event % 2) for event in range(0, 32, 3)]
+    for k, other in ((0, 0), (1, 15), (15, 16), (15, 31)):
+        one = Automaton(34, 31, k, 0, set(range(1, 33)) - {other + 1}, set(range(32)), anywhere, [5] * 32)
+        yield with_length(encoded(one), bytes((5, 0, 31, 5, 5)))
+        two = with_symbols(one, [5] * 16 + [21] * 16)
+        yield with_length(encoded(two), bytes((21, 5, 5)))
+        yield with_length(encoded(two), bytes((5, 16, 21, 21)))
 
 
 def repeats():
-    """A transition that is listed twice, at every distance of 24 transitions: as it is, cut behind the second, cut inside it, with a padding bit and a
-    further byte; then with a transition out of range, before the second or behind it."""
+    """A transition that is listed twice, at every distance of 24 transitions, every other time with symbols: as it is, cut behind the second, cut
+    inside it, with a padding bit and a further byte; then with a transition out of range, before the second or behind it."""
     rng = random.Random("repeats")
     automaton = Automaton(63, 31, 2, 0, {1}, set(range(1, 32)), many_transitions(rng, 24))
     for distance in range(1, 25):
         first = rng.randrange(25 - distance)
-        again = with_repeat(automaton, first, distance)
+        again = with_repeat(with_symbols(automaton, range(32) if distance % 2 else None), first, distance)
         yield with_length(encoded(again), b"\x01")
         second = first + distance
-        behind = 32 + 64 + 32 + 17 * (second + 1)  # the bit behind the second
+        behind = 32 + 64 + 32 + 160 * (distance % 2) + 17 * (second + 1)  # the bit behind the second
         yield with_length(encoded(again)[: -(-behind // 8)], b"\x01")
         yield with_length(encoded(again)[: behind // 8], b"\x01")
         yield with_length(encoded(again, padding=1) + b"\x00", b"\x01")
@@ -63,7 +91,7 @@ def repeats():
 
 def far_repeats():
     """The longest encoding, whose last transition is an earlier one, at near and far distances."""
-    automaton = Automaton(63, 31, 1, 5, set(), set(range(32)), many_transitions(random.Random("far"), 1023))
+    automaton = Automaton(63, 31, 1, 5, set(), set(range(32)), many_transitions(random.Random("far"), 1023), [1] * 32)
     powers = [2**i for i in range(10)]
     for distance in sorted({1022, *powers, *(1022 - power for power in powers)}):
         transitions = automaton.transitions[:1022] + [automaton.transitions[1022 - distance]]
@@ -81,16 +109,16 @@ def near_repeats():
 
 def logs():
     """The logs of the sample."""
-    for automaton, events, _ in EXAMPLES:
-        yield with_length(encoded(automaton), bytes(events))
+    for automaton, offered, _ in EXAMPLES:
+        yield with_length(encoded(automaton), bytes(offered))
     for encoding, _ in ENCODINGS:
         yield with_length(encoding, b"\x01")
     whole = with_length(P_ENCODING, bytes((1, 2, 1, 1)))
     for end in range(len(whole)):
         yield whole[:end]
-    yield longest_release()
-    yield largest()
-    yield too_long()
+    yield from longest_release()
+    yield from largest()
+    yield from symbols()
     yield from repeats()
     yield from far_repeats()
     yield from near_repeats()

@@ -1,7 +1,7 @@
 """Random logs against a built log program: `python3 tests/run.py --program target/bin/opacity_log --count 2000 --seed 1`.
 
 Each log's output is compared with what the lister expects, some of them in pieces. Before them come what no file can show: a live feed, whose lines
-have to come with their events, the first bytes one by one, and reads and writes that fail; and the longest encoding with a transition listed twice,
+have to come with their symbols, the first bytes one by one, and reads and writes that fail; and the longest encoding with a transition listed twice,
 at each of its 1,022 distances. The first mismatch is printed, with what is needed to repeat it, and the exit status is 1.
 """
 
@@ -18,7 +18,7 @@ from generate import many_transitions, random_log, random_trace, with_length, wi
 from logs import encoded, output
 from runs import Automaton
 
-# the events of this one need several reads and writes
+# the symbols of this one need several reads and writes
 LONG = 600000
 WANDERING = Automaton(3, 2, 2, 0, {1}, {1, 2}, [(0, 0, 2), (0, 1, 1), (1, 2, 0), (2, 1, 3), (3, 1, 3), (3, 2, 0)])
 
@@ -64,21 +64,21 @@ def line_of(process, seconds=5):
 
 
 def live_feed(program):
-    """A live feed of each example, byte by byte: an event's line comes before the next event. Says what is wrong, or nothing."""
-    for automaton, events, expected in EXAMPLES:
+    """A live feed of each example, byte by byte: a symbol's line comes before the next symbol. Says what is wrong, or nothing."""
+    for automaton, offered, expected in EXAMPLES:
         lines = expected.splitlines(keepends=True)
-        if not events or lines[0].startswith("refused"):
+        if not offered or lines[0].startswith("refused"):
             continue
         with subprocess.Popen([program], stdin=subprocess.PIPE, stdout=subprocess.PIPE, bufsize=0) as process:
             for byte in with_length(encoded(automaton), b""):
                 process.stdin.write(bytes([byte]))
                 time.sleep(0.0005)
-            for event, line in zip(events, lines):
-                process.stdin.write(bytes([event]))
+            for byte, line in zip(offered, lines):
+                process.stdin.write(bytes([byte]))
                 got = line_of(process)
                 if got != line:
                     process.kill()
-                    return f"live feed, event {event}: expected {line!r}, printed {got!r}"
+                    return f"live feed, byte {byte}: expected {line!r}, printed {got!r}"
             process.stdin.close()
             if line_of(process) != lines[-1]:
                 return "live feed: the last line is not as expected"
@@ -87,8 +87,8 @@ def live_feed(program):
 
 def failures(program):
     """A read that fails, and writes that do: each has its words, and there is no last line. Says what is wrong, or nothing."""
-    automaton, events, _ = EXAMPLES[0]
-    log = with_length(encoded(automaton), bytes(events))
+    automaton, offered, _ = EXAMPLES[0]
+    log = with_length(encoded(automaton), bytes(offered))
     folder = os.open("/", os.O_RDONLY)
     done = subprocess.run([program], stdin=folder, stdout=subprocess.PIPE, stderr=subprocess.PIPE, timeout=60, check=False)
     os.close(folder)
@@ -104,7 +104,8 @@ def failures(program):
 
 def distances(program):
     """The longest encoding, whose last transition is an earlier one, at every distance. Says what is wrong, or nothing."""
-    automaton = Automaton(63, 31, 15, 0, set(), set(range(32)), many_transitions(random.Random("distances"), 1023))
+    automaton = Automaton(63, 31, 15, 0, set(), set(range(32)), many_transitions(random.Random("distances"), 1023), range(31, -1, -1))
+    assert len(encoded(automaton)) == 2210
     for first in range(1022):
         again = with_transitions(automaton, automaton.transitions[:1022] + [automaton.transitions[first]])
         got = printed(program, with_length(encoded(again), b"\x01"))

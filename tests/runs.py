@@ -3,8 +3,9 @@
 This is written from the definitions alone and shares nothing with the verified code: no set of possible states is kept, and nothing is
 looked at backwards. Runs are listed from the initial state on, each with its positions, and a definition is evaluated over all of them.
 
-A run is a list of transitions from the initial state; it is compatible with a trace if its observable events, in order, are the trace. A
-position is a point before, between or after its transitions, and its count is the number of observable events before it.
+A run is a list of transitions from the initial state; it is compatible with a trace, a list of symbols, if the symbols of its observable events, in
+order, are the trace. Several events may have one symbol. A position is a point before, between or after its transitions, and its count is the
+number of observable events before it.
 
 WHICH RUNS ARE LISTED. There are infinitely many where unobservable transitions form a cycle. Listed are those with at most 2 (s - 1)
 unobservable transitions before the first, between each two and after the last observable one, where s is the number of states that a run
@@ -19,15 +20,16 @@ asks for one compatible run, and where there is such a run there is one that is 
 
 WHAT IS KEPT OF A RUN: the state in which it ends, and its positions, each as its count and whether its state is secret. Nothing that is
 asked depends on more, and what a transition adds depends on the state alone. So runs with equal facts stay equal however they go on, and
-are listed once, by one with the fewest unobservable transitions since the last observation. After n events no count below n - K is asked
+are listed once, by one with the fewest unobservable transitions since the last observation. After n symbols no count below n - K is asked
 for any more, neither by a verdict (n - l with l <= K) nor by a safe prefix (n - j <= K), and n only grows: such positions are left out.
 """
 
 
 class Automaton:
-    """States, events, the look-back K, secret states, observable events, and transitions as (from, event, to)."""
+    """States, events, the look-back K, secret states, observable events, transitions as (from, event, to), and a symbol for each event, of which
+    only those of observable events count. Without symbols each observable event has its own number."""
 
-    def __init__(self, top_state, top_event, k, initial, secret, observable, transitions):
+    def __init__(self, top_state, top_event, k, initial, secret, observable, transitions, symbols=None):
         self.top_state = top_state
         self.top_event = top_event
         self.k = k
@@ -35,6 +37,9 @@ class Automaton:
         self.secret = frozenset(secret)
         self.observable = frozenset(observable)
         self.transitions = list(transitions)
+        self.symbols = None if symbols is None else list(symbols)
+        # of the observable events
+        self.symbol_of = {event: event if symbols is None else self.symbols[event] for event in sorted(self.observable)}
         self.leaving = {}
         for source, event, target in sorted(set(self.transitions)):
             self.leaving.setdefault(source, []).append((event, target))
@@ -50,11 +55,11 @@ class TooManyRuns(Exception):
 
 
 def extended(automaton, runs, observed, count):
-    """The runs by one transition longer: by the observed event, or by an unobservable one where that is None."""
+    """The runs by one transition longer: by an observable event with the observed symbol, or by an unobservable one where that is None."""
     longer = set()
     for end, positions in runs:
         for event, target in automaton.leaving.get(end, ()):
-            if event == observed or (observed is None and event not in automaton.observable):
+            if automaton.symbol_of.get(event) == observed:
                 longer.add((target, positions | {(count, target in automaton.secret)}))
     return longer
 
@@ -73,7 +78,7 @@ def continued(automaton, runs, count, limit):
 
 
 class Listing:
-    """The runs compatible with each prefix of a trace that grows event by event."""
+    """The runs compatible with each prefix of a trace that grows symbol by symbol."""
 
     def __init__(self, automaton, limit=4000):
         self.automaton = automaton
@@ -85,24 +90,24 @@ class Listing:
         # by the length of the prefix: where its runs are right after their last observable event, or else at their start
         self.entered = [{automaton.initial}]
 
-    def accept(self, event):
-        """Adds the event to the trace, and says so, if some run is compatible with it."""
+    def accept(self, symbol):
+        """Adds the symbol to the trace, and says so, if some run is compatible with it."""
         n = len(self.trace) + 1
         oldest = n - self.automaton.k
         runs = {
             (end, frozenset(p for p in positions if oldest <= p[0]))
-            for end, positions in extended(self.automaton, self.compatible[n - 1], event, n)
+            for end, positions in extended(self.automaton, self.compatible[n - 1], symbol, n)
         }
         if not runs:
             return False
-        self.trace.append(event)
+        self.trace.append(symbol)
         self.entered.append({end for end, _ in runs})
         self.compatible[n] = continued(self.automaton, runs, n, self.limit)
         self.compatible.pop(oldest - 1, None)
         return True
 
     def positions(self, prefix):
-        """The positions of each run that is compatible with the first events of the trace."""
+        """The positions of each run that is compatible with the first symbols of the trace."""
         return {positions for _, positions in self.compatible[prefix]}
 
     def weak(self):
@@ -122,7 +127,7 @@ class Listing:
         return None
 
     def weak_safe(self, prefix, further=0):
-        """Whether the prefix of this length is safe under weak, or will be with so many further events."""
+        """Whether the prefix of this length is safe under weak, or will be with so many further symbols."""
         n = len(self.trace) + further
         # the counts j <= prefix with n - j <= K
         return not any(sure_at(self.positions(prefix), j) for j in range(max(0, n - self.automaton.k), prefix + 1))

@@ -3,6 +3,8 @@
 from runs import Automaton
 
 WORDS = 2048
+HEADER_BYTES = 46
+SYMBOLS = 14  # where a header has the symbols
 NONE = 255
 
 
@@ -25,15 +27,27 @@ def table_of(automaton):
 
 
 def header_of(automaton):
-    """The rest of it."""
-    return bytes((automaton.initial, automaton.k)) + bits(automaton.secret).to_bytes(8, "little") + bits(automaton.observable).to_bytes(4, "little")
+    """The rest of it, with 0 as the symbol of every event that is not observable."""
+    numbers = bytes((automaton.initial, automaton.k))
+    sets = bits(automaton.secret).to_bytes(8, "little") + bits(automaton.observable).to_bytes(4, "little")
+    return numbers + sets + bytes(automaton.symbol_of.get(event, 0) for event in range(32))
+
+
+def observable_of(header):
+    """The observable events of a header."""
+    return members(int.from_bytes(header[10:14], "little"))
+
+
+def symbol_at(header, event):
+    """The symbol of an event in a header."""
+    return header[SYMBOLS + event]
 
 
 def automaton_of(words, header):
     """The automaton of a table and a header that are within their limits."""
     transitions = [(i % 64, i // 64, target) for i, word in enumerate(words) if word for target in members(word)]
-    secret, observable = int.from_bytes(header[2:10], "little"), int.from_bytes(header[10:14], "little")
-    return Automaton(63, 31, header[1], header[0], members(secret), members(observable), transitions)
+    secret = members(int.from_bytes(header[2:10], "little"))
+    return Automaton(63, 31, header[1], header[0], secret, observable_of(header), transitions, header[SYMBOLS:])
 
 
 def padded(numbers, size):
@@ -41,13 +55,13 @@ def padded(numbers, size):
     return bytes(numbers) + bytes(size - len(numbers))
 
 
-def estimator_bytes(events, entries):
-    """The bytes of an estimator with these events, the newest first, and these sets of states."""
-    return bytes([len(events)]) + padded(events, 15) + padded(b"".join(bits(states).to_bytes(8, "little") for states in entries), 128)
+def estimator_bytes(symbols, entries):
+    """The bytes of an estimator with these symbols, the newest first, and these sets of states."""
+    return bytes([len(symbols)]) + padded(symbols, 15) + padded(b"".join(bits(states).to_bytes(8, "little") for states in entries), 128)
 
 
 def grown_estimator(listing):
-    """The estimator after the trace of a listing: its last events, and where runs are right after the last event of each shorter trace."""
+    """The estimator after the trace of a listing: its last symbols, and where runs are right after the last symbol of each shorter trace."""
     n = len(listing.trace)
     count = min(listing.automaton.k, n)
     return estimator_bytes([listing.trace[n - 1 - l] for l in range(count)], [listing.entered[n - l] for l in range(count + 1)])
@@ -64,7 +78,7 @@ def safe_of(listing, notion):
 
 
 def wait(safe, prefix):
-    """How many further events make the prefix safe."""
+    """How many further symbols make the prefix safe."""
     further = 0
     while not safe(prefix, further):
         further += 1

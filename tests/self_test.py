@@ -1,25 +1,25 @@
 """Tests of the lister itself: `python3 tests/self_test.py`.
 
-01's examples with its answers, and the merged listing of `runs` against one in which nothing is merged or
-left out: each run as its list of transitions.
+01's examples with its answers, and others worked out by hand; the merged listing of `runs` against one in which nothing is merged or left out: each
+run as its list of transitions; and automata with symbols against automata without, whose events are the symbols.
 """
 
 import random
 import sys
 
 from calls import elements
-from examples import ENCODINGS, EXAMPLES, OPENINGS, P, P_ENCODING, Q, Q_ENCODING
-from generate import random_automaton, random_trace, with_length, with_repeat, with_transitions
-from logs import encoded, output
-from runs import Listing, TooManyRuns
-from saved import grown_enforcer, grown_estimator, verdict_bytes
+from examples import ENCODINGS, EXAMPLES, OPENINGS, P, P_ENCODING, P_SYMBOLS, Q, Q_ENCODING
+from generate import many_transitions, random_automaton, random_offers, random_trace, with_length, with_repeat, with_symbols, with_transitions
+from logs import Refused, decoded, encoded, output
+from runs import Automaton, Listing, TooManyRuns
+from saved import automaton_of, grown_enforcer, grown_estimator, header_of, table_of, verdict_bytes
 
 
 def test_examples():
     """01's examples and openings."""
     assert encoded(P) == P_ENCODING and encoded(Q) == Q_ENCODING
-    for automaton, events, expected in EXAMPLES:
-        assert output(with_length(encoded(automaton), bytes(events))) == expected, expected
+    for automaton, offered, expected in EXAMPLES:
+        assert output(with_length(encoded(automaton), bytes(offered))) == expected, expected
     for encoding, number in ENCODINGS:
         assert output(with_length(encoding, b"\x01")) == f"refused {number}\n", number
     for automaton, weak, strong, weak_safe, strong_safe in OPENINGS:
@@ -38,14 +38,53 @@ def test_repeats():
         assert output(with_length(encoded(with_transitions(P, transitions)), b"\x01")) == f"refused {number}\n", number
 
 
+def refusal_of(encoding):
+    """The number of the refusal that an encoding gets, or 0."""
+    try:
+        decoded(encoding)
+    except Refused as refused:
+        return refused.args[0]
+    return 0
+
+
+def test_symbols():
+    """S-2, by hand: the fields of an encoding with symbols, where it is cut, the longest one, and the header."""
+    fixed = "000011" + "00010" + "0010" + "000000" + "0000000101" + "1"
+    sets, symbols = "0100" + "011", "11111" + "00010" + "00000"
+    transitions = "00000000000000010" + "00000000001000001" + "00000100010000000" + "00001000001000011" + "00001100001000011"
+    bits = fixed + sets + symbols + transitions
+    assert len(bits) == 139
+    encoding = int(bits + "00000", 2).to_bytes(18, "big")
+    assert encoded(P_SYMBOLS) == encoding
+    again = decoded(encoding)
+    assert again.symbols == [31, 2, 0] and again.symbol_of == {1: 2, 2: 0} and again.transitions == P.transitions
+    for size in range(18):
+        assert refusal_of(encoding[:size]) == 1, size
+    assert refusal_of(encoding[:17] + b"\x61") == 5 and refusal_of(encoding + b"\x00") == 5
+    # the initial state's own check comes before the symbols, and those of the transitions behind them
+    strays = with_transitions(P_SYMBOLS, [(0, 3, 0)], 4), with_transitions(P_SYMBOLS, [(0, 3, 4)]), with_transitions(P_SYMBOLS, [(4, 3, 0)])
+    assert [refusal_of(encoded(stray)[:5]) for stray in strays] == [3, 1, 1]
+    assert [refusal_of(encoded(stray)) for stray in strays] == [3, 4, 3]
+    longest = encoded(Automaton(63, 31, 15, 63, range(64), range(32), many_transitions(random.Random("long"), 1023), range(31, -1, -1)))
+    assert len(longest) == 2210
+    assert [refusal_of(data) for data in (longest, longest[:2209], longest + b"\x00")] == [0, 1, 5]
+    assert elements(header_of(P_SYMBOLS)) == "46 1:2*2 10:6 15:2" and elements(header_of(P)) == "46 1:2*2 10:6 15:1,2"
+    odd = header_of(P_SYMBOLS)[:14] + b"\xff\x02\x00" + b"\xff" * 29
+    assert automaton_of(table_of(P_SYMBOLS), odd).symbol_of == {1: 2, 2: 0}
+
+
 def test_saved():
-    """P after 1 2, by hand. Right after 1 2 a run is in 0, right after 1 in 1 or 3, and it starts in 0; 2 is pending and waits for two events."""
+    """P after 1 2, by hand. Right after 1 2 a run is in 0, right after 1 in 1 or 3, and it starts in 0; 2 is pending and waits for two more. The
+    same with symbols."""
     listing = Listing(P)
     assert listing.accept(1) and listing.accept(2)
     assert elements(grown_estimator(listing)) == "144 0:2*2,1 16:1 24:a 32:1"
     assert verdict_bytes(listing) == bytes((1, 1))
     assert elements(grown_enforcer(listing, 0)) == "178 0:2*2,1 16:1 24:a 32:1 145:1,2 162:2"
     assert elements(grown_enforcer(listing, 1)) == "178 0:2*2,1 16:1 24:a 32:1 144:1*2,2 162:2"
+    listing = Listing(P_SYMBOLS)
+    assert listing.accept(2) and listing.accept(0)
+    assert elements(grown_enforcer(listing, 0)) == "178 0:2 2:2 16:1 24:a 32:1 145:1 162:2"
 
 
 def every_run(automaton, trace, bound):
@@ -59,7 +98,7 @@ def every_run(automaton, trace, bound):
             if event not in automaton.observable:
                 if unobserved < bound:
                     pending.append((run + ((event, target),), target, count, unobserved + 1))
-            elif count < len(trace) and event == trace[count]:
+            elif count < len(trace) and (event if automaton.symbols is None else automaton.symbols[event]) == trace[count]:
                 pending.append((run + ((event, target),), target, count + 1, 0))
 
 
@@ -100,7 +139,7 @@ def test_merging(count, seed):
         automaton = random_automaton(rng)
         listing = Listing(automaton)
         try:
-            trace = [e for e in random_trace(rng, automaton, 3) if listing.accept(e)]
+            trace = [symbol for symbol in random_trace(rng, automaton, 3) if listing.accept(symbol)]
         except TooManyRuns:
             continue
         both = facts(automaton, trace, 20000)
@@ -115,10 +154,74 @@ def test_merging(count, seed):
     return compared
 
 
+def judged(listing):
+    """Verdicts, and which prefixes are safe; shorter ones than these always are."""
+    n = len(listing.trace)
+    lengths = range(max(0, n - listing.automaton.k), n + 1)
+    return listing.weak(), listing.strong(), [(listing.weak_safe(length), listing.strong_safe(length)) for length in lengths]
+
+
+def answer(listing, byte):
+    """The refusal that an offered byte gets, or 0."""
+    if byte not in listing.automaton.symbol_of.values():
+        return 6
+    return 0 if listing.accept(byte) else 7
+
+
+def same(listing, other, translation, offered):
+    """How many bytes two listings accept. They refuse the same, and say the same after each, where the other is offered what a byte is translated
+    to, and 255 where there is nothing."""
+    for byte in offered:
+        assert answer(listing, byte) == answer(other, translation.get(byte, 255))
+        assert judged(listing) == judged(other) and listing.entered == other.entered
+    return len(listing.trace)
+
+
+def different(rng, automaton):
+    """The automaton with symbols of which no two observable events share one; the others have any."""
+    symbols = rng.sample(range(32), automaton.top_event + 1)
+    return with_symbols(automaton, [n if e in automaton.observable else rng.randrange(32) for e, n in enumerate(symbols)])
+
+
+def renamed(automaton):
+    """Without symbols: each observable event is called by its symbol, and the unobservable ones by one number that is no symbol. None where there is
+    no such number."""
+    unused = sorted(set(range(32)) - set(automaton.symbol_of.values()))
+    if not unused:
+        return None
+    transitions = {(source, automaton.symbol_of.get(event, unused[0]), target) for source, event, target in automaton.transitions}
+    shown = set(automaton.symbol_of.values())
+    return Automaton(automaton.top_state, 31, automaton.k, automaton.initial, automaton.secret, shown, transitions)
+
+
+def test_meaning(count, seed):
+    """S-2's sentence: where no two observable events share a symbol, all is as in the automaton without symbols, over the events that have them. And
+    where they share some, all is as in the automaton whose events are the symbols."""
+    accepted = [0, 0]
+    for i in range(count):
+        rng = random.Random(f"meaning {seed} {i}")
+        shared = random_automaton(rng)
+        separate = different(rng, shared)
+        inverse = {symbol: event for event, symbol in separate.symbol_of.items()}
+        assert len(inverse) == len(separate.observable)
+        plain = renamed(shared)
+        try:
+            offered = random_offers(rng, separate, 6)
+            accepted[0] += same(Listing(separate), Listing(with_symbols(separate, None)), inverse, offered)
+            if plain is not None:
+                offered = random_offers(rng, shared, 6)
+                accepted[1] += same(Listing(shared), Listing(plain), {symbol: symbol for symbol in plain.observable}, offered)
+        except TooManyRuns:
+            continue
+    return accepted
+
+
 if __name__ == "__main__":
     test_examples()
     test_repeats()
+    test_symbols()
     test_saved()
     compared = test_merging(400, 1)
-    print(f"examples as expected, {compared} listings compared run by run")
+    separate, shared = test_meaning(600, 1)
+    print(f"examples as expected, {compared} listings compared run by run; as without symbols: {separate} symbols of one event each, {shared} others")
     sys.exit(0)

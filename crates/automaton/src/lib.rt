@@ -77,11 +77,35 @@ pub fn in_range(bytes: &[u8], count: u8) -> bool
     true
 }
 
-// Whether the symbol of each observable event is at most 31.
+fn larger(a: u8, b: u8) -> u8
+    ensures { λ r. ⌜ (a ≤ r) × (b ≤ r) ⌝ }
+{
+    if a < b {
+        return b;
+    }
+    a
+}
+
+// A number that none of the symbols is above: the largest of all 32, the unobservable events' among them.
+fn largest(symbols: [u8; 32]) -> u8
+    ensures { λ r. ⌜ ((e : ℕ) → e < 32 → getD symbols e 0 ≤ r) ⌝ }
+{
+    let mut most: u8 = 0;
+    for e in 0..32 {
+        most = larger(most, symbols[e]);
+    }
+    most
+}
+
+// Whether the symbol of each observable event is at most 31. (Most often all 32 are, which is seen sixteen at a time; only else are the observable
+// events walked through.)
 fn small_symbols(header: Header) -> bool
     ensures { λ r. ⌜ Decided r (SmallSymbols (header .observable) (header .symbols)) ⌝ }
 {
     let symbols = header.symbols;
+    if largest(symbols) <= 31 {
+        return true;
+    }
     let observable = header.observable as u64;
     let mut todo = observable;
     while todo != 0 {
@@ -111,14 +135,13 @@ pub fn sound(table: &[u64], header: Header) -> bool
 }
 
 // For each symbol the observable events that have it. (One walk over the observable events for a whole call; a step by a symbol then finds its
-// events at once. Inner, as the functions below.)
-pub fn by_symbol(header: Header) -> [u32; 32]
-    requires { ⌜ SmallSymbols (header .observable) (header .symbols) ⌝ }
-    ensures { λ r. ⌜ ((t : List ℕ) → BySymbol (automatonOf t header) r) ⌝ }
+// events at once. To a lent slice: an array that is handed back would be copied. Inner, as the functions below.)
+pub fn by_symbol(header: Header, sets: &mut [u32])
+    requires { ⌜ SmallSymbols (header .observable) (header .symbols) × (now sets ≡ replicate 32 0) ⌝ }
+    ensures { λ _. ⌜ ((t : List ℕ) → BySymbol (automatonOf t header) (now (sets .exit))) ⌝ }
 {
     let symbols = header.symbols;
     let observable = header.observable as u64;
-    let mut sets = [0u32; 32];
     let mut todo = observable;
     while todo != 0 {
         let e = u64::trailing_zeros(todo) as usize;
@@ -126,7 +149,6 @@ pub fn by_symbol(header: Header) -> [u32; 32]
         sets[s] |= 1 << e;
         todo &= todo - 1;
     }
-    sets
 }
 
 // The observable events with a symbol; none where the byte is above 31.

@@ -24,42 +24,42 @@ use Rattle.enforcer.proofs.SafeLaws.{safe-laws, safe-wait, wait-safe}
 use Rattle.enforcer.proofs.Queueing.{queue-next}
 
 -- the pending events and one more are the front of the array that they were joined in
-joined-list : (pending events : List ℕ) (count byte : ℕ) → count ≤ length pending → count < length events
-    → ((i : ℕ) → i < count → getD events i 0 ≡ getD pending i 0) → getD events count 0 ≡ byte
-    → take count pending ++ byte ∷ [] ≡ take (count + 1) events
-joined-list pending events count byte room wide same last =
+joined-list : (pending symbols : List ℕ) (count byte : ℕ) → count ≤ length pending → count < length symbols
+    → ((i : ℕ) → i < count → getD symbols i 0 ≡ getD pending i 0) → getD symbols count 0 ≡ byte
+    → take count pending ++ byte ∷ [] ≡ take (count + 1) symbols
+joined-list pending symbols count byte room wide same last =
     let a : length (take count pending) ≡ count = length-take-le count pending room in
-    let b : length (take (count + 1) events) ≡ count + 1 = length-take-le (count + 1) events (omega arith) in
+    let b : length (take (count + 1) symbols) ≡ count + 1 = length-take-le (count + 1) symbols (omega arith) in
     let d : length (take count pending ++ byte ∷ []) ≡ count + 1 = length-append (take count pending) (byte ∷ []) ∙ omega arith in
-    ext-getD 0 (take count pending ++ byte ∷ []) (take (count + 1) events) (omega arith)
+    ext-getD 0 (take count pending ++ byte ∷ []) (take (count + 1) symbols) (omega arith)
     (λ i h. elim (decLt i count) [
       | yes less ↦ List·getD-append (take count pending) (byte ∷ []) 0 i (omega arith) ∙ getD-take count pending i 0 less ∙ sym (same i less)
-          ∙ sym (getD-take (count + 1) events i 0 (omega arith))
+          ∙ sym (getD-take (count + 1) symbols i 0 (omega arith))
       | no more ↦
           let e : i ≡ count = omega arith in
-          getD-at (take count pending) byte [] 0 i (omega arith) ∙ sym last ∙ ap (λ (k : ℕ). getD events k 0) (sym e) ∙ sym (getD-take (count + 1) events i 0 (omega arith))
+          getD-at (take count pending) byte [] 0 i (omega arith) ∙ sym last ∙ ap (λ (k : ℕ). getD symbols k 0) (sym e) ∙ sym (getD-take (count + 1) symbols i 0 (omega arith))
     ])
 
 -- what is copied down from an array is what follows its first f
-rest-list : (events after : List ℕ) (f n : ℕ) → f ≤ n → n ≤ length events → n - f ≤ length after
-    → ((i : ℕ) → i < n - f → getD after i 0 ≡ getD events (f + i) 0) → take (n - f) after ≡ drop f (take n events)
-rest-list events after f n le wide room same =
+rest-list : (symbols after : List ℕ) (f n : ℕ) → f ≤ n → n ≤ length symbols → n - f ≤ length after
+    → ((i : ℕ) → i < n - f → getD after i 0 ≡ getD symbols (f + i) 0) → take (n - f) after ≡ drop f (take n symbols)
+rest-list symbols after f n le wide room same =
     let a : length (take (n - f) after) ≡ n - f = length-take-le (n - f) after room in
-    let b : length (drop f (take n events)) ≡ n - f = length-drop f (take n events) ∙ ap (λ (k : ℕ). k - f) (length-take-le n events wide) in
-    ext-getD 0 (take (n - f) after) (drop f (take n events)) (omega arith)
-    (λ i h. getD-take (n - f) after i 0 (omega arith) ∙ same i (omega arith) ∙ sym (getD-drop f (take n events) i 0 ∙ getD-take n events (f + i) 0 (omega arith)))
+    let b : length (drop f (take n symbols)) ≡ n - f = length-drop f (take n symbols) ∙ ap (λ (k : ℕ). k - f) (length-take-le n symbols wide) in
+    ext-getD 0 (take (n - f) after) (drop f (take n symbols)) (omega arith)
+    (λ i h. getD-take (n - f) after i 0 (omega arith) ∙ same i (omega arith) ∙ sym (getD-drop f (take n symbols) i 0 ∙ getD-take n symbols (f + i) 0 (omega arith)))
 
-pub took-in : (K : ℕ) (self : Enforcer) (estimator : Estimator) (w byte : ℕ) (output : List ℕ) (f : ℕ) (events soon pending waits left : List ℕ)
-    → length (self .pending) ≡ 16 → length events ≡ 17 → Padded 16 (self .count + 1 - f) pending → Padded 16 (self .count + 1 - f) waits → K ≤ 15 → self .count ≤ K + 1
-    → ((i : ℕ) → i < self .count → getD events i 0 ≡ getD (self .pending) i 0) → getD events (self .count) 0 ≡ byte
+pub took-in : (K : ℕ) (self : Enforcer) (estimator : Estimator) (w byte : ℕ) (output : List ℕ) (f : ℕ) (symbols soon pending waits left : List ℕ)
+    → length (self .pending) ≡ 16 → length symbols ≡ 17 → Padded 16 (self .count + 1 - f) pending → Padded 16 (self .count + 1 - f) waits → K ≤ 15 → self .count ≤ K + 1
+    → ((i : ℕ) → i < self .count → getD symbols i 0 ≡ getD (self .pending) i 0) → getD symbols (self .count) 0 ≡ byte
     → ((i : ℕ) → i < self .count → getD soon i 0 ≡ getD (self .waits) i 0 - 1) → getD soon (self .count) 0 ≡ w
     → Ready K (self .count) soon f
-    → left ≡ take f events ++ drop f output
-    → ((i : ℕ) → i < self .count + 1 - f → getD pending i 0 ≡ getD events (f + i) 0)
+    → left ≡ take f symbols ++ drop f output
+    → ((i : ℕ) → i < self .count + 1 - f → getD pending i 0 ≡ getD symbols (f + i) 0)
     → ((i : ℕ) → i < self .count + 1 - f → getD waits i 0 ≡ getD soon (f + i) 0)
     → TookIn K self estimator w byte output f (record { estimator = estimator; notion = self .notion; count = self .count + 1 - f; pending = pending; waits = waits }) left
-took-in K self estimator w byte output f events soon pending waits left l16 l17 padded padded′ k15 few same last older newer ready poured down later =
-    let e : pendingOf self ++ byte ∷ [] ≡ take (self .count + 1) events = joined-list (self .pending) events (self .count) byte (omega arith) (omega arith) same last in
+took-in K self estimator w byte output f symbols soon pending waits left l16 l17 padded padded′ k15 few same last older newer ready poured down later =
+    let e : pendingOf self ++ byte ∷ [] ≡ take (self .count + 1) symbols = joined-list (self .pending) symbols (self .count) byte (omega arith) (omega arith) same last in
     let some = ready .some in
     let h16 = padded .size-is in
     record {
@@ -67,18 +67,18 @@ took-in K self estimator w byte output f events soon pending waits left l16 l17 
       notion-is = refl;
       pending-padded = padded;
       waits-padded = padded′;
-      front = poured ∙ ap (λ (l : List ℕ). l ++ drop f output) (sym (ap (take f) e ∙ take-take f (self .count + 1) events some));
-      small = λ event old i h.
+      front = poured ∙ ap (λ (l : List ℕ). l ++ drop f output) (sym (ap (take f) e ∙ take-take f (self .count + 1) symbols some));
+      small = λ symbol old i h.
           let d = down i h in
           elim (decLt (f + i) (self .count)) [
             | yes less ↦ omega (arith, same (f + i) less, old (f + i) less)
             | no more ↦
                 let e : f + i ≡ self .count = omega arith in
-                omega (arith, ap (λ (k : ℕ). getD events k 0) e, last)
+                omega (arith, ap (λ (k : ℕ). getD symbols k 0) e, last)
           ];
       shifted = record {
         balance = omega arith;
-        rest = rest-list events pending f (self .count + 1) some (omega arith) (omega arith) down ∙ ap (drop f) (sym e);
+        rest = rest-list symbols pending f (self .count + 1) some (omega arith) (omega arith) down ∙ ap (drop f) (sym e);
         soon = soon;
         soon-old = older;
         soon-new = newer;

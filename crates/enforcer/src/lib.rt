@@ -225,13 +225,13 @@ impl Enforcer {
         let notion = self.notion;
         let pending = self.pending;
         let waits = self.waits;
-        let mut events = [0u8; 17];
-        joined(pending, count, byte, &mut events);
+        let mut symbols = [0u8; 17];
+        joined(pending, count, byte, &mut symbols);
         let mut soon = [0u8; 17];
         nearer(waits, count, w, &mut soon);
         let f = ready(&soon, count, k);
-        release(&events, f, output);
-        let pending_after = rest(&events, f, count + 1);
+        release(&symbols, f, output);
+        let pending_after = rest(&symbols, f, count + 1);
         let waits_after = rest(&soon, f, count + 1);
         Given {
             enforcer: Enforcer {

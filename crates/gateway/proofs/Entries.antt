@@ -33,12 +33,12 @@ kept-table : (encoding table : List ℕ) {h : Header} {n : ℕ} {after : List �
 kept-table encoding table (Decoding.malformed bad) = refl
 kept-table encoding table (Decoding.refused size n e) = refl
 
-kept-output : (t : List ℕ) (h : Header) (s : Enforcer) (event : ℕ) (output : List ℕ) {n : ℕ} {after : Enforcer} {out : List ℕ}
-    → Offering t h s event output (offering.refused n) after out → out ≡ output
-kept-output t h s event output (Offering.malformed bad) = refl
-kept-output t h s event output (Offering.output-too-small so li few) = refl
-kept-output t h s event output (Offering.not-observable so li wide never) = refl
-kept-output t h s event output (Offering.incompatible so li wide ob none) = refl
+kept-output : (t : List ℕ) (h : Header) (s : Enforcer) (symbol : ℕ) (output : List ℕ) {n : ℕ} {after : Enforcer} {out : List ℕ}
+    → Offering t h s symbol output (offering.refused n) after out → out ≡ output
+kept-output t h s symbol output (Offering.malformed bad) = refl
+kept-output t h s symbol output (Offering.output-too-small so li few) = refl
+kept-output t h s symbol output (Offering.not-observable so li wide never) = refl
+kept-output t h s symbol output (Offering.incompatible so li wide ob none) = refl
 
 module _ (encoding table header after : List ℕ) (h : Header) (answer : decoded.Answer) (size : length header ≡ 46)
     (did : Decoding encoding table h (answerMeans answer) after) where
@@ -76,21 +76,21 @@ module _ (t header estimator verdicts : List ℕ) (h : Header) (after : Estimato
         subst (λ (x : List ℕ). Fresh t header estimator verdicts 0 x told) (sym (filled left wrote))
         (subst (λ (x : List ℕ). Fresh t header estimator verdicts 0 (estimatorBytes after) x) (sym says) (Fresh.accepted sizes (said-opening (verdict.the-variants.Accepted v) is) (estimator-saved after (wrote .0))))
 
-  module _ (event : ℕ) (s : Estimator) (is-estimator : s ≡ estimatorAt estimator) (did : Accepting t h s event (verifier.said answer) after) where
-    said-accepting : (x : verdict.Answer) → answer ≡ x → Accepting t (headerAt header) (estimatorAt estimator) event (verifier.said x) after
+  module _ (symbol : ℕ) (s : Estimator) (is-estimator : s ≡ estimatorAt estimator) (did : Accepting t h s symbol (verifier.said answer) after) where
+    said-accepting : (x : verdict.Answer) → answer ≡ x → Accepting t (headerAt header) (estimatorAt estimator) symbol (verifier.said x) after
     said-accepting x is =
-        subst (λ (y : verdict.Answer). Accepting t (headerAt header) (estimatorAt estimator) event (verifier.said y) after) is
-        (subst (λ (y : Estimator). Accepting t (headerAt header) y event (verifier.said answer) after) is-estimator
-        (subst (λ (y : Header). Accepting t y s event (verifier.said answer) after) is-header did))
+        subst (λ (y : verdict.Answer). Accepting t (headerAt header) (estimatorAt estimator) symbol (verifier.said y) after) is
+        (subst (λ (y : Estimator). Accepting t (headerAt header) y symbol (verifier.said answer) after) is-estimator
+        (subst (λ (y : Header). Accepting t y s symbol (verifier.said answer) after) is-header did))
 
-    pub accept-refused : (r : Refusal) (n : ℕ) → answer ≡ verdict.the-variants.Refused r → n ≡ numberOf r → Accept t header event estimator verdicts n estimator verdicts
+    pub accept-refused : (r : Refusal) (n : ℕ) → answer ≡ verdict.the-variants.Refused r → n ≡ numberOf r → Accept t header symbol estimator verdicts n estimator verdicts
     accept-refused r n is number = rw number (Accept.refused sizes (said-accepting (verdict.the-variants.Refused r) is))
 
     pub accept-accepted : (v : Verdicts) (left told : List ℕ) → answer ≡ verdict.the-variants.Accepted v
-        → EstimatorSized after × (left ≡ sets estimator 0 (estimatorBytes after)) → told ≡ verdictBytes v → Accept t header event estimator verdicts 0 left told
+        → EstimatorSized after × (left ≡ sets estimator 0 (estimatorBytes after)) → told ≡ verdictBytes v → Accept t header symbol estimator verdicts 0 left told
     accept-accepted v left told is wrote says =
-        subst (λ (x : List ℕ). Accept t header event estimator verdicts 0 x told) (sym (filled left wrote))
-        (subst (λ (x : List ℕ). Accept t header event estimator verdicts 0 (estimatorBytes after) x) (sym says) (Accept.accepted sizes (said-accepting (verdict.the-variants.Accepted v) is) (estimator-saved after (wrote .0))))
+        subst (λ (x : List ℕ). Accept t header symbol estimator verdicts 0 x told) (sym (filled left wrote))
+        (subst (λ (x : List ℕ). Accept t header symbol estimator verdicts 0 (estimatorBytes after) x) (sym says) (Accept.accepted sizes (said-accepting (verdict.the-variants.Accepted v) is) (estimator-saved after (wrote .0))))
 
 module _ (t header : List ℕ) (byte : ℕ) (saved : List ℕ) (h : Header) (notion : Notion) (after : Enforcer) (answer : start.StartAnswer) (sizes : StartSizes header byte saved)
     (is-header : h ≡ headerAt header) (is-notion : notion ≡ notionAt byte) (did : Starting t h notion (offering.begun answer) after) where
@@ -107,23 +107,23 @@ module _ (t header : List ℕ) (byte : ℕ) (saved : List ℕ) (h : Header) (not
   start-started left is wrote =
       subst (λ (x : List ℕ). Start t header byte saved 0 x) (sym (wrote .1)) (Start.started sizes (begun-starting start.the-variants.Started is) (enforcer-saved after (wrote .0)))
 
-module _ (t header : List ℕ) (event : ℕ) (saved output count out : List ℕ) (h : Header) (s after : Enforcer) (answer : offer.OfferAnswer) (sizes : OfferSizes header saved count)
-    (is-header : h ≡ headerAt header) (is-enforcer : s ≡ enforcerAt saved) (did : Offering t h s event output (offering.said answer) after out) where
-  said-offering : (x : offer.OfferAnswer) → answer ≡ x → Offering t (headerAt header) (enforcerAt saved) event output (offering.said x) after out
+module _ (t header : List ℕ) (symbol : ℕ) (saved output count out : List ℕ) (h : Header) (s after : Enforcer) (answer : offer.OfferAnswer) (sizes : OfferSizes header saved count)
+    (is-header : h ≡ headerAt header) (is-enforcer : s ≡ enforcerAt saved) (did : Offering t h s symbol output (offering.said answer) after out) where
+  said-offering : (x : offer.OfferAnswer) → answer ≡ x → Offering t (headerAt header) (enforcerAt saved) symbol output (offering.said x) after out
   said-offering x is =
-      subst (λ (y : offer.OfferAnswer). Offering t (headerAt header) (enforcerAt saved) event output (offering.said y) after out) is
-      (subst (λ (y : Enforcer). Offering t (headerAt header) y event output (offering.said answer) after out) is-enforcer
-      (subst (λ (y : Header). Offering t y s event output (offering.said answer) after out) is-header did))
+      subst (λ (y : offer.OfferAnswer). Offering t (headerAt header) (enforcerAt saved) symbol output (offering.said y) after out) is
+      (subst (λ (y : Enforcer). Offering t (headerAt header) y symbol output (offering.said answer) after out) is-enforcer
+      (subst (λ (y : Header). Offering t y s symbol output (offering.said answer) after out) is-header did))
 
-  pub offer-refused : (r : Refusal) (n : ℕ) → answer ≡ offer.the-variants.Refused r → n ≡ numberOf r → Offer t header event saved output count n saved out count
+  pub offer-refused : (r : Refusal) (n : ℕ) → answer ≡ offer.the-variants.Refused r → n ≡ numberOf r → Offer t header symbol saved output count n saved out count
   offer-refused r n is number =
       let x = said-offering (offer.the-variants.Refused r) is in
-      let kept = kept-output t (headerAt header) (enforcerAt saved) event output x in
+      let kept = kept-output t (headerAt header) (enforcerAt saved) symbol output x in
       rw (number, kept) (Offer.refused sizes (rw kept at x))
 
   pub offer-released : (f : ℕ) (left told : List ℕ) → answer ≡ offer.the-variants.Released f → EnforcerSized after × (left ≡ enforcerBytes after) → told ≡ set count 0 f
-      → Offer t header event saved output count 0 left out told
+      → Offer t header symbol saved output count 0 left out told
   offer-released f left told is wrote says =
       let one : told ≡ f ∷ [] = says ∙ whole count (f ∷ []) (sym (sizes .released-size)) in
-      subst (λ (x : List ℕ). Offer t header event saved output count 0 x out told) (sym (wrote .1))
-      (subst (λ (x : List ℕ). Offer t header event saved output count 0 (enforcerBytes after) out x) (sym one) (Offer.released sizes (said-offering (offer.the-variants.Released f) is) (enforcer-saved after (wrote .0))))
+      subst (λ (x : List ℕ). Offer t header symbol saved output count 0 x out told) (sym (wrote .1))
+      (subst (λ (x : List ℕ). Offer t header symbol saved output count 0 (enforcerBytes after) out x) (sym one) (Offer.released sizes (said-offering (offer.the-variants.Released f) is) (enforcer-saved after (wrote .0))))

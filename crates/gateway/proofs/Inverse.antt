@@ -87,21 +87,21 @@ header-length h x =
     )
 
 -- with other bytes behind, as in an enforcer
-estimator-in : (s : Estimator) (b : List ℕ) → EstimatorSized s → estimatorAt (s .count ∷ s .events ++ wordsBytes (s .entries) ++ b) ≡ s
+estimator-in : (s : Estimator) (b : List ℕ) → EstimatorSized s → estimatorAt (s .count ∷ s .symbols ++ wordsBytes (s .entries) ++ b) ≡ s
 estimator-in s b x =
-    let all = s .count ∷ s .events ++ wordsBytes (s .entries) ++ b in
-    let split : all ≡ (s .count ∷ s .events) ++ (wordsBytes (s .entries) ++ b) = ap (λ (l : List ℕ). s .count ∷ l) (append-assoc (s .events) (wordsBytes (s .entries)) b) in
-    let events : bytesAt all 1 15 ≡ s .events = ap (λ (l : List ℕ). bytesAt l 1 15) split ∙ part-back (s .count ∷ []) (s .events) (wordsBytes (s .entries) ++ b) 1 15 refl (sym (x .events)) in
+    let all = s .count ∷ s .symbols ++ wordsBytes (s .entries) ++ b in
+    let split : all ≡ (s .count ∷ s .symbols) ++ (wordsBytes (s .entries) ++ b) = ap (λ (l : List ℕ). s .count ∷ l) (append-assoc (s .symbols) (wordsBytes (s .entries)) b) in
+    let symbols : bytesAt all 1 15 ≡ s .symbols = ap (λ (l : List ℕ). bytesAt l 1 15) split ∙ part-back (s .count ∷ []) (s .symbols) (wordsBytes (s .entries) ++ b) 1 15 refl (sym (x .symbols)) in
     let entries : wordsAt all 16 16 ≡ s .entries =
-    ap (λ (l : List ℕ). wordsAt l 16 16) split ∙ ap (λ (n : ℕ). wordsAt ((s .count ∷ s .events) ++ (wordsBytes (s .entries) ++ b)) 16 n) (sym (x .entries))
-    ∙ words-back (s .entries) (s .count ∷ s .events) b 16 (x .words) (omega (arith, x .events)) in
-    λ i. record { count = s .count; events = events i; entries = entries i }
+    ap (λ (l : List ℕ). wordsAt l 16 16) split ∙ ap (λ (n : ℕ). wordsAt ((s .count ∷ s .symbols) ++ (wordsBytes (s .entries) ++ b)) 16 n) (sym (x .entries))
+    ∙ words-back (s .entries) (s .count ∷ s .symbols) b 16 (x .words) (omega (arith, x .symbols)) in
+    λ i. record { count = s .count; symbols = symbols i; entries = entries i }
 
 estimator-back : (s : Estimator) → EstimatorSized s → estimatorAt (estimatorBytes s) ≡ s
 estimator-back s x = ap estimatorAt (sym (append-nil (estimatorBytes s))) ∙ estimator-in s [] x
 
 pub estimator-length : (s : Estimator) → EstimatorSized s → length (estimatorBytes s) ≡ 144
-estimator-length s x = ap suc (length-append (s .events) (wordsBytes (s .entries)) ∙ omega (arith, x .events, x .entries, words-bytes-length (s .entries)))
+estimator-length s x = ap suc (length-append (s .symbols) (wordsBytes (s .entries)) ∙ omega (arith, x .symbols, x .entries, words-bytes-length (s .entries)))
 
 notion-back : (notion : Notion) → notionAt (notionByte notion) ≡ notion
 notion-back Weak = refl

@@ -42,12 +42,12 @@ wrote-header d d₁ d₂ d₃ d₄ d₅ initial k secret observable symbols size
     ∙ ap (λ (l : List ℕ). sets l 2 (bytesOf 8 secret ++ (bytesOf 4 observable ++ symbols))) front
     ∙ whole d text (long ∙ sym size)
 
-pub wrote-estimator : (d d₁ d₂ d₃ : List ℕ) (count : ℕ) (events entries : List ℕ) → length events ≡ 15 → d₁ ≡ set d 0 count → d₂ ≡ sets d₁ 1 events
-    → d₃ ≡ sets d₂ 16 (wordsBytes entries) → d₃ ≡ sets d 0 (count ∷ events ++ wordsBytes entries)
-wrote-estimator d d₁ d₂ d₃ count events entries l a b c =
+pub wrote-estimator : (d d₁ d₂ d₃ : List ℕ) (count : ℕ) (symbols entries : List ℕ) → length symbols ≡ 15 → d₁ ≡ set d 0 count → d₂ ≡ sets d₁ 1 symbols
+    → d₃ ≡ sets d₂ 16 (wordsBytes entries) → d₃ ≡ sets d 0 (count ∷ symbols ++ wordsBytes entries)
+wrote-estimator d d₁ d₂ d₃ count symbols entries l a b c =
     c ∙ ap (λ (x : List ℕ). sets x 16 (wordsBytes entries)) b
-    ∙ behind d₁ events (wordsBytes entries) 1 16 (omega arith)
-    ∙ ap (λ (x : List ℕ). sets x 1 (events ++ wordsBytes entries)) a
+    ∙ behind d₁ symbols (wordsBytes entries) 1 16 (omega arith)
+    ∙ ap (λ (x : List ℕ). sets x 1 (symbols ++ wordsBytes entries)) a
 
 pub wrote-enforcer : (d d₁ d₂ d₃ d₄ d₅ estimator : List ℕ) (notion count : ℕ) (pending waits : List ℕ) → length d ≡ 178 → length estimator ≡ 144 → length pending ≡ 16 → length waits ≡ 16
     → d₁ ≡ sets d 0 estimator → d₂ ≡ set d₁ 144 notion → d₃ ≡ set d₂ 145 count → d₄ ≡ sets d₃ 146 pending → d₅ ≡ sets d₄ 162 waits

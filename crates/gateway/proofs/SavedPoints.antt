@@ -25,7 +25,7 @@ use Rattle.gateway.specs.Layout.{headerAt, estimatorAt, notionAt, enforc
 use Rattle.gateway.specs.Interface.{Decode, Fresh, Accept, Start, Offer}
 use Rattle.gateway.specs.SavedCalls.{AcceptCall, AcceptCalls, weakAt, strongAt, callsOf, OfferCall, OfferCalls, offersOf}
 use Rattle.gateway.proofs.Inverse.{header-length, verdict-back}
-use Rattle.gateway.proofs.Sizes.{decoded-header-back}
+use Rattle.gateway.proofs.Sizes.{header-sized, decoded-header-back}
 use Rattle.gateway.proofs.Numbered.{not-zero}
 use Rattle.gateway.proofs.SavedSteps.{accept-calls, offer-calls}
 
@@ -104,12 +104,12 @@ saved-third-point t header notion before s cs e (Start.started sizes {s = x} (St
     (subst (λ (y : Enforcer). enforcer.Offers t h y (offersOf cs) (enforcerAt e)) (saved .back) calls)
 
 -- WITHIN THE LIMITS AS THEY READ BACK: the bytes that an accepted event leaves, of a saved state within its limits, whatever it grew from
-pub accept-within : (t header : List ℕ) (event : ℕ) (before lent after told : List ℕ) → Accept t header event before lent 0 after told
+pub accept-within : (t header : List ℕ) (symbol : ℕ) (before lent after told : List ℕ) → Accept t header symbol before lent 0 after told
     → (length after ≡ 144) × estimator.Limits (headerAt header .k) (estimatorAt after)
-accept-within t header event before lent after told (Accept.accepted sizes {s = s} (Accepting.accepted so li ob limits b c exact) saved) =
+accept-within t header symbol before lent after told (Accept.accepted sizes {s = s} (Accepting.accepted so li ob limits b c exact) saved) =
     (saved .size, subst (estimator.Limits (headerAt header .k)) (sym (saved .back)) limits)
 
-pub offer-within : (t header : List ℕ) (event : ℕ) (before output lent after left released : List ℕ) → Offer t header event before output lent 0 after left released
+pub offer-within : (t header : List ℕ) (symbol : ℕ) (before output lent after left released : List ℕ) → Offer t header symbol before output lent 0 after left released
     → (length after ≡ 178) × (getD after 144 0 ≤ 1) × limits.Limits (headerAt header .k) (enforcerAt after)
-offer-within t header event before output lent after left released (Offer.released sizes {s = s} (Offering.accepted so li wide ob within bal front rest exact) saved) =
+offer-within t header symbol before output lent after left released (Offer.released sizes {s = s} (Offering.accepted so li wide ob within bal front rest exact) saved) =
     (saved .size, saved .notion-known, subst (limits.Limits (headerAt header .k)) (sym (saved .back)) within)

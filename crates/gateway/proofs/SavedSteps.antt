@@ -27,36 +27,36 @@ module _ (t header : List ℕ) (header-size : length header ≡ 46) where
   head = headerAt header
 
   -- a refusal has no number 0, and leaves the estimator
-  refused-accept : (self : Estimator) (event : ℕ) (told : List ℕ) {n : ℕ} {after : Estimator} → Accepting t head self event (verifier.refused n) after
-      → Accepting t head self event (acceptSaid n told) self
-  refused-accept self event told (Accepting.malformed bad) = Accepting.malformed bad
-  refused-accept self event told (Accepting.not-observable so li never) = Accepting.not-observable so li never
-  refused-accept self event told (Accepting.incompatible so li ob none) = Accepting.incompatible so li ob none
+  refused-accept : (self : Estimator) (symbol : ℕ) (told : List ℕ) {n : ℕ} {after : Estimator} → Accepting t head self symbol (verifier.refused n) after
+      → Accepting t head self symbol (acceptSaid n told) self
+  refused-accept self symbol told (Accepting.malformed bad) = Accepting.malformed bad
+  refused-accept self symbol told (Accepting.not-observable so li never) = Accepting.not-observable so li never
+  refused-accept self symbol told (Accepting.incompatible so li ob none) = Accepting.incompatible so li ob none
 
   -- one call of accept
-  record OneAccept (s : List ℕ) (event answer : ℕ) (m told : List ℕ) : Type 0 where
-    accepting : Accepting t head (estimatorAt s) event (acceptSaid answer told) (estimatorAt m)
+  record OneAccept (s : List ℕ) (symbol answer : ℕ) (m told : List ℕ) : Type 0 where
+    accepting : Accepting t head (estimatorAt s) symbol (acceptSaid answer told) (estimatorAt m)
     size : length m ≡ 144
 
-  one-accept : (s : List ℕ) (event : ℕ) (lent : List ℕ) (answer : ℕ) (m told : List ℕ) → length s ≡ 144 → length lent ≡ 2 → Accept t header event s lent answer m told → OneAccept s event answer m told
-  one-accept s event lent answer m told k two (Accept.size bad) = absurd (bad (record { header-size = header-size; estimator-size = k; verdicts-size = two }))
-  one-accept s event lent answer m told k two (Accept.refused sizes x) = record { accepting = refused-accept (estimatorAt s) event lent x; size = k }
-  one-accept s event lent answer m told k two (Accept.accepted sizes {weak = v} {strong = w} (Accepting.accepted so li ob after b c exact) saved) =
+  one-accept : (s : List ℕ) (symbol : ℕ) (lent : List ℕ) (answer : ℕ) (m told : List ℕ) → length s ≡ 144 → length lent ≡ 2 → Accept t header symbol s lent answer m told → OneAccept s symbol answer m told
+  one-accept s symbol lent answer m told k two (Accept.size bad) = absurd (bad (record { header-size = header-size; estimator-size = k; verdicts-size = two }))
+  one-accept s symbol lent answer m told k two (Accept.refused sizes x) = record { accepting = refused-accept (estimatorAt s) symbol lent x; size = k }
+  one-accept s symbol lent answer m told k two (Accept.accepted sizes {weak = v} {strong = w} (Accepting.accepted so li ob after b c exact) saved) =
       record { accepting = rw (told-back (head .k) v w (so .back) b c, saved .back) (Accepting.accepted so li ob after b c exact); size = saved .size }
 
   -- one that lends another number of verdict bytes
-  unsized-accept : (s : List ℕ) (event : ℕ) (lent : List ℕ) (answer : ℕ) (m told : List ℕ) → (length lent ≡ 2 → ⊥) → Accept t header event s lent answer m told → m ≡ s
-  unsized-accept s event lent answer m told n (Accept.size bad) = refl
-  unsized-accept s event lent answer m told n (Accept.refused sizes x) = refl
-  unsized-accept s event lent answer m told n (Accept.accepted sizes x saved) = absurd (n (sizes .verdicts-size))
+  unsized-accept : (s : List ℕ) (symbol : ℕ) (lent : List ℕ) (answer : ℕ) (m told : List ℕ) → (length lent ≡ 2 → ⊥) → Accept t header symbol s lent answer m told → m ≡ s
+  unsized-accept s symbol lent answer m told n (Accept.size bad) = refl
+  unsized-accept s symbol lent answer m told n (Accept.refused sizes x) = refl
+  unsized-accept s symbol lent answer m told n (Accept.accepted sizes x saved) = absurd (n (sizes .verdicts-size))
 
   pub accept-calls : (s : List ℕ) (cs : List AcceptCall) (e : List ℕ) → length s ≡ 144 → AcceptCalls t header s cs e → Calls t head (estimatorAt s) (callsOf cs) (estimatorAt e)
   accept-calls s cs e k AcceptCalls.done = Calls.done
   accept-calls s cs e k (AcceptCalls.next {m = m} {c = c} {cs = rest} two a f) =
-      let x = one-accept s (c .event) (c .lent) (c .answer) m (c .told) k two a in
+      let x = one-accept s (c .symbol) (c .lent) (c .answer) m (c .told) k two a in
       Calls.next (x .accepting) (accept-calls m rest e (x .size) f)
   accept-calls s cs e k (AcceptCalls.unsized {m = m} {c = c} n a f) =
-      let same = unsized-accept s (c .event) (c .lent) (c .answer) m (c .told) n a in
+      let same = unsized-accept s (c .symbol) (c .lent) (c .answer) m (c .told) n a in
       subst (λ (y : List ℕ). Calls t head (estimatorAt y) (callsOf cs) (estimatorAt e)) same (accept-calls m cs e (subst (λ (y : List ℕ). length y ≡ 144) (sym same) k) f)
 
   -- bytes of the length of an enforcer, with a notion
@@ -65,37 +65,37 @@ module _ (t header : List ℕ) (header-size : length header ≡ 46) where
     pub known : getD s 144 0 ≤ 1
 
   -- a refusal has no number 0, and leaves the enforcer
-  refused-offer : (self : Enforcer) (event : ℕ) (output released : List ℕ) {n : ℕ} {after : Enforcer} {left : List ℕ} → Offering t head self event output (offering.refused n) after left
-      → Offering t head self event output (offerSaid n released) self left
-  refused-offer self event output released (Offering.malformed bad) = Offering.malformed bad
-  refused-offer self event output released (Offering.output-too-small so li few) = Offering.output-too-small so li few
-  refused-offer self event output released (Offering.not-observable so li wide never) = Offering.not-observable so li wide never
-  refused-offer self event output released (Offering.incompatible so li wide ob none) = Offering.incompatible so li wide ob none
+  refused-offer : (self : Enforcer) (symbol : ℕ) (output released : List ℕ) {n : ℕ} {after : Enforcer} {left : List ℕ} → Offering t head self symbol output (offering.refused n) after left
+      → Offering t head self symbol output (offerSaid n released) self left
+  refused-offer self symbol output released (Offering.malformed bad) = Offering.malformed bad
+  refused-offer self symbol output released (Offering.output-too-small so li few) = Offering.output-too-small so li few
+  refused-offer self symbol output released (Offering.not-observable so li wide never) = Offering.not-observable so li wide never
+  refused-offer self symbol output released (Offering.incompatible so li wide ob none) = Offering.incompatible so li wide ob none
 
   -- one call of offer
-  record OneOffer (s : List ℕ) (event : ℕ) (output : List ℕ) (answer : ℕ) (m left released : List ℕ) : Type 0 where
-    offering : Offering t head (enforcerAt s) event output (offerSaid answer released) (enforcerAt m) left
+  record OneOffer (s : List ℕ) (symbol : ℕ) (output : List ℕ) (answer : ℕ) (m left released : List ℕ) : Type 0 where
+    offering : Offering t head (enforcerAt s) symbol output (offerSaid answer released) (enforcerAt m) left
     keeps : KeepsEnforcer m
 
-  one-offer : (s : List ℕ) (event : ℕ) (output lent : List ℕ) (answer : ℕ) (m left released : List ℕ) → KeepsEnforcer s → length lent ≡ 1
-      → Offer t header event s output lent answer m left released → OneOffer s event output answer m left released
-  one-offer s event output lent answer m left released k one (Offer.size bad) =
+  one-offer : (s : List ℕ) (symbol : ℕ) (output lent : List ℕ) (answer : ℕ) (m left released : List ℕ) → KeepsEnforcer s → length lent ≡ 1
+      → Offer t header symbol s output lent answer m left released → OneOffer s symbol output answer m left released
+  one-offer s symbol output lent answer m left released k one (Offer.size bad) =
       absurd (bad (record { header-size = header-size; enforcer-size = k .size; notion-known = k .known; released-size = one }))
-  one-offer s event output lent answer m left released k one (Offer.refused sizes x) = record { offering = refused-offer (enforcerAt s) event output lent x; keeps = k }
-  one-offer s event output lent answer m left released k one (Offer.released sizes (Offering.accepted so li wide ob after bal front rest exact) saved) =
+  one-offer s symbol output lent answer m left released k one (Offer.refused sizes x) = record { offering = refused-offer (enforcerAt s) symbol output lent x; keeps = k }
+  one-offer s symbol output lent answer m left released k one (Offer.released sizes (Offering.accepted so li wide ob after bal front rest exact) saved) =
       record { offering = rw (saved .back) (Offering.accepted so li wide ob after bal front rest exact); keeps = record { size = saved .size; known = saved .notion-known } }
 
   -- one that lends another number of bytes for the number of released events
-  unsized-offer : (s : List ℕ) (event : ℕ) (output lent : List ℕ) (answer : ℕ) (m left released : List ℕ) → (length lent ≡ 1 → ⊥) → Offer t header event s output lent answer m left released → m ≡ s
-  unsized-offer s event output lent answer m left released n (Offer.size bad) = refl
-  unsized-offer s event output lent answer m left released n (Offer.refused sizes x) = refl
-  unsized-offer s event output lent answer m left released n (Offer.released sizes x saved) = absurd (n (sizes .released-size))
+  unsized-offer : (s : List ℕ) (symbol : ℕ) (output lent : List ℕ) (answer : ℕ) (m left released : List ℕ) → (length lent ≡ 1 → ⊥) → Offer t header symbol s output lent answer m left released → m ≡ s
+  unsized-offer s symbol output lent answer m left released n (Offer.size bad) = refl
+  unsized-offer s symbol output lent answer m left released n (Offer.refused sizes x) = refl
+  unsized-offer s symbol output lent answer m left released n (Offer.released sizes x saved) = absurd (n (sizes .released-size))
 
   pub offer-calls : (s : List ℕ) (cs : List OfferCall) (e : List ℕ) → KeepsEnforcer s → OfferCalls t header s cs e → Offers t head (enforcerAt s) (offersOf cs) (enforcerAt e)
   offer-calls s cs e k OfferCalls.done = Chain.done
   offer-calls s cs e k (OfferCalls.next {m = m} {c = c} {cs = rest} one a f) =
-      let x = one-offer s (c .event) (c .output) (c .lent) (c .answer) m (c .left) (c .released) k one a in
+      let x = one-offer s (c .symbol) (c .output) (c .lent) (c .answer) m (c .left) (c .released) k one a in
       Chain.next (x .offering) (offer-calls m rest e (x .keeps) f)
   offer-calls s cs e k (OfferCalls.unsized {m = m} {c = c} n a f) =
-      let same = unsized-offer s (c .event) (c .output) (c .lent) (c .answer) m (c .left) (c .released) n a in
+      let same = unsized-offer s (c .symbol) (c .output) (c .lent) (c .answer) m (c .left) (c .released) n a in
       subst (λ (y : List ℕ). Offers t head (enforcerAt y) (offersOf cs) (enforcerAt e)) same (offer-calls m cs e (subst KeepsEnforcer (sym same) k) f)

@@ -41,13 +41,13 @@ pub data Fresh (t header estimator verdicts : List ℕ) : ℕ → List ℕ → L
       → Fresh t header estimator verdicts 0 (estimatorBytes s) (verdictByte weak ∷ verdictByte strong ∷ [])
 
 -- accept: the same, of the estimator that the bytes hold and an event
-pub data Accept (t header : List ℕ) (event : ℕ) (estimator verdicts : List ℕ) : ℕ → List ℕ → List ℕ → Type 0 where
-  size : (VerifierSizes header estimator verdicts → ⊥) → Accept t header event estimator verdicts 9 estimator verdicts
-  refused : VerifierSizes header estimator verdicts → {n : ℕ} {s : Estimator} → Accepting t (headerAt header) (estimatorAt estimator) event (verifier.refused n) s
-      → Accept t header event estimator verdicts n estimator verdicts
+pub data Accept (t header : List ℕ) (symbol : ℕ) (estimator verdicts : List ℕ) : ℕ → List ℕ → List ℕ → Type 0 where
+  size : (VerifierSizes header estimator verdicts → ⊥) → Accept t header symbol estimator verdicts 9 estimator verdicts
+  refused : VerifierSizes header estimator verdicts → {n : ℕ} {s : Estimator} → Accepting t (headerAt header) (estimatorAt estimator) symbol (verifier.refused n) s
+      → Accept t header symbol estimator verdicts n estimator verdicts
   accepted : VerifierSizes header estimator verdicts → {weak strong : Steps} {s : Estimator}
-      → Accepting t (headerAt header) (estimatorAt estimator) event (verifier.verdicts weak strong) s → EstimatorSaved s
-      → Accept t header event estimator verdicts 0 (estimatorBytes s) (verdictByte weak ∷ verdictByte strong ∷ [])
+      → Accepting t (headerAt header) (estimatorAt estimator) symbol (verifier.verdicts weak strong) s → EstimatorSaved s
+      → Accept t header symbol estimator verdicts 0 (estimatorBytes s) (verdictByte weak ∷ verdictByte strong ∷ [])
 
 -- the slices of a start have the lengths of their layouts, and the notion is one
 pub record StartSizes (header : List ℕ) (notion : ℕ) (enforcer : List ℕ) : Type 0 where
@@ -77,10 +77,10 @@ pub record OfferSizes (header enforcer released : List ℕ) : Type 0 where
   pub released-size : length released ≡ 1
 
 -- offer: the answer, the enforcer's bytes after, the output after and the number of released events after
-pub data Offer (t header : List ℕ) (event : ℕ) (enforcer output released : List ℕ) : ℕ → List ℕ → List ℕ → List ℕ → Type 0 where
-  size : (OfferSizes header enforcer released → ⊥) → Offer t header event enforcer output released 9 enforcer output released
+pub data Offer (t header : List ℕ) (symbol : ℕ) (enforcer output released : List ℕ) : ℕ → List ℕ → List ℕ → List ℕ → Type 0 where
+  size : (OfferSizes header enforcer released → ⊥) → Offer t header symbol enforcer output released 9 enforcer output released
   refused : OfferSizes header enforcer released → {n : ℕ} {s : Enforcer}
-      → Offering t (headerAt header) (enforcerAt enforcer) event output (offering.refused n) s output → Offer t header event enforcer output released n enforcer output released
+      → Offering t (headerAt header) (enforcerAt enforcer) symbol output (offering.refused n) s output → Offer t header symbol enforcer output released n enforcer output released
   released : OfferSizes header enforcer released → {f : ℕ} {s : Enforcer} {left : List ℕ}
-      → Offering t (headerAt header) (enforcerAt enforcer) event output (offering.released f) s left → EnforcerSaved s
-      → Offer t header event enforcer output released 0 (enforcerBytes s) left (f ∷ [])
+      → Offering t (headerAt header) (enforcerAt enforcer) symbol output (offering.released f) s left → EnforcerSaved s
+      → Offer t header symbol enforcer output released 0 (enforcerBytes s) left (f ∷ [])

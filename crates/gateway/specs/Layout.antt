@@ -44,14 +44,14 @@ headerBytes h = h .initial ∷ h .k ∷ bytesOf 8 (h .secret) ++ (bytesOf 4 (h .
 
 -- an estimator: 144 bytes. The number of remembered events, 15 events, the newest first, 16 state sets (8 bytes each)
 abbrev pub estimatorAt : List ℕ → Estimator
-estimatorAt bytes = record { count = getD bytes 0 0; events = bytesAt bytes 1 15; entries = wordsAt bytes 16 16 }
+estimatorAt bytes = record { count = getD bytes 0 0; symbols = bytesAt bytes 1 15; entries = wordsAt bytes 16 16 }
 
 abbrev pub estimatorBytes : Estimator → List ℕ
-estimatorBytes s = s .count ∷ s .events ++ wordsBytes (s .entries)
+estimatorBytes s = s .count ∷ s .symbols ++ wordsBytes (s .entries)
 
 -- an estimator as the code has it: the arrays have their sizes, and the state sets are words
 pub record EstimatorSized (s : Estimator) : Type 0 where
-  pub events : length (s .events) ≡ 15
+  pub symbols : length (s .symbols) ≡ 15
   pub entries : length (s .entries) ≡ 16
   pub words : (l : ℕ) → getD (s .entries) l 0 < 2 ^ 64
 

@@ -14,7 +14,7 @@ use Rattle.gateway.specs.Interface.{Accept, Offer}
 
 -- one call of accept: the event, the bytes lent for the verdicts, the answer, and those bytes after it
 pub record AcceptCall : Type 0 where
-  pub event : ℕ
+  pub symbol : ℕ
   pub lent : List ℕ
   pub answer : ℕ
   pub told : List ℕ
@@ -22,10 +22,10 @@ pub record AcceptCall : Type 0 where
 -- calls of accept, one after another: the estimator's bytes before them, the calls that lent 2 bytes for the verdicts, and the estimator's bytes after them
 pub data AcceptCalls (t header : List ℕ) : List ℕ → List AcceptCall → List ℕ → Type 0 where
   done : {s : List ℕ} → AcceptCalls t header s [] s
-  next : {s m e : List ℕ} {c : AcceptCall} {cs : List AcceptCall} → length (c .lent) ≡ 2 → Accept t header (c .event) s (c .lent) (c .answer) m (c .told)
+  next : {s m e : List ℕ} {c : AcceptCall} {cs : List AcceptCall} → length (c .lent) ≡ 2 → Accept t header (c .symbol) s (c .lent) (c .answer) m (c .told)
       → AcceptCalls t header m cs e → AcceptCalls t header s (c ∷ cs) e
   -- a call that lent another number of bytes, and so got 9, may stand between them; it is not listed
-  unsized : {s m e : List ℕ} {c : AcceptCall} {cs : List AcceptCall} → (length (c .lent) ≡ 2 → ⊥) → Accept t header (c .event) s (c .lent) (c .answer) m (c .told)
+  unsized : {s m e : List ℕ} {c : AcceptCall} {cs : List AcceptCall} → (length (c .lent) ≡ 2 → ⊥) → Accept t header (c .symbol) s (c .lent) (c .answer) m (c .told)
       → AcceptCalls t header m cs e → AcceptCalls t header s cs e
 
 -- the verdicts that two bytes hold
@@ -43,11 +43,11 @@ acceptSaid (suc n) told = verifier.refused (suc n)
 -- what was offered and said, as the verifier's promise has it
 abbrev pub callsOf : List AcceptCall → List Call
 callsOf [] = []
-callsOf (c ∷ cs) = record { byte = c .event; says = acceptSaid (c .answer) (c .told) } ∷ callsOf cs
+callsOf (c ∷ cs) = record { byte = c .symbol; says = acceptSaid (c .answer) (c .told) } ∷ callsOf cs
 
 -- one call of offer: the event, the output and the byte lent for the number of released events, the answer, and both after it
 pub record OfferCall : Type 0 where
-  pub event : ℕ
+  pub symbol : ℕ
   pub output : List ℕ
   pub lent : List ℕ
   pub answer : ℕ
@@ -58,10 +58,10 @@ pub record OfferCall : Type 0 where
 pub data OfferCalls (t header : List ℕ) : List ℕ → List OfferCall → List ℕ → Type 0 where
   done : {s : List ℕ} → OfferCalls t header s [] s
   next : {s m e : List ℕ} {c : OfferCall} {cs : List OfferCall} → length (c .lent) ≡ 1
-      → Offer t header (c .event) s (c .output) (c .lent) (c .answer) m (c .left) (c .released) → OfferCalls t header m cs e → OfferCalls t header s (c ∷ cs) e
+      → Offer t header (c .symbol) s (c .output) (c .lent) (c .answer) m (c .left) (c .released) → OfferCalls t header m cs e → OfferCalls t header s (c ∷ cs) e
   -- a call that lent another number of bytes, and so got 9, may stand between them; it is not listed
   unsized : {s m e : List ℕ} {c : OfferCall} {cs : List OfferCall} → (length (c .lent) ≡ 1 → ⊥)
-      → Offer t header (c .event) s (c .output) (c .lent) (c .answer) m (c .left) (c .released) → OfferCalls t header m cs e → OfferCalls t header s cs e
+      → Offer t header (c .symbol) s (c .output) (c .lent) (c .answer) m (c .left) (c .released) → OfferCalls t header m cs e → OfferCalls t header s cs e
 
 -- what an answer says: 0 that the byte is the number of released events, and else the number of a refusal
 abbrev pub offerSaid : ℕ → List ℕ → offering.Said
@@ -71,4 +71,4 @@ offerSaid (suc n) released = offering.refused (suc n)
 -- what was offered, said and left, as the enforcer's promise has it
 abbrev pub offersOf : List OfferCall → List enforcer.Offer
 offersOf [] = []
-offersOf (c ∷ cs) = record { byte = c .event; output = c .output; says = offerSaid (c .answer) (c .released); left = c .left } ∷ offersOf cs
+offersOf (c ∷ cs) = record { byte = c .symbol; output = c .output; says = offerSaid (c .answer) (c .released); left = c .left } ∷ offersOf cs

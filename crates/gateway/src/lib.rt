@@ -189,11 +189,11 @@ fn read_estimator(bytes: &[u8]) -> Estimator
     requires { ⌜ 144 ≤ length (now bytes) ⌝ }
     ensures { λ r. ⌜ r ≡ estimatorAt (now (bytes .entry)) ⌝ }
 {
-    let events = bytes15(bytes, 1);
+    let symbols = bytes15(bytes, 1);
     let entries = words16(bytes, 16);
     Estimator {
         count: bytes[0],
-        events: events,
+        symbols: symbols,
         entries: entries,
     }
 }
@@ -204,8 +204,8 @@ fn write_estimator(bytes: &mut [u8], estimator: Estimator)
     ensures { λ _. ⌜ EstimatorSized estimator × (now (bytes .exit) ≡ sets (now (bytes .entry)) 0 (estimatorBytes estimator)) ⌝ }
 {
     put(bytes, 0, estimator.count);
-    let events = estimator.events;
-    store15(bytes, 1, events);
+    let symbols = estimator.symbols;
+    store15(bytes, 1, symbols);
     let entries = estimator.entries;
     store_words(bytes, 16, entries);
 }
@@ -335,11 +335,11 @@ pub extern "C" fn opacity_fresh(
 pub extern "C" fn opacity_accept(
     table: &[u64],
     header: &[u8],
-    event: u8,
+    symbol: u8,
     estimator: &mut [u8],
     verdicts: &mut [u8],
 ) -> u8
-    ensures { λ r. ⌜ Accept (now (table .entry)) (now (header .entry)) event (now (estimator .entry)) (now (verdicts .entry)) r (now (estimator .exit)) (now (verdicts .exit)) ⌝ }
+    ensures { λ r. ⌜ Accept (now (table .entry)) (now (header .entry)) symbol (now (estimator .entry)) (now (verdicts .entry)) r (now (estimator .exit)) (now (verdicts .exit)) ⌝ }
 {
     if header.len() != 46 {
         return 9;
@@ -351,7 +351,7 @@ pub extern "C" fn opacity_accept(
         return 9;
     }
     let before = read_estimator(estimator);
-    let reply = before.accept(table, read_header(header), event);
+    let reply = before.accept(table, read_header(header), symbol);
     let answer = reply.answer;
     match answer {
         Answer::Refused(refusal) => automaton::number(refusal),
@@ -395,12 +395,12 @@ pub extern "C" fn opacity_start(table: &[u64], header: &[u8], notion: u8, enforc
 pub extern "C" fn opacity_offer(
     table: &[u64],
     header: &[u8],
-    event: u8,
+    symbol: u8,
     enforcer: &mut [u8],
     output: &mut [u8],
     released: &mut [u8],
 ) -> u8
-    ensures { λ r. ⌜ Offer (now (table .entry)) (now (header .entry)) event (now (enforcer .entry)) (now (output .entry)) (now (released .entry)) r (now (enforcer .exit)) (now (output .exit)) (now (released .exit)) ⌝ }
+    ensures { λ r. ⌜ Offer (now (table .entry)) (now (header .entry)) symbol (now (enforcer .entry)) (now (output .entry)) (now (released .entry)) r (now (enforcer .exit)) (now (output .exit)) (now (released .exit)) ⌝ }
 {
     if header.len() != 46 {
         return 9;
@@ -415,7 +415,7 @@ pub extern "C" fn opacity_offer(
         return 9;
     }
     let before = read_enforcer(enforcer);
-    let given = before.offer(table, read_header(header), event, output);
+    let given = before.offer(table, read_header(header), symbol, output);
     let answer = given.answer;
     match answer {
         OfferAnswer::Refused(refusal) => automaton::number(refusal),

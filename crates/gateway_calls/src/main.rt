@@ -405,7 +405,7 @@ fn unchanged(memory: &[u64; 36864], slot: usize, before: &[u64; 36864]) -> bool 
 
 // Whether, of the events that were pending and the new one behind them, the first ones stand at the front of the output, with what it had behind
 // them, and the others are pending.
-fn release_allowed(memory: &[u64; 36864], event: u8, before: &[u64; 36864]) -> bool {
+fn release_allowed(memory: &[u64; 36864], symbol: u8, before: &[u64; 36864]) -> bool {
     let count = wide(byte_of(before, ENFORCER, PENDING));
     let released = wide(byte_of(memory, RELEASED, 0));
     let pending = wide(byte_of(memory, ENFORCER, PENDING));
@@ -417,7 +417,7 @@ fn release_allowed(memory: &[u64; 36864], event: u8, before: &[u64; 36864]) -> b
         &mut queue,
         ENFORCER,
         PENDING + 1 + count,
-        wide(event) as u64,
+        wide(symbol) as u64,
     );
     let front = matches(memory, OUTPUT, 0, &queue, ENFORCER, PENDING + 1, released);
     let behind = matches(
@@ -442,7 +442,7 @@ fn release_allowed(memory: &[u64; 36864], event: u8, before: &[u64; 36864]) -> b
 }
 
 // Whether what a call answered and left is allowed.
-fn allowed(call: u64, event: u8, answer: u8, memory: &[u64; 36864], before: &[u64; 36864]) -> bool {
+fn allowed(call: u64, symbol: u8, answer: u8, memory: &[u64; 36864], before: &[u64; 36864]) -> bool {
     if answer == 7 {
         let slots = slots_of(call);
         let states = unchanged(memory, slots.first, before)
@@ -453,15 +453,15 @@ fn allowed(call: u64, event: u8, answer: u8, memory: &[u64; 36864], before: &[u6
         return false;
     }
     if call == OFFER {
-        return release_allowed(memory, event, before);
+        return release_allowed(memory, symbol, before);
     }
     verdicts_allowed(memory)
 }
 
-fn open_answer_of(call: u64, event: u8, memory: &mut [u64; 36864], sizes: &[usize; 9]) -> u8 {
+fn open_answer_of(call: u64, symbol: u8, memory: &mut [u64; 36864], sizes: &[usize; 9]) -> u8 {
     let before = *memory;
-    let answer = answer_of(call, event, memory, sizes);
-    let fine = allowed(call, event, answer, memory, &before);
+    let answer = answer_of(call, symbol, memory, sizes);
+    let fine = allowed(call, symbol, answer, memory, &before);
     let within = answer_of(call, 255, memory, sizes) == 6;
     *memory = before;
     if fine & within {

@@ -65,27 +65,27 @@ pub near-gained : (p : Automaton) (from : ℕ) (entries silent : List ℕ) (r : 
 near-gained p from entries silent r g inside = record { closed = gained-closed p from silent r g; inside = λ l q h i. g .more q (inside l q h i) }
 
 -- the verdict that was found for an estimator, as that of the event that led to it
-pub found-by : (notion : Notion) (t : List ℕ) (h : Header) (self : Estimator) (event : ℕ) (s : Estimator) (v : Verdict) → Moved t h self event s
-    → Found notion (automatonOf t h) (h .secret) (s .count) s v → TellsBy notion t h self event (stepsOf v)
-found-by notion t h self event s v m f =
+pub found-by : (notion : Notion) (t : List ℕ) (h : Header) (self : Estimator) (symbol : ℕ) (s : Estimator) (v : Verdict) → Moved t h self symbol s
+    → Found notion (automatonOf t h) (h .secret) (s .count) s v → TellsBy notion t h self symbol (stepsOf v)
+found-by notion t h self symbol s v m f =
     record {
       bounded = bounded-up _ _ (stepsOf v) (m .limits-after .few) (f .bounded);
-      tells = λ trace g. found-tells notion _ _ _ (trace ++ event ∷ []) s v (m .grown trace g) f;
+      tells = λ trace g. found-tells notion _ _ _ (trace ++ symbol ∷ []) s v (m .grown trace g) f;
     }
 
 pub given-by : {notion : Notion} {a : Asked} {v : Verdict} {P Q : Type 0} → (P → Q) → Given notion a v P → Given notion a v Q
 given-by f g = record { found = λ asks. f (g .found asks); silent = g .silent }
 
 -- a refusal
-pub refused-asked : (a : Asked) (t : List ℕ) (h : Header) (self : Estimator) (event : ℕ) (refusal : Refusal) (r : Reply) → r .estimator ≡ self → r .answer ≡ answer.Refused refusal
-    → Accepting t h self event (refused (numberOf refusal)) self → AcceptingAsked a t h self event (r .answer) (r .estimator)
-refused-asked a t h self event refusal r e f x = rw (e, f) x
+pub refused-asked : (a : Asked) (t : List ℕ) (h : Header) (self : Estimator) (symbol : ℕ) (refusal : Refusal) (r : Reply) → r .estimator ≡ self → r .answer ≡ answer.Refused refusal
+    → Accepting t h self symbol (refused (numberOf refusal)) self → AcceptingAsked a t h self symbol (r .answer) (r .estimator)
+refused-asked a t h self symbol refusal r e f x = rw (e, f) x
 
 -- both notions make both verdicts
-pub asked-both : (t : List ℕ) (h : Header) (self : Estimator) (event : ℕ) (a : Asked) (r : Answer) (s : Estimator) → Asks Weak a → Asks Strong a
-    → AcceptingAsked a t h self event r s → Accepting t h self event (said r) s
-asked-both t h self event a (answer.Refused n) s weak strong x = x
-asked-both t h self event a (answer.Accepted v) s weak strong x =
+pub asked-both : (t : List ℕ) (h : Header) (self : Estimator) (symbol : ℕ) (a : Asked) (r : Answer) (s : Estimator) → Asks Weak a → Asks Strong a
+    → AcceptingAsked a t h self symbol r s → Accepting t h self symbol (said r) s
+asked-both t h self symbol a (answer.Refused n) s weak strong x = x
+asked-both t h self symbol a (answer.Accepted v) s weak strong x =
     let m = x .0 in
     let w = x .1 Weak .found weak in
     let u = x .1 Strong .found strong in
@@ -99,22 +99,22 @@ asks-one : (notion : Notion) → Asks notion (askFor notion)
 asks-one Weak = refl
 asks-one Strong = refl
 
-pub asked-refused : (notion : Notion) (t : List ℕ) (h : Header) (self : Estimator) (event : ℕ) (a : Asked) (r : Answer) (s : Estimator) (n : Refusal)
-    → AcceptingAsked a t h self event r s → r ≡ answer.Refused n → AcceptingBy notion t h self event (saidBy (by.Refused n)) s
-asked-refused notion t h self event a r s n x e = turned-back (subst (λ (y : Answer). AcceptingAsked a t h self event y s) e x)
+pub asked-refused : (notion : Notion) (t : List ℕ) (h : Header) (self : Estimator) (symbol : ℕ) (a : Asked) (r : Answer) (s : Estimator) (n : Refusal)
+    → AcceptingAsked a t h self symbol r s → r ≡ answer.Refused n → AcceptingBy notion t h self symbol (saidBy (by.Refused n)) s
+asked-refused notion t h self symbol a r s n x e = turned-back (subst (λ (y : Answer). AcceptingAsked a t h self symbol y s) e x)
 
-pub asked-one : (notion : Notion) (t : List ℕ) (h : Header) (self : Estimator) (event : ℕ) (a : Asked) (r : Answer) (s : Estimator) (vs : Verdicts) (v : Verdict)
-    → a ≡ askFor notion → AcceptingAsked a t h self event r s → r ≡ answer.Accepted vs → v ≡ chosen notion vs → AcceptingBy notion t h self event (saidBy (by.Accepted v)) s
-asked-one notion t h self event a r s vs v one x e is =
-    let y = subst (λ (z : Answer). AcceptingAsked a t h self event z s) e x in
+pub asked-one : (notion : Notion) (t : List ℕ) (h : Header) (self : Estimator) (symbol : ℕ) (a : Asked) (r : Answer) (s : Estimator) (vs : Verdicts) (v : Verdict)
+    → a ≡ askFor notion → AcceptingAsked a t h self symbol r s → r ≡ answer.Accepted vs → v ≡ chosen notion vs → AcceptingBy notion t h self symbol (saidBy (by.Accepted v)) s
+asked-one notion t h self symbol a r s vs v one x e is =
+    let y = subst (λ (z : Answer). AcceptingAsked a t h self symbol z s) e x in
     let told = y .1 notion .found (subst (Asks notion) (sym one) (asks-one notion)) in
-    accepted-by (y .0) (subst (λ (z : Verdict). TellsBy notion t h self event (stepsOf z)) (sym is) told)
+    accepted-by (y .0) (subst (λ (z : Verdict). TellsBy notion t h self symbol (stepsOf z)) (sym is) told)
 
 -- and the other way round
-pub refused-of : {notion : Notion} {t : List ℕ} {h : Header} {self : Estimator} {event n : ℕ} {s : Estimator} → AcceptingBy notion t h self event (refused-by n) s
-    → Accepting t h self event (refused n) s
+pub refused-of : {notion : Notion} {t : List ℕ} {h : Header} {self : Estimator} {symbol n : ℕ} {s : Estimator} → AcceptingBy notion t h self symbol (refused-by n) s
+    → Accepting t h self symbol (refused n) s
 refused-of (turned-back x) = x
 
-pub accepted-of : {notion : Notion} {t : List ℕ} {h : Header} {self : Estimator} {event : ℕ} {v : Steps} {s : Estimator} → AcceptingBy notion t h self event (verdict v) s
-    → Moved t h self event s × TellsBy notion t h self event v
+pub accepted-of : {notion : Notion} {t : List ℕ} {h : Header} {self : Estimator} {symbol : ℕ} {v : Steps} {s : Estimator} → AcceptingBy notion t h self symbol (verdict v) s
+    → Moved t h self symbol s × TellsBy notion t h self symbol v
 accepted-of (accepted-by m w) = (m, w)

@@ -43,16 +43,16 @@ pub data Opening (t : List ℕ) (h : Header) : Said → Estimator → Type 0 whe
   opened : {weak strong : Steps} {s : Estimator} → Sound t h → Limits (h .k) s → Exact t h [] weak strong s → Opening t h (verdicts weak strong) s
 
 -- an event offered to an estimator: the answer, and the estimator after it. Of one that is Grown by no trace only the limits are said
-pub data Accepting (t : List ℕ) (h : Header) (self : Estimator) (event : ℕ) : Said → Estimator → Type 0 where
-  malformed : (Sound t h × Limits (h .k) self → ⊥) → Accepting t h self event (refused 9) self
-  not-observable : Sound t h → Limits (h .k) self → (Observable h event → ⊥) → Accepting t h self event (refused 6) self
-  incompatible : Sound t h → Limits (h .k) self → Observable h event
-      → ((trace : List ℕ) → Grown (automatonOf t h) (h .k) trace self → Impossible (automatonOf t h) (trace ++ event ∷ []))
-      → Accepting t h self event (refused 7) self
-  accepted : {weak strong : Steps} {s : Estimator} → Sound t h → Limits (h .k) self → Observable h event
+pub data Accepting (t : List ℕ) (h : Header) (self : Estimator) (symbol : ℕ) : Said → Estimator → Type 0 where
+  malformed : (Sound t h × Limits (h .k) self → ⊥) → Accepting t h self symbol (refused 9) self
+  not-observable : Sound t h → Limits (h .k) self → (Observable h symbol → ⊥) → Accepting t h self symbol (refused 6) self
+  incompatible : Sound t h → Limits (h .k) self → Observable h symbol
+      → ((trace : List ℕ) → Grown (automatonOf t h) (h .k) trace self → Impossible (automatonOf t h) (trace ++ symbol ∷ []))
+      → Accepting t h self symbol (refused 7) self
+  accepted : {weak strong : Steps} {s : Estimator} → Sound t h → Limits (h .k) self → Observable h symbol
       → Limits (h .k) s → Bounded (h .k) weak → Bounded (h .k) strong
-      → ((trace : List ℕ) → Grown (automatonOf t h) (h .k) trace self → Exact t h (trace ++ event ∷ []) weak strong s)
-      → Accepting t h self event (verdicts weak strong) s
+      → ((trace : List ℕ) → Grown (automatonOf t h) (h .k) trace self → Exact t h (trace ++ symbol ∷ []) weak strong s)
+      → Accepting t h self symbol (verdicts weak strong) s
 
 -- an answer with the verdict by one notion says: the number of a refusal, or the steps of that verdict
 pub data SaidBy : Type 0 where
@@ -68,19 +68,19 @@ chosen Weak v = v .weak
 chosen Strong v = v .strong
 
 -- an event that was accepted: the estimator after it, whatever is asked for. That it has grown says that some run is compatible (Grown.possible)
-pub record Moved (t : List ℕ) (h : Header) (self : Estimator) (event : ℕ) (s : Estimator) : Type 0 where
+pub record Moved (t : List ℕ) (h : Header) (self : Estimator) (symbol : ℕ) (s : Estimator) : Type 0 where
   pub sound : Sound t h
   pub limits : Limits (h .k) self
-  pub observable : Observable h event
+  pub observable : Observable h symbol
   pub limits-after : Limits (h .k) s
-  pub grown : (trace : List ℕ) → Grown (automatonOf t h) (h .k) trace self → Grown (automatonOf t h) (h .k) (trace ++ event ∷ []) s
+  pub grown : (trace : List ℕ) → Grown (automatonOf t h) (h .k) trace self → Grown (automatonOf t h) (h .k) (trace ++ symbol ∷ []) s
 
 -- and its verdict by one notion
-pub record TellsBy (notion : Notion) (t : List ℕ) (h : Header) (self : Estimator) (event : ℕ) (v : Steps) : Type 0 where
+pub record TellsBy (notion : Notion) (t : List ℕ) (h : Header) (self : Estimator) (symbol : ℕ) (v : Steps) : Type 0 where
   pub bounded : Bounded (h .k) v
-  pub tells : (trace : List ℕ) → Grown (automatonOf t h) (h .k) trace self → Tells notion (automatonOf t h) (h .secret) (h .k) (trace ++ event ∷ []) v
+  pub tells : (trace : List ℕ) → Grown (automatonOf t h) (h .k) trace self → Tells notion (automatonOf t h) (h .secret) (h .k) (trace ++ symbol ∷ []) v
 
 -- an event offered to an estimator, with the verdict by one notion: refusals as above, and an accepted event with that verdict
-pub data AcceptingBy (notion : Notion) (t : List ℕ) (h : Header) (self : Estimator) (event : ℕ) : SaidBy → Estimator → Type 0 where
-  turned-back : {n : ℕ} {s : Estimator} → Accepting t h self event (refused n) s → AcceptingBy notion t h self event (refused-by n) s
-  accepted-by : {v : Steps} {s : Estimator} → Moved t h self event s → TellsBy notion t h self event v → AcceptingBy notion t h self event (verdict v) s
+pub data AcceptingBy (notion : Notion) (t : List ℕ) (h : Header) (self : Estimator) (symbol : ℕ) : SaidBy → Estimator → Type 0 where
+  turned-back : {n : ℕ} {s : Estimator} → Accepting t h self symbol (refused n) s → AcceptingBy notion t h self symbol (refused-by n) s
+  accepted-by : {v : Steps} {s : Estimator} → Moved t h self symbol s → TellsBy notion t h self symbol v → AcceptingBy notion t h self symbol (verdict v) s

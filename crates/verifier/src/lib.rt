@@ -38,7 +38,7 @@ pub enum Answer {
 // The last symbols (02: lamps), the newest first, and for each step back the states right after the last one that is left (01: watch).
 pub struct Estimator {
     pub count: u8,
-    pub events: [u8; 15],
+    pub symbols: [u8; 15],
     pub entries: [u64; 16],
 }
 
@@ -71,17 +71,17 @@ pub enum NextEstimate {
 }
 
 // The first `n` of the new event and the old ones.
-fn push_event(events: [u8; 15], n: u8, event: u8) -> [u8; 15]
+fn push_symbol(symbols: [u8; 15], n: u8, symbol: u8) -> [u8; 15]
     requires { ⌜ n ≤ 15 ⌝ }
-    ensures { λ r. ⌜ Pushed event events n 15 r ⌝ }
+    ensures { λ r. ⌜ Pushed symbol symbols n 15 r ⌝ }
 {
     let mut r = [0u8; 15];
-    let mut next = event;
+    let mut next = symbol;
     let mut l: u8 = 0;
     while l < n {
         let at = l as usize;
         r[at] = next;
-        next = events[at];
+        next = symbols[at];
         l += 1;
     }
     r
@@ -170,7 +170,7 @@ fn weak_verdict(
     requires { ⌜ Prepared (now table) header (now sets) estimator (now silent) (now back) states × (last ≤ estimator .count) ⌝ }
     ensures { λ r. ⌜ Found notion.Weak (automatonOf (now (table .entry)) header) (header .secret) last estimator r ⌝ }
 {
-    let events = estimator.events;
+    let symbols = estimator.symbols;
     let entries = estimator.entries;
     let secret = header.secret;
     let mut then = states;
@@ -192,7 +192,7 @@ fn weak_verdict(
         if l == last {
             return Verdict::NoLeak;
         }
-        let shown = automaton::events_with(sets, events[at]);
+        let shown = automaton::events_with(sets, symbols[at]);
         then = automaton::backward_reach(table, back, states, shown, then);
         l += 1;
     }
@@ -212,7 +212,7 @@ fn strong_verdict(
     requires { ⌜ Prepared (now table) header (now sets) estimator (now silent) (now back) states × (last ≤ estimator .count) ⌝ }
     ensures { λ r. ⌜ Found notion.Strong (automatonOf (now (table .entry)) header) (header .secret) last estimator r ⌝ }
 {
-    let events = estimator.events;
+    let symbols = estimator.symbols;
     let entries = estimator.entries;
     let secret = header.secret;
     let clear = states & !header.secret;
@@ -226,7 +226,7 @@ fn strong_verdict(
         if l == last {
             return Verdict::NoLeak;
         }
-        let shown = automaton::events_with(sets, events[at]);
+        let shown = automaton::events_with(sets, symbols[at]);
         then = automaton::backward_reach(table, back, clear, shown, then);
         l += 1;
     }
@@ -297,7 +297,7 @@ impl Estimator {
         entries[0] = stateset::with(0, state as usize);
         Estimator {
             count: 0,
-            events: [0u8; 15],
+            symbols: [0u8; 15],
             entries: entries,
         }
     }
@@ -308,7 +308,7 @@ impl Estimator {
     {
         Estimator {
             count: 255,
-            events: [0u8; 15],
+            symbols: [0u8; 15],
             entries: [0u64; 16],
         }
     }
@@ -320,28 +320,28 @@ impl Estimator {
         if !automaton::sound(table, header) {
             return false;
         }
-        let events = self.events;
+        let symbols = self.symbols;
         let count = self.count;
         if header.k < count {
             return false;
         }
-        automaton::in_range(&events, count)
+        automaton::in_range(&symbols, count)
     }
 
     // With one event more, and the states right after it.
-    fn push(self, k: u8, event: u8, entry: u64) -> Estimator
-        requires { ⌜ (k ≤ 15) × (event ≤ 31) × Limits k self ⌝ }
-        ensures { λ r. ⌜ Limits k r × ((p : Automaton) (trace : List ℕ) → Grown p k trace self → Is entry (Enters p (trace ++ event ∷ []))
-            → Possible p (trace ++ event ∷ []) → Grown p k (trace ++ event ∷ []) r) ⌝ }
+    fn push(self, k: u8, symbol: u8, entry: u64) -> Estimator
+        requires { ⌜ (k ≤ 15) × (symbol ≤ 31) × Limits k self ⌝ }
+        ensures { λ r. ⌜ Limits k r × ((p : Automaton) (trace : List ℕ) → Grown p k trace self → Is entry (Enters p (trace ++ symbol ∷ []))
+            → Possible p (trace ++ symbol ∷ []) → Grown p k (trace ++ symbol ∷ []) r) ⌝ }
     {
         let count = count_after(self.count, k);
-        let old_events = self.events;
+        let old_symbols = self.symbols;
         let old_entries = self.entries;
-        let events = push_event(old_events, count, event);
+        let symbols = push_symbol(old_symbols, count, symbol);
         let entries = push_entry(old_entries, count + 1, entry);
         Estimator {
             count: count,
-            events: events,
+            symbols: symbols,
             entries: entries,
         }
     }
@@ -367,7 +367,8 @@ impl Estimator {
             weak: true,
             strong: true,
         };
-        let sets = automaton::by_symbol(header);
+        let mut sets = [0u32; 32];
+        automaton::by_symbol(header, &mut sets);
         let verdicts = judge(
             estimator,
             table,
@@ -396,14 +397,15 @@ impl Estimator {
 
     // Accepts one symbol, or hands back the estimator as it was. (01: "An event on which no run is left is turned back, and the watch stays.") Only
     // the verdicts that are asked for are found. What is known of unobservable events grows with the states that matter.
-    fn accept_asked(self, table: &[u64], header: Header, event: u8, asked: Asked) -> Reply
-        ensures { λ r. ⌜ AcceptingAsked asked (now (table .entry)) header self event (r .answer) (r .estimator) ⌝ }
+    fn accept_asked(self, table: &[u64], header: Header, symbol: u8, asked: Asked) -> Reply
+        ensures { λ r. ⌜ AcceptingAsked asked (now (table .entry)) header self symbol (r .answer) (r .estimator) ⌝ }
     {
         if !self.sound(table, header) {
             return self.refused(Refusal::Malformed);
         }
-        let sets = automaton::by_symbol(header);
-        let shown = automaton::events_with(&sets, event);
+        let mut sets = [0u32; 32];
+        automaton::by_symbol(header, &mut sets);
+        let shown = automaton::events_with(&sets, symbol);
         if shown == 0 {
             return self.refused(Refusal::NotObservable);
         }
@@ -414,7 +416,7 @@ impl Estimator {
         let NextEstimate::States(entry) = next else {
             return self.refused(Refusal::Incompatible);
         };
-        let after = self.push(header.k, event, entry);
+        let after = self.push(header.k, symbol, entry);
         let from = near.states | entered(after);
         let reach = automaton::silent_rows(table, header, &mut silent, near.known, from);
         let mut back = [0u64; 64];
@@ -436,21 +438,21 @@ impl Estimator {
     }
 
     // Accepts one symbol, with both verdicts.
-    pub fn accept(self, table: &[u64], header: Header, event: u8) -> Reply
-        ensures { λ r. ⌜ Accepting (now (table .entry)) header self event (said (r .answer)) (r .estimator) ⌝ }
+    pub fn accept(self, table: &[u64], header: Header, symbol: u8) -> Reply
+        ensures { λ r. ⌜ Accepting (now (table .entry)) header self symbol (said (r .answer)) (r .estimator) ⌝ }
     {
         let asked = Asked {
             weak: true,
             strong: true,
         };
-        self.accept_asked(table, header, event, asked)
+        self.accept_asked(table, header, symbol, asked)
     }
 
     // Accepts one event, with the verdict by one notion: an enforcer pays for one look back.
-    pub fn accept_by(self, table: &[u64], header: Header, event: u8, notion: Notion) -> ReplyBy
-        ensures { λ r. ⌜ AcceptingBy notion (now (table .entry)) header self event (saidBy (r .answer)) (r .estimator) ⌝ }
+    pub fn accept_by(self, table: &[u64], header: Header, symbol: u8, notion: Notion) -> ReplyBy
+        ensures { λ r. ⌜ AcceptingBy notion (now (table .entry)) header self symbol (saidBy (r .answer)) (r .estimator) ⌝ }
     {
-        let reply = self.accept_asked(table, header, event, ask(notion));
+        let reply = self.accept_asked(table, header, symbol, ask(notion));
         let estimator = reply.estimator;
         let answer = reply.answer;
         match answer {

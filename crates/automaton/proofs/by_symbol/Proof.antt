@@ -1,5 +1,6 @@
 -- `automaton::by_symbol` meets its contract. The invariant: each set has the events with its symbol that are no longer in `todo`, which falls. Assumes nothing.
-use mathlib.Core.Path.{_≡_, refl}
+use mathlib.Core.Path.{_≡_, refl, ap, _∙_}
+use mathlib.Core.List.{List}
 use Prim.Native.Nat.{ℕ, _-_, _^_, _≤_, _<_}
 use native.Mathlib.Omega.{arith}
 use lib.ListN.{length, getD, length-set}
@@ -14,12 +15,12 @@ use Rattle.automaton.proofs.by_symbol.Statement.{statement}
 use Rattle.automaton.proofs.by_symbol.Tie as tie
 
 abbrev Inv-loop : tie.InvT-loop
-Inv-loop symbols observable sets₀ todo₀ sets todo = (todo < 2 ^ 64) × (length sets ≡ 32) × (observable < 2 ^ 32)
+Inv-loop sets₀ symbols observable todo₀ sets todo = (todo < 2 ^ 64) × (length sets ≡ 32) × (observable < 2 ^ 32)
     × ((e : ℕ) → In e todo → In e observable)
     × ((k : ℕ) → k < 32 → Sorted symbols observable todo k (getD sets k 0))
 
 abbrev μ-loop : tie.MeasureT-loop
-μ-loop symbols observable sets₀ todo₀ sets todo = todo
+μ-loop sets₀ symbols observable todo₀ sets todo = todo
 
 pick : (c : tie.In-loop Inv-loop μ-loop) → Taken (c .before .loop .todo) (trailingZeros 64 (c .before .loop .todo)) (bitAnd (c .before .loop .todo) (c .before .loop .todo - 1))
 pick c = taken (c .before .loop .todo) (omega arith) (c .before .loop .inv .0)
@@ -29,13 +30,15 @@ seen : (c : tie.In-loop Inv-loop μ-loop) → In (trailingZeros 64 (c .before .l
 seen c = c .before .loop .inv .3 _ (pick c .inside)
 
 small : (c : tie.In-loop Inv-loop μ-loop) → getD (c .before .before .before .before .args .header .symbols) (trailingZeros 64 (c .before .loop .todo)) 0 ≤ 31
-small c = c .before .before .before .before .pre _ (seen c)
+small c = c .before .before .before .before .pre .0 _ (seen c)
 
 cast-observable : tie.Need-cast-observable Inv-loop μ-loop
 cast-observable c = omega arith
 
 loop-holds : tie.Need-loop-holds Inv-loop μ-loop
-loop-holds c = (omega arith, refl, omega arith, λ e i. i, λ k h. sort-start _ _ k _ (zeros 32 k))
+loop-holds c = 
+    let empty = c .before .before .pre .1 in
+    (omega arith, ap length empty ∙ refl, omega arith, λ e i. i, λ k h. sort-start _ _ k _ (ap (λ (l : List ℕ). getD l k 0) empty ∙ zeros 32 k))
 
 cast-e : tie.Need-cast-e Inv-loop μ-loop
 cast-e c = omega (arith, pick c .small)
@@ -61,28 +64,31 @@ shl-sets c = omega (arith, low c)
 mul-sets : tie.Need-mul-sets Inv-loop μ-loop
 mul-sets c = omega (arith, small c)
 
-array-read-sets : tie.Need-array-read-sets Inv-loop μ-loop
-array-read-sets c = omega (arith, small c)
+slice-read-sets : tie.Need-slice-read-sets Inv-loop μ-loop
+slice-read-sets c = omega (arith, small (c .before), c .before .before .loop .inv .1)
 
-array-write-sets : tie.Need-array-write-sets Inv-loop μ-loop
-array-write-sets c = omega (arith, small c)
+slice-write-sets : tie.Need-slice-write-sets Inv-loop μ-loop
+slice-write-sets c = omega (arith, small (c .before), c .before .before .loop .inv .1)
 
 sub-todo : tie.Need-sub-todo Inv-loop μ-loop
 sub-todo c = omega arith
 
 loop-less : tie.Need-loop-less Inv-loop μ-loop
-loop-less c = pick c .less
+loop-less c = pick (c .before) .less
 
 loop-again : tie.Need-loop-again Inv-loop μ-loop
 loop-again c =
-    let v = c .before .loop .inv in
-    let k = pick c in (
+    let v = c .before .before .loop .inv in
+    let k = pick (c .before) in (
       omega (arith, k .less),
       simp length-set (v .1),
       v .2,
       λ e i. v .3 e (k .kept e i),
-      sort-turn _ _ _ _ _ _ _ (c .before .loop .sets) k refl (omega (arith, v .1, small c)) (seen c) (with-event _ _ (low c)) (v .4),
+      sort-turn _ _ _ _ _ _ _ (c .before .before .loop .sets) k refl (omega (arith, v .1, small (c .before))) (seen (c .before)) (with-event _ _ (low (c .before))) (v .4),
     )
+
+same-length : tie.Need-same-length Inv-loop μ-loop
+same-length c = omega (arith, c .before .loop .inv .1, ap length (c .before .before .before .before .pre .1))
 
 returns : tie.Need-returns Inv-loop μ-loop
 returns c = λ t.
@@ -103,9 +109,10 @@ by-symbol-spec =
     cast-sets
     shl-sets
     mul-sets
-    array-read-sets
-    array-write-sets
+    slice-read-sets
+    slice-write-sets
     sub-todo
     loop-less
     loop-again
+    same-length
     returns)

@@ -3,6 +3,7 @@ use Prim.Native.Nat.{ℕ, _-_, _^_, _<_}
 use native.Mathlib.Omega.{arith}
 use lib.Bits.{bitAnd}
 use lib.Count.{trailingZeros}
+use borrow.Author.Needs.{needs}
 use Rattle.stateset.proofs.Bits.{Taken, taken, in-lt}
 use Rattle.automaton.proofs.SymbolSets.{Tested, test-start, test-turn, test-end}
 use Rattle.automaton.proofs.small_symbols.Statement.{statement}
@@ -17,6 +18,13 @@ abbrev μ-loop : tie.MeasureT-loop
 pick : (c : tie.In-loop Inv-loop μ-loop) → Taken (c .before .loop .todo) (trailingZeros 64 (c .before .loop .todo)) (bitAnd (c .before .loop .todo) (c .before .loop .todo - 1))
 pick c = taken (c .before .loop .todo) (omega arith) (c .before .loop .inv .0)
 
+largest-requires : tie.Need-largest-requires Inv-loop μ-loop
+largest-requires c κs = search needs
+
+-- all 32 are small, and so are those of the observable events
+returns : tie.Need-returns Inv-loop μ-loop
+returns c = λ e i. omega (arith, c .before .largest .ensures e (in-lt 32 e _ (omega arith) i), c .if1 .taken)
+
 cast-observable : tie.Need-cast-observable Inv-loop μ-loop
 cast-observable c = omega arith
 
@@ -26,15 +34,15 @@ loop-holds c = (omega arith, test-start _ _ (omega arith))
 cast-e : tie.Need-cast-e Inv-loop μ-loop
 cast-e c = omega (arith, pick c .small)
 
-array-read-if1 : tie.Need-array-read-if1 Inv-loop μ-loop
-array-read-if1 c =
+array-read-if2 : tie.Need-array-read-if2 Inv-loop μ-loop
+array-read-if2 c =
     let g = c .before .loop .inv .1 in
     omega (arith, in-lt 32 _ _ (g .small) (g .sub _ (pick c .inside)))
 
-returns : tie.Need-returns Inv-loop μ-loop
-returns c = λ all. 
+returns-2 : tie.Need-returns-2 Inv-loop μ-loop
+returns-2 c = λ all. 
     let g = c .before .before .loop .inv .1 in
-    omega (arith, all _ (g .sub _ (pick (c .before) .inside)), c .if1 .taken)
+    omega (arith, all _ (g .sub _ (pick (c .before) .inside)), c .if2 .taken)
 
 sub-todo : tie.Need-sub-todo Inv-loop μ-loop
 sub-todo c = omega arith
@@ -43,10 +51,10 @@ loop-less : tie.Need-loop-less Inv-loop μ-loop
 loop-less c = pick (c .before) .less
 
 loop-again : tie.Need-loop-again Inv-loop μ-loop
-loop-again c = (omega (arith, pick (c .before) .less), test-turn _ _ _ _ _ (pick (c .before)) (omega (arith, c .if1 .left)) (c .before .before .loop .inv .1))
+loop-again c = (omega (arith, pick (c .before) .less), test-turn _ _ _ _ _ (pick (c .before)) (omega (arith, c .if2 .left)) (c .before .before .loop .inv .1))
 
-returns-2 : tie.Need-returns-2 Inv-loop μ-loop
-returns-2 c = test-end _ _ _ (c .loop-test .left) (c .before .loop .inv .1)
+returns-3 : tie.Need-returns-3 Inv-loop μ-loop
+returns-3 c = test-end _ _ _ (c .loop-test .left) (c .before .loop .inv .1)
 
 pub small-symbols-spec : {M : Type 1} → statement M
 small-symbols-spec =
@@ -54,12 +62,14 @@ small-symbols-spec =
     (tie.spec
     Inv-loop
     μ-loop
+    largest-requires
+    returns
     cast-observable
     loop-holds
     cast-e
-    array-read-if1
-    returns
+    array-read-if2
+    returns-2
     sub-todo
     loop-less
     loop-again
-    returns-2)
+    returns-3)

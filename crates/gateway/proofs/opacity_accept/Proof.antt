@@ -48,7 +48,7 @@ returns-4 c =
     let called = c .before .before .before .before .accept in
     accept-refused (now (a .table)) (now (a .header)) (now (a .estimator)) (now (a .verdicts)) (c .before .before .before .before .before .read-header .result) (called .result .estimator) (called .result .answer)
     (record { header-size = c .before .before .before .before .before .before .before .before .before .before .if1 .left; estimator-size = c .before .before .before .before .before .before .before .before .before .if2 .left; verdicts-size = c .before .before .before .before .before .before .before .before .if3 .left }) (c .before .before .before .before .before .read-header .ensures)
-    (a .event) (c .before .before .before .before .before .before .read-estimator .result) (c .before .before .before .before .before .before .read-estimator .ensures) (called .ensures)
+    (a .symbol) (c .before .before .before .before .before .before .read-estimator .result) (c .before .before .before .before .before .before .read-estimator .ensures) (called .ensures)
     (c .before .before .answer .given .0 .0) _ (c .before .before .answer .given .1) (c .number .ensures)
 
 same-length-2 : tie.Need-same-length-2
@@ -63,7 +63,7 @@ returns-5 c =
     let called = c .before .before .before .before .before .before .before .before .before .before .before .before .accept in
     accept-accepted (now (a .table)) (now (a .header)) (now (a .estimator)) (now (a .verdicts)) (c .before .before .before .before .before .before .before .before .before .before .before .before .before .read-header .result) (called .result .estimator) (called .result .answer)
     (record { header-size = c .before .before .before .before .before .before .before .before .before .before .before .before .before .before .before .before .before .before .if1 .left; estimator-size = c .before .before .before .before .before .before .before .before .before .before .before .before .before .before .before .before .before .if2 .left; verdicts-size = c .before .before .before .before .before .before .before .before .before .before .before .before .before .before .before .before .if3 .left }) (c .before .before .before .before .before .before .before .before .before .before .before .before .before .read-header .ensures)
-    (a .event) (c .before .before .before .before .before .before .before .before .before .before .before .before .before .before .read-estimator .result) (c .before .before .before .before .before .before .before .before .before .before .before .before .before .before .read-estimator .ensures) (called .ensures)
+    (a .symbol) (c .before .before .before .before .before .before .before .before .before .before .before .before .before .before .read-estimator .result) (c .before .before .before .before .before .before .before .before .before .before .before .before .before .before .read-estimator .ensures) (called .ensures)
     (c .before .before .before .before .before .before .before .before .before .before .answer2 .given .0 .0) _ _ (c .before .before .before .before .before .before .before .before .before .before .answer2 .given .1) (c .before .before .before .before .before .before .write-estimator .ensures) (c .before .before .write-verdicts .ensures)
 
 pub opacity-accept-spec : {M : Type 1} → statement M

@@ -56,7 +56,7 @@ returns-5 : tie.Need-returns-5
 returns-5 c =
     let a = c .before .before .before .before .before .before .before .before .before .before .before .before .before .before .before .before .before .before .before .before .before .args in
     let called = c .before .before .before .before .before .before .offer in
-    offer-refused (now (a .table)) (now (a .header)) (a .event) (now (a .enforcer)) (now (a .output)) (now (a .released)) _ (c .before .before .before .before .before .before .before .before .read-header .result) (c .before .before .before .before .before .before .before .before .before .read-enforcer .result)
+    offer-refused (now (a .table)) (now (a .header)) (a .symbol) (now (a .enforcer)) (now (a .output)) (now (a .released)) _ (c .before .before .before .before .before .before .before .before .read-header .result) (c .before .before .before .before .before .before .before .before .before .read-enforcer .result)
     (called .result .enforcer) (called .result .answer)
     (record { header-size = c .before .before .before .before .before .before .before .before .before .before .before .before .before .before .before .if1 .left; enforcer-size = c .before .before .before .before .before .before .before .before .before .before .before .before .before .before .if2 .left; notion-known = omega (arith, c .before .before .before .before .before .before .before .before .before .before .before .before .if3 .left); released-size = c .before .before .before .before .before .before .before .before .before .before .before .if4 .left })
     (c .before .before .before .before .before .before .before .before .read-header .ensures) (c .before .before .before .before .before .before .before .before .before .read-enforcer .ensures) (called .ensures)
@@ -75,7 +75,7 @@ returns-6 : tie.Need-returns-6
 returns-6 c =
     let a = c .before .before .before .before .before .before .before .before .before .before .before .before .before .before .before .before .before .before .before .before .before .before .before .before .before .before .before .before .before .args in
     let called = c .before .before .before .before .before .before .before .before .before .before .before .before .before .before .offer in
-    offer-released (now (a .table)) (now (a .header)) (a .event) (now (a .enforcer)) (now (a .output)) (now (a .released)) _ (c .before .before .before .before .before .before .before .before .before .before .before .before .before .before .before .before .read-header .result) (c .before .before .before .before .before .before .before .before .before .before .before .before .before .before .before .before .before .read-enforcer .result)
+    offer-released (now (a .table)) (now (a .header)) (a .symbol) (now (a .enforcer)) (now (a .output)) (now (a .released)) _ (c .before .before .before .before .before .before .before .before .before .before .before .before .before .before .before .before .read-header .result) (c .before .before .before .before .before .before .before .before .before .before .before .before .before .before .before .before .before .read-enforcer .result)
     (called .result .enforcer) (called .result .answer)
     (record { header-size = c .before .before .before .before .before .before .before .before .before .before .before .before .before .before .before .before .before .before .before .before .before .before .before .if1 .left; enforcer-size = c .before .before .before .before .before .before .before .before .before .before .before .before .before .before .before .before .before .before .before .before .before .before .if2 .left; notion-known = omega (arith, c .before .before .before .before .before .before .before .before .before .before .before .before .before .before .before .before .before .before .before .before .if3 .left); released-size = c .before .before .before .before .before .before .before .before .before .before .before .before .before .before .before .before .before .before .before .if4 .left })
     (c .before .before .before .before .before .before .before .before .before .before .before .before .before .before .before .before .read-header .ensures) (c .before .before .before .before .before .before .before .before .before .before .before .before .before .before .before .before .before .read-enforcer .ensures) (called .ensures)

@@ -17,7 +17,7 @@ shared-slice-read-t5 c = search needs
 returns : tie.Need-returns
 returns c =
     let bytes = now (c .before .before .before .before .args .bytes) in
-    λ i. record { count = getD bytes 0 0; events = c .before .before .bytes15 .ensures i; entries = c .before .words16 .ensures i }
+    λ i. record { count = getD bytes 0 0; symbols = c .before .before .bytes15 .ensures i; entries = c .before .words16 .ensures i }
 
 pub read-estimator-spec : {M : Type 1} → statement M
 read-estimator-spec =

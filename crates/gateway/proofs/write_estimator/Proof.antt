@@ -21,8 +21,8 @@ returns : tie.Need-returns
 returns c =
     let a = c .before .before .before .before .before .before .before .before .before .before .before .before .before .before .before .args in
     let e = a .estimator in (
-      record { events = c .before .before .before .before .before .before .before .store15 .ensures .0; entries = c .before .before .store-words .ensures .0; words = c .before .before .store-words .ensures .1 },
-      wrote-estimator (now (a .bytes)) _ _ _ (e .count) (e .events) (e .entries) (c .before .before .before .before .before .before .before .store15 .ensures .0) (c .before .before .before .before .before .before .before .before .before .before .before .before .put .ensures) (c .before .before .before .before .before .before .before .store15 .ensures .1) (c .before .before .store-words .ensures .2),
+      record { symbols = c .before .before .before .before .before .before .before .store15 .ensures .0; entries = c .before .before .store-words .ensures .0; words = c .before .before .store-words .ensures .1 },
+      wrote-estimator (now (a .bytes)) _ _ _ (e .count) (e .symbols) (e .entries) (c .before .before .before .before .before .before .before .store15 .ensures .0) (c .before .before .before .before .before .before .before .before .before .before .before .before .put .ensures) (c .before .before .before .before .before .before .before .store15 .ensures .1) (c .before .before .store-words .ensures .2),
     )
 
 pub write-estimator-spec : {M : Type 1} → statement M

@@ -21,17 +21,17 @@ use Rattle.verifier.proofs.weak_verdict.Statement.{statement}
 use Rattle.verifier.proofs.weak_verdict.Tie as tie
 
 abbrev Inv-states : tie.InvT-states
-Inv-states table sets silent back states last events entries secret then l at possible todo₀ todo = Passed possible secret todo
+Inv-states table sets silent back states last symbols entries secret then l at possible todo₀ todo = Passed possible secret todo
 
 abbrev μ-states : tie.MeasureT-states
-μ-states table sets silent back states last events entries secret then l at possible todo₀ todo = todo
+μ-states table sets silent back states last symbols entries secret then l at possible todo₀ todo = todo
 
 abbrev Inv-steps : tie.InvT-steps
-Inv-steps table sets silent back states last events entries secret then₀ l₀ then l = (l ≤ last) × (last ≤ 15)
-    × ((p : Automaton) (trace : List ℕ) → Looks p table sets entries silent back states → Remembers p trace last events entries → SoFar Weak p secret states trace l then)
+Inv-steps table sets silent back states last symbols entries secret then₀ l₀ then l = (l ≤ last) × (last ≤ 15)
+    × ((p : Automaton) (trace : List ℕ) → Looks p table sets entries silent back states → Remembers p trace last symbols entries → SoFar Weak p secret states trace l then)
 
 abbrev μ-steps : tie.MeasureT-steps
-μ-steps table sets silent back states last events entries secret then₀ l₀ then l = last - l
+μ-steps table sets silent back states last symbols entries secret then₀ l₀ then l = last - l
 
 abbrev begin : tie.After-possible-states Inv-states μ-states Inv-steps μ-steps → tie.Start Inv-states μ-states Inv-steps μ-steps
 begin u = u .before .before .before .before .before .before .before .before
@@ -41,7 +41,7 @@ Good u p =
     Looks p (begin u .args .table .now) (begin u .args .sets .now) (begin u .args .estimator .entries) (begin u .args .silent .now) (begin u .args .back .now) (begin u .args .states)
 
 abbrev Trace : tie.After-possible-states Inv-states μ-states Inv-steps μ-steps → Automaton → List ℕ → Type 0
-Trace u p trace = Remembers p trace (begin u .args .last) (begin u .args .estimator .events) (begin u .args .estimator .entries)
+Trace u p trace = Remembers p trace (begin u .args .last) (begin u .args .estimator .symbols) (begin u .args .estimator .entries)
 
 -- possible states l steps back
 sampled : (u : tie.After-possible-states Inv-states μ-states Inv-steps μ-steps) (p : Automaton) (trace : List ℕ) → Good u p → Trace u p trace
@@ -154,7 +154,7 @@ events-with-requires c κs = begin (c .before .before .before .before) .pre .0 .
 
 -- the events that show the symbol before
 showing : (c : tie.After-events-with Inv-states μ-states Inv-steps μ-steps) (p : Automaton) → Good (c .before .before .before .before .before) p
-    → Showing p (getD (begin (c .before .before .before .before .before) .args .estimator .events) (c .before .before .before .before .before .before .steps .l) 0) (c .events-with .result)
+    → Showing p (getD (begin (c .before .before .before .before .before) .args .estimator .symbols) (c .before .before .before .before .before .before .steps .l) 0) (c .events-with .result)
 showing c p g = c .events-with .ensures p (g .symbols-small) (g .sets-are)
 
 backward-reach-requires : tie.Need-backward-reach-requires Inv-states μ-states Inv-steps μ-steps

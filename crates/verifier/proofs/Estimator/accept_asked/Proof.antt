@@ -26,11 +26,11 @@ ok : (c : tie.Else1) → Sound (now (c .before .before .before .args .table)) (c
 ok c = holds (c .before .sound .result) (not-false _ (c .if1 .left)) (c .before .sound .ensures)
 
 -- the events that show the symbol
-showing : (c : tie.After-events-with) → Showing (automatonOf (now (c .before .before .before .before .before .before .args .table)) (c .before .before .before .before .before .before .args .header)) (c .before .before .before .before .before .before .args .event) (c .events-with .result)
-showing c = c .events-with .ensures _ (ok (c .before .before .before) .0 .symbols-small) (c .before .before .by-symbol .ensures (now (c .before .before .before .before .before .before .args .table)))
+showing : (c : tie.After-events-with) → Showing (automatonOf (now (c .before .before .before .before .before .before .before .before .args .table)) (c .before .before .before .before .before .before .before .before .args .header)) (c .before .before .before .before .before .before .before .before .args .symbol) (c .events-with .result)
+showing c = c .events-with .ensures _ (ok (c .before .before .before .before .before) .0 .symbols-small) (c .before .before .before .by-symbol .ensures (now (c .before .before .before .before .before .before .before .before .args .table)))
 
-observed : (c : tie.Else2) → Observable (c .before .before .before .before .before .before .before .args .header) (c .before .before .before .before .before .before .before .args .event)
-observed c = some-observable (now (c .before .before .before .before .before .before .before .args .table)) _ _ _ (showing (c .before)) (omega arith) (c .if2 .left)
+observed : (c : tie.Else2) → Observable (c .before .before .before .before .before .before .before .before .before .args .header) (c .before .before .before .before .before .before .before .before .before .args .symbol)
+observed c = some-observable (now (c .before .before .before .before .before .before .before .before .before .args .table)) _ _ _ (showing (c .before)) (omega arith) (c .if2 .left)
 
 sound-requires : tie.Need-sound-requires
 sound-requires c κs = search needs
@@ -44,14 +44,17 @@ returns c =
     let s = c .before .before in
     refused-asked _ _ _ _ _ refusal.Malformed _ (r .0) (r .1) (Accepting.malformed (fails (s .sound .result) (not-true _ (c .before .if1 .taken)) (s .sound .ensures)))
 
+slice-aggregate-by-symbol : tie.Need-slice-aggregate-by-symbol
+slice-aggregate-by-symbol c = search needs
+
 by-symbol-requires : tie.Need-by-symbol-requires
-by-symbol-requires c κs = ok c .0 .symbols-small
+by-symbol-requires c κs = (ok (c .before) .0 .symbols-small, search needs)
 
 slice-aggregate-events-with : tie.Need-slice-aggregate-events-with
 slice-aggregate-events-with c = search needs
 
 events-with-requires : tie.Need-events-with-requires
-events-with-requires c κs = c .before .by-symbol .ensures [] .size
+events-with-requires c κs = c .before .before .by-symbol .ensures [] .size
 
 refused-requires-2 : tie.Need-refused-requires-2
 refused-requires-2 c κs = search needs
@@ -60,8 +63,8 @@ returns-2 : tie.Need-returns-2
 returns-2 c =
     let r = c .refused2 .ensures in
     let v = c .before .before in
-    let o = ok (v .before .before .before) in
-    refused-asked _ _ _ _ _ refusal.NotObservable _ (r .0) (r .1) (not-observable (o .0) (o .1) (none-observable (now (v .before .before .before .before .before .before .args .table)) _ _ _ (showing v) (c .before .if2 .taken)))
+    let o = ok (v .before .before .before .before .before) in
+    refused-asked _ _ _ _ _ refusal.NotObservable _ (r .0) (r .1) (not-observable (o .0) (o .1) (none-observable (now (v .before .before .before .before .before .before .before .before .args .table)) _ _ _ (showing v) (c .before .if2 .taken)))
 
 element-copy-out-newest : tie.Need-element-copy-out-newest
 element-copy-out-newest c = search needs
@@ -70,7 +73,7 @@ slice-aggregate-silent-rows : tie.Need-slice-aggregate-silent-rows
 slice-aggregate-silent-rows c = search needs
 
 silent-rows-requires : tie.Need-silent-rows-requires
-silent-rows-requires c κs = (ok (c .before .before .before .before .before .before) .0 .words, known-none _ _)
+silent-rows-requires c κs = (ok (c .before .before .before .before .before .before .before .before) .0 .words, known-none _ _)
 
 slice-aggregate-next-estimate : tie.Need-slice-aggregate-next-estimate
 slice-aggregate-next-estimate c = search needs
@@ -79,14 +82,14 @@ next-estimate-requires : tie.Need-next-estimate-requires
 next-estimate-requires c κs =
     let e = c .before .before .before .before .before in
     let g = c .before .before .silent-rows .ensures in
-    (ok (e .before .before .before .before) .0 .words, gained-closed _ _ _ _ g .size, λ x i. showing (e .before) .sound x i .0)
+    (ok (e .before .before .before .before .before .before) .0 .words, gained-closed _ _ _ _ g .size, λ x i. showing (e .before) .sound x i .0)
 
 -- what the new symbol gives, for a trace by which the estimator has grown
-next-of : (c : tie.After-next-estimate) → Next (automatonOf (now (c .before .before .before .before .before .before .before .before .before .before .before .before .before .args .table)) (c .before .before .before .before .before .before .before .before .before .before .before .before .before .args .header)) (getD (c .before .before .before .before .before .before .before .before .before .before .before .before .before .args .t1 .entries) 0 0) (c .before .before .before .before .before .before .before .before .before .before .before .before .before .args .event) (c .next-estimate .result)
+next-of : (c : tie.After-next-estimate) → Next (automatonOf (now (c .before .before .before .before .before .before .before .before .before .before .before .before .before .before .before .args .table)) (c .before .before .before .before .before .before .before .before .before .before .before .before .before .before .before .args .header)) (getD (c .before .before .before .before .before .before .before .before .before .before .before .before .before .before .before .args .t1 .entries) 0 0) (c .before .before .before .before .before .before .before .before .before .before .before .before .before .before .before .args .symbol) (c .next-estimate .result)
 next-of c =
     let g = c .before .before .before .silent-rows .ensures in
     let e = c .before .before .before .before .before .before in
-    c .next-estimate .ensures _ _ refl (ok (e .before .before .before .before) .0 .start) (gained-closed _ _ _ _ g) (g .more) (showing (e .before))
+    c .next-estimate .ensures _ _ refl (ok (e .before .before .before .before .before .before) .0 .start) (gained-closed _ _ _ _ g) (g .more) (showing (e .before))
 
 enum-known-next : tie.Need-enum-known-next
 enum-known-next c = search needs
@@ -101,7 +104,7 @@ returns-3 : tie.Need-returns-3
 returns-3 c =
     let r = c .refused3 .ensures in
     let e = c .before .before .before .before .before .before .before .before .before in
-    let o = ok (e .before .before .before .before) in
+    let o = ok (e .before .before .before .before .before .before) in
     refused-asked _ _ _ _ _ refusal.Incompatible _ (r .0) (r .1)
     (incompatible (o .0) (o .1) (observed e)
     (λ trace g. subst (Next _ _ _) (c .before .enum-told .given .1) (next-of (c .before .before .before)) trace (grown-entry _ _ trace _ g)))
@@ -109,8 +112,8 @@ returns-3 c =
 push-requires : tie.Need-push-requires
 push-requires c κs =
     let e = c .before .before .before .before .before .before .before .before .before in
-    let o = ok (e .before .before .before .before) in
-    (o .0 .back, observable-small (now (e .before .before .before .before .before .before .before .args .table)) _ _ (o .0) (observed e), o .1)
+    let o = ok (e .before .before .before .before .before .before) in
+    (o .0 .back, observable-small (now (e .before .before .before .before .before .before .before .before .before .args .table)) _ _ (o .0) (observed e), o .1)
 
 entered-requires : tie.Need-entered-requires
 entered-requires c κs = search needs
@@ -122,7 +125,7 @@ silent-rows-requires-2 : tie.Need-silent-rows-requires-2
 silent-rows-requires-2 c κs =
     let n = c .before .before .before .before .before .before .before .before .before .before in
     let e = n .before .before .before in
-    (ok (e .before .before .before .before) .0 .words, known-more _ _ (n .silent-rows .result .states) _ _ (λ q i. or-l q (n .silent-rows .result .states) (c .before .before .entered .result) i) (n .silent-rows .ensures .known-are))
+    (ok (e .before .before .before .before .before .before) .0 .words, known-more _ _ (n .silent-rows .result .states) _ _ (λ q i. or-l q (n .silent-rows .result .states) (c .before .before .entered .result) i) (n .silent-rows .ensures .known-are))
 
 slice-aggregate-silent-back : tie.Need-slice-aggregate-silent-back
 slice-aggregate-silent-back c = search needs
@@ -134,7 +137,7 @@ silent-back-requires : tie.Need-silent-back-requires
 silent-back-requires c κs = search needs
 
 slice-aggregate-judge : tie.Need-slice-aggregate-judge
-slice-aggregate-judge c = sym (c .before .before .before .before .before .before .before .before .before .before .before .before .before .before .before .before .before .before .before .before .before .before .before .by-symbol .ensures [] .size)
+slice-aggregate-judge c = sym (c .before .before .before .before .before .before .before .before .before .before .before .before .before .before .before .before .before .before .before .before .before .before .before .before .by-symbol .ensures [] .size)
 
 slice-aggregate-judge-2 : tie.Need-slice-aggregate-judge-2
 slice-aggregate-judge-2 c = search needs
@@ -148,8 +151,8 @@ judge-requires c κs =
     let f = r .before .before .before in
     let n = f .before .before .before .before .before .before .before .before in
     let e = n .before .before .before in
-    let o = ok (e .before .before .before .before) in
-    let a = e .before .before .before .before .before .before .before .args in
+    let o = ok (e .before .before .before .before .before .before) in
+    let a = e .before .before .before .before .before .before .before .before .before .args in
     let near : Near (automatonOf (now (a .table)) (a .header)) _ _ (r .silent-rows2 .result .states) = near-gained _ _ _ _ _ (r .silent-rows2 .ensures)
     (λ l q h i. or-r q (n .silent-rows .result .states) (f .entered .result) (f .entered .ensures l q h i)) in
     record {
@@ -159,7 +162,7 @@ judge-requires c κs =
         table-is = refl;
         start = o .0 .start;
         symbols-small = o .0 .symbols-small;
-        sets-are = e .before .before .before .by-symbol .ensures _;
+        sets-are = e .before .before .before .before .by-symbol .ensures _;
         near = near;
         back-are = c .before .before .before .before .silent-back .ensures _ (near .closed);
       };
@@ -170,10 +173,10 @@ returns-4 c =
     let pushed = c .before .before .before .before .before .before .before .before .before .before .before .before .before in
     let k = pushed .before in
     let e = k .before .before .before .before .before .before .before .before .before in
-    let a = e .before .before .before .before .before .before .before .args in
-    let o = ok (e .before .before .before .before) in
+    let a = e .before .before .before .before .before .before .before .before .before .args in
+    let o = ok (e .before .before .before .before .before .before) in
     let after = pushed .push .ensures in
-    let moved : Moved (now (a .table)) (a .header) (a .t1) (a .event) (pushed .push .result) = record {
+    let moved : Moved (now (a .table)) (a .header) (a .t1) (a .symbol) (pushed .push .result) = record {
       sound = o .0;
       limits = o .1;
       observable = observed e;
@@ -191,6 +194,7 @@ accept-asked-spec =
     sound-requires
     refused-requires
     returns
+    slice-aggregate-by-symbol
     by-symbol-requires
     slice-aggregate-events-with
     events-with-requires

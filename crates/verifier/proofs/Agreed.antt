@@ -86,8 +86,8 @@ module _ (p q : Automaton) (same : SameSymbols p q) (trace : List ℕ) where
       record {
         possible = possible-agree p q trace trace (same-agree p q same trace) (g .possible);
         count-is = g .count-is;
-        events-are = g .events-are;
-        events-rest = g .events-rest;
+        symbols-are = g .symbols-are;
+        symbols-rest = g .symbols-rest;
         entries-are = λ l h.
             let first = take (length trace - l) trace in
             let y = same-agree p q same first in
@@ -97,7 +97,7 @@ module _ (p q : Automaton) (same : SameSymbols p q) (trace : List ℕ) where
               whole = λ r n. e .whole r (enters-agree q p first first (agree-back p q first first y) r n);
             };
         entries-rest = g .entries-rest;
-        events-size = g .events-size;
+        symbols-size = g .symbols-size;
         entries-size = g .entries-size;
         entries-words = g .entries-words;
       }

@@ -48,6 +48,12 @@ module _ (t : List ℕ) (h h′ : Header) (s : SameButSymbols (automatonOf t h) 
       let y = observable-event h x o in
       (getD (h′ .symbols) (y .0) 0, record { event = y .0; event-small = y .1; event-observable = y .2; first = y .3; second = refl })
 
+  -- where the second has no symbols, that is the event itself
+  pub own-event : WithoutSymbols (automatonOf t h′) → (e : ℕ) → e < 32 → In e (h .observable)
+      → OneEvent (automatonOf t h) (automatonOf t h′) (getD (h .symbols) e 0) e
+  own-event w e small i =
+      record { event = e; event-small = small; event-observable = i; first = refl; second = w .own e small (in-same _ _ s e i) }
+
   -- refusal 9: where the second has no symbols, it is an automaton if the first is one
   pub own-sound : WithoutSymbols (automatonOf t h′) → h′ .observable < 2 ^ 32 → h .k ≡ h′ .k → Sound t h → Sound t h′
   own-sound w small k x =

@@ -200,6 +200,13 @@ module _ (p q : Automaton) (g : Alike p q) where
       let tail : symbolsOf p xs ≡ symbolsOf p ys = cc in
       ap₂ (λ (c : ℕ) (cs : List ℕ). c ∷ cs) (g .shared a b (x .0) (y .0) (x .1) (y .1) .0 head) (alike-symbols xs ys (x .2) (y .2) tail)
 
+-- a symbol of the one corresponds to one symbol of the other
+pub one-partner : (p q : Automaton) → Alike p q → (x y z : ℕ) → OneEvent p q x y → OneEvent p q x z → y ≡ z
+one-partner p q g x y z a b =
+    sym (a .second)
+    ∙ g .shared (a .event) (b .event) (a .event-small) (b .event-small) (a .event-observable) (b .event-observable) .0 (a .first ∙ sym (b .first))
+    ∙ b .second
+
 -- THE THEOREM of S-2: traces with the same events behind them have the same runs, counts and states
 pub alike-agree : (p q : Automaton) → Alike p q → (a b : List ℕ) → SameEvents p q a b → Agree p q a b
 alike-agree p q g a b x =
@@ -285,6 +292,13 @@ module _ (p q : Automaton) (d : Distinct p) (w : WithoutSymbols q) (s : SameButS
 
   pub distinct-agree : (es : List ℕ) → Events p es → Agree p q (symbolsOf p es) es
   distinct-agree es each = alike-agree p q distinct-alike (symbolsOf p es) es (events-spelled es each)
+
+  -- refusal 7
+  pub distinct-possible : (es : List ℕ) → Events p es → Possible p (symbolsOf p es) ↔ Possible q es
+  distinct-possible es each = alike-possible p q distinct-alike (symbolsOf p es) es (events-spelled es each)
+
+  pub distinct-impossible : (es : List ℕ) → Events p es → Impossible p (symbolsOf p es) ↔ Impossible q es
+  distinct-impossible es each = alike-impossible p q distinct-alike (symbolsOf p es) es (events-spelled es each)
 
 -- where the second has no symbols, its trace is the events themselves
 pub spelled-own : (p q : Automaton) (a b : List ℕ) → WithoutSymbols q → SameButSymbols p q → SameEvents p q a b → Events p b × (a ≡ symbolsOf p b)

@@ -9,13 +9,14 @@ ghost use Rattle.automaton.specs.Reaching.{Enters, Arrives, Leaves, Show
 ghost use Rattle.automaton.specs.Relation.{Row, Rows, Listed, Image, Preimage, Reached, Sub, Put, Masks, Swapped};
 
 // What an encoding says beside its transitions (01: head): the initial state, the look-back K, the secret states, the observable events, and
-// the observation symbol of each event (02: lamp), which counts only where the event is observable.
+// the observation symbol of each event (02: lamp), which counts only where the event is observable. (The symbols stand first: a header is copied
+// sixteen bytes at a time, and so are they read.)
 pub struct Header {
-    pub initial: u8,
-    pub k: u8,
+    pub symbols: [u8; 32],
     pub secret: u64,
     pub observable: u32,
-    pub symbols: [u8; 32],
+    pub initial: u8,
+    pub k: u8,
 }
 
 // States that unobservable events do not leave, and those whose rows are known.

@@ -1,10 +1,13 @@
--- What agrees where the compatible runs do: refusal 7, both notions. Each law goes both ways, by `agree-back`. Assumes nothing.
-use mathlib.Core.Path.{_≡_, sym, subst, _∙_}
-use mathlib.Core.List.{List}
-use Prim.Native.Nat.{ℕ, _≤_}
+-- What agrees where the compatible runs do: refusal 7, the states that runs enter, both notions. Each law goes both ways, by `agree-back`. Assumes nothing.
+use mathlib.Core.Path.{refl, sym, subst, _∙_}
+use mathlib.Core.List.{List, [], _∷_, append-nil}
+use mathlib.Core.Logic.{inl, inr}
+use Prim.Native.Nat.{ℕ}
 use native.Mathlib.Omega.{arith}
+use lib.ListN.{length-append}
 use Rattle.stateset.specs.Set.{In}
-use Rattle.automaton.specs.Run.{Automaton, Possible, Impossible}
+use Rattle.automaton.specs.Run.{Automaton, Step, shows, Possible, Impossible}
+use Rattle.automaton.specs.Reaching.{Landed, Enters}
 use Rattle.automaton.specs.Notion.{SureAt, SureFrom, ClearAt, ClearFrom}
 use Rattle.automaton.specs.Symbols.{Agree}
 
@@ -18,6 +21,28 @@ module _ (p q : Automaton) (a b : List ℕ) (g : Agree p q a b) where
 
   pub impossible-agree : Impossible p a → Impossible q b
   impossible-agree x run f = x run (g .from run f)
+
+  -- the states that runs can be in right after the last event
+  landed-agree : (run : List Step) → Landed p run → Landed q run
+  landed-agree run (inl none) = inl none
+  landed-agree run (inr l) =
+      let e = l .last .event in
+      let same = g .counts (l .last ∷ []) (record { before = l .last ∷ []; after = []; splits = refl }) in
+      inr (record {
+        front = l .front;
+        last = l .last;
+        joins = l .joins;
+        shown-one = omega (arith, same, length-append (shows p e) [], length-append (shows q e) [], l .shown-one);
+      })
+
+  pub enters-agree : (r : ℕ) → Enters p a r → Enters q b r
+  enters-agree r x =
+      record {
+        run = x .run;
+        compatible = g .to (x .run) (x .compatible);
+        landed = landed-agree (x .run) (x .landed);
+        ends = sym (g .states (x .run) (record { before = x .run; after = []; splits = append-nil (x .run) })) ∙ x .ends;
+      }
 
   module _ (secret : ℕ) (j : ℕ) where
     pub sureAt-agree : SureAt p secret a j → SureAt q secret b j

@@ -1,10 +1,11 @@
--- Automata with and without symbols (02, S-2): where no two observable events share a symbol, what the reader gets is the events under other names.
+-- Automata that differ in their observation symbols alone (02, S-2). Where they tell the same observable events apart, their readers learn the same.
 use mathlib.Core.Path.{_≡_}
 use mathlib.Core.List.{List, [], _∷_}
+use mathlib.Core.Logic.{_↔_}
 use Prim.Native.Nat.{ℕ, zero, suc, _<_}
 use lib.ListN.{length, getD}
 use Rattle.stateset.specs.Set.{In}
-use Rattle.automaton.specs.Run.{Automaton, Step, Compatible, Position, count, stateAt}
+use Rattle.automaton.specs.Run.{Automaton, automatonOf, Step, Compatible, Position, count, stateAt, Observable}
 use Rattle.automaton.specs.declared.Header.{Header}
 
 -- the n numbers from the first on
@@ -12,19 +13,34 @@ abbrev pub numbersFrom : ℕ → ℕ → List ℕ
 numbersFrom first zero = []
 numbersFrom first (suc n) = first ∷ numbersFrom (suc first) n
 
--- without symbols each event's symbol is its own number
+-- each of the 32 events with its own number as its symbol
 abbrev pub ownNumbers : List ℕ
 ownNumbers = numbersFrom 0 32
 
-abbrev pub withoutSymbols : Automaton → Automaton
-withoutSymbols p = record { table = p .table; initial = p .initial; observable = p .observable; symbols = ownNumbers }
+-- an automaton without symbols: each observable event has its own number. (What an unobservable event has counts for nothing, here and below)
+pub record WithoutSymbols (p : Automaton) : Type 0 where
+  pub own : (e : ℕ) → e < 32 → In e (p .observable) → getD (p .symbols) e 0 ≡ e
 
-abbrev pub plainHeader : Header → Header
-plainHeader h = record { initial = h .initial; k = h .k; secret = h .secret; observable = h .observable; symbols = ownNumbers }
-
--- no two observable events share a symbol. (What an unobservable event has counts for nothing)
+-- no two observable events share a symbol
 pub record Distinct (p : Automaton) : Type 0 where
   pub one : (d e : ℕ) → d < 32 → e < 32 → In d (p .observable) → In e (p .observable) → getD (p .symbols) d 0 ≡ getD (p .symbols) e 0 → d ≡ e
+
+-- the same automaton but for the symbols
+pub record SameButSymbols (p q : Automaton) : Type 0 where
+  pub table : p .table ≡ q .table
+  pub initial : p .initial ≡ q .initial
+  pub observable : p .observable ≡ q .observable
+
+-- and two observable events share a symbol in the one exactly where they do in the other
+pub record Alike (p q : Automaton) : Type 0 where
+  pub same : SameButSymbols p q
+  pub shared : (d e : ℕ) → d < 32 → e < 32 → In d (p .observable) → In e (p .observable)
+      → (getD (p .symbols) d 0 ≡ getD (p .symbols) e 0) ↔ (getD (q .symbols) d 0 ≡ getD (q .symbols) e 0)
+
+-- the same automaton, and each observable event has the same symbol: they differ at most in the symbols of unobservable events
+pub record SameSymbols (p q : Automaton) : Type 0 where
+  pub same : SameButSymbols p q
+  pub symbols-are : (e : ℕ) → In e (p .observable) → getD (p .symbols) e 0 ≡ getD (q .symbols) e 0
 
 -- a list of observable events, and the symbols that they have
 abbrev pub Events : Automaton → List ℕ → Type 0
@@ -34,6 +50,31 @@ Events p (e ∷ es) = (e < 32) × In e (p .observable) × Events p es
 abbrev pub symbolsOf : Automaton → List ℕ → List ℕ
 symbolsOf p [] = []
 symbolsOf p (e ∷ es) = getD (p .symbols) e 0 ∷ symbolsOf p es
+
+-- x and y are the symbols of one observable event, in p and in q
+pub record OneEvent (p q : Automaton) (x y : ℕ) : Type 0 where
+  pub event : ℕ
+  pub event-small : event < 32
+  pub event-observable : In event (p .observable)
+  pub first : getD (p .symbols) event 0 ≡ x
+  pub second : getD (q .symbols) event 0 ≡ y
+
+-- two offered bytes: the symbols of one observable event, each under its header, or neither is the symbol of any
+pub data SameByte (t : List ℕ) (h h′ : Header) (x y : ℕ) : Type 0 where
+  of-event : OneEvent (automatonOf t h) (automatonOf t h′) x y → SameByte t h h′ x y
+  of-none : (Observable h x → ⊥) → (Observable h′ y → ⊥) → SameByte t h h′ x y
+
+-- two lists, equally long, item by item
+pub data Pairs {A : Type 0} (R : A → A → Type 0) : List A → List A → Type 0 where
+  no-more : Pairs R [] []
+  both : {x y : A} {xs ys : List A} → R x y → Pairs R xs ys → Pairs R (x ∷ xs) (y ∷ ys)
+
+-- the traces a and b have the same observable events behind them, in p and in q
+pub record SameEvents (p q : Automaton) (a b : List ℕ) : Type 0 where
+  pub events : List ℕ
+  pub each : Events p events
+  pub first : symbolsOf p events ≡ a
+  pub second : symbolsOf q events ≡ b
 
 -- two automata, each with a trace, have the same compatible runs, with the same counts and states at their positions. All notions, verdicts and safe
 -- prefixes are then the same (proofs Agreeing)

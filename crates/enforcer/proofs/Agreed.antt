@@ -1,18 +1,23 @@
--- Safe prefixes agree where the compatible runs do; so where no two observable events share a symbol, they are those without symbols. Assumes nothing.
-use mathlib.Core.Path.{_≡_, sym, subst}
+-- Safe prefixes agree where the compatible runs do; so where two automata tell the same observable events apart, they are the same over the events behind
+-- the symbols. Assumes nothing.
+use mathlib.Core.Path.{sym, subst}
 use mathlib.Core.List.{List}
-use mathlib.Core.Logic.{_⊎_, inl, inr, _↔_}
+use mathlib.Core.Logic.{inl, inr, _↔_}
 use Prim.Native.Nat.{ℕ}
 use native.Mathlib.Omega.{arith}
+use lib.ListN.{length, take}
 use Rattle.stateset.specs.Set.{In}
-use Rattle.automaton.specs.Run.{Automaton, automatonOf}
-use Rattle.automaton.specs.Symbols.{plainHeader, Distinct, Events, symbolsOf, Agree}
-use Rattle.automaton.specs.declared.Header.{Header}
-use Rattle.automaton.proofs.Agreeing.{agree-back, sureAt-agree}
-use Rattle.automaton.proofs.Spelling.{symbols-agree}
+use Rattle.automaton.specs.Run.{Automaton}
+use Rattle.automaton.specs.Symbols.{WithoutSymbols, Distinct, SameButSymbols, Alike, SameSymbols, Events, symbolsOf, SameEvents, Agree}
+use Rattle.automaton.proofs.Agreeing.{agree-back, possible-agree, sureAt-agree}
+use Rattle.automaton.proofs.Spelling.{take-events, same-length, alike-agree, distinct-alike, events-spelled, same-agree, same-back}
+use Rattle.verifier.proofs.Agreed as estimators
 use Rattle.verifier.specs.declared.Notion.{Notion}
 use Rattle.verifier.specs.declared.Notion.the-variants.{Weak, Strong}
 use Rattle.enforcer.specs.SafePrefix.{Excused, Safe}
+use Rattle.enforcer.specs.Queues.{Longest, Queue}
+use Rattle.enforcer.specs.Enforcers.{Grown}
+use Rattle.enforcer.specs.declared.Enforcer.{Enforcer}
 
 module _ (p q : Automaton) (a b : List ℕ) (g : Agree p q a b) (secret K n : ℕ) where
   excused-agree : Excused p secret K a n → Excused q secret K b n
@@ -28,11 +33,67 @@ module _ (p q : Automaton) (a b : List ℕ) (g : Agree p q a b) (secret K n : �
   safe-agree Strong (inl far) = inl (omega (arith, g .sizes))
   safe-agree Strong (inr x) = inr (excused-agree x)
 
--- with a header whose observable events have distinct symbols, the symbols of events are safe to release exactly where the events are without symbols
-pub distinct-safe : (t : List ℕ) (h : Header) → Distinct (automatonOf t h) → (es : List ℕ) → Events (automatonOf t h) es → (notion : Notion) (n : ℕ)
-    → Safe notion (automatonOf t h) (h .secret) (h .k) (symbolsOf (automatonOf t h) es) n ↔ Safe notion (automatonOf t (plainHeader h)) (h .secret) (h .k) es n
-distinct-safe t h d es each notion n =
-    let g = symbols-agree (automatonOf t h) d es each in (
-      safe-agree _ _ _ _ g (h .secret) (h .k) n notion,
-      safe-agree _ _ _ _ (agree-back _ _ _ _ g) (h .secret) (h .k) n notion,
-    )
+-- two automata that tell the same observable events apart have the same safe prefixes, over traces with the same events behind them
+pub alike-safe : (p q : Automaton) → Alike p q → (a b : List ℕ) → SameEvents p q a b → (secret K n : ℕ) (notion : Notion)
+    → Safe notion p secret K a n ↔ Safe notion q secret K b n
+alike-safe p q like a b x secret K n notion =
+    let g = alike-agree p q like a b x in
+    (safe-agree p q a b g secret K n notion, safe-agree q p b a (agree-back p q a b g) secret K n notion)
+
+-- so where no two observable events share a symbol, the symbols of events are safe to release exactly where these events are without symbols
+pub distinct-safe : (p q : Automaton) → Distinct p → WithoutSymbols q → SameButSymbols p q → (es : List ℕ) → Events p es → (secret K n : ℕ) (notion : Notion)
+    → Safe notion p secret K (symbolsOf p es) n ↔ Safe notion q secret K es n
+distinct-safe p q d w s es each = alike-safe p q (distinct-alike p q d w s) (symbolsOf p es) es (events-spelled p q d w s es each)
+
+-- the longest safe prefix has the same length
+pub alike-longest : (p q : Automaton) → Alike p q → (a b : List ℕ) → SameEvents p q a b → (secret K : ℕ) (notion : Notion) (r : ℕ)
+    → Longest (Safe notion p secret K) a r → Longest (Safe notion q secret K) b r
+alike-longest p q like a b x secret K notion r l =
+    let size = same-length p q a b x in
+    let same : (k : ℕ) → Safe notion p secret K (take k a) (length a) ↔ Safe notion q secret K (take k b) (length a) =
+    λ k. alike-safe p q like (take k a) (take k b) (take-events p q k a b x) secret K (length a) notion in
+    record {
+      within = omega (arith, l .within);
+      safe = subst (λ (n : ℕ). Safe notion q secret K (take r b) n) size (same r .0 (l .safe));
+      longest = λ k more h safe. l .longest k more (omega arith) (same k .1 (subst (λ (n : ℕ). Safe notion q secret K (take k b) n) (sym size) safe));
+    }
+
+-- an unobservable event's symbol counts for nothing: the enforcer of a trace is the same
+module _ (p q : Automaton) (same : SameSymbols p q) where
+  pub same-safe : (trace : List ℕ) (secret K n : ℕ) (notion : Notion) → Safe notion p secret K trace n ↔ Safe notion q secret K trace n
+  same-safe trace secret K n notion =
+      let g = same-agree p q same trace in
+      (safe-agree p q trace trace g secret K n notion, safe-agree q p trace trace (agree-back p q trace trace g) secret K n notion)
+
+  grown-to : (notion : Notion) (secret K : ℕ) (trace : List ℕ) (s : Enforcer) → Grown notion p secret K trace s → Grown notion q secret K trace s
+  grown-to notion secret K trace s g =
+      let safe : (first : List ℕ) (n : ℕ) → Safe notion p secret K first n ↔ Safe notion q secret K first n = λ first n. same-safe first secret K n notion in
+      record {
+        limits = g .limits;
+        possible = possible-agree p q trace trace (same-agree p q same trace) (g .possible);
+        estimator = estimators.same-grown p q same trace K (s .estimator) .0 (g .estimator);
+        under = g .under;
+        told = λ r h. let x = g .told r h in (x .0, estimators.same-tells p q same (take r trace) secret K notion (x .0) .0 (x .1));
+        queue = same-queue (Safe notion p secret K) (Safe notion q secret K) safe trace (s .count) (s .pending) (s .waits) (g .queue);
+        pending-padded = g .pending-padded;
+        waits-padded = g .waits-padded;
+      }
+    where
+      same-queue : (S T : List ℕ → ℕ → Type 0) → ((first : List ℕ) (n : ℕ) → S first n ↔ T first n) → (trace : List ℕ) (count : ℕ) (pending waits : List ℕ)
+          → Queue S trace count pending waits → Queue T trace count pending waits
+      same-queue S T safe trace count pending waits x =
+          record {
+            few = x .few;
+            longest = record {
+              within = x .longest .within;
+              safe = safe _ _ .0 (x .longest .safe);
+              longest = λ r more h y. x .longest .longest r more h (safe _ _ .1 y);
+            };
+            pending-are = x .pending-are;
+            waits-are = λ i h m. let w = x .waits-are i h m in (λ y. w .0 (safe _ _ .1 y), λ y. safe _ _ .0 (w .1 y));
+          }
+
+pub same-grown : (p q : Automaton) → SameSymbols p q → (notion : Notion) (secret K : ℕ) (trace : List ℕ) (s : Enforcer)
+    → Grown notion p secret K trace s ↔ Grown notion q secret K trace s
+same-grown p q same notion secret K trace s =
+    (grown-to p q same notion secret K trace s, grown-to q p (same-back p q same) notion secret K trace s)

@@ -11,4 +11,4 @@ pub mod Unique
 pub mod ThirdPoint
 pub mod Settings
 pub mod Agreed
-pub mod DistinctReleases
+pub mod Corresponding

@@ -39,7 +39,7 @@ module _ (notion : Notion) (t : List ℕ) (h : Header) (sound : Sound t h) where
   turned trace s b output left n g back =
       record { judged = back; after = rw (append-nil trace) g; passes = passes-refused trace (s .count) b n output left (g .queue .few) }
 
-  one : (trace : List ℕ) (s : Enforcer) (b : ℕ) (output : List ℕ) (r : Said) (m : Enforcer) (left : List ℕ) → GrownBy trace s
+  pub one : (trace : List ℕ) (s : Enforcer) (b : ℕ) (output : List ℕ) (r : Said) (m : Enforcer) (left : List ℕ) → GrownBy trace s
       → Offering t h s b output r m left → OneOf trace s (record { byte = b; output = output; says = r; left = left }) m
   one trace s b output r m left g (Offering.malformed bad) = absurd (bad (sound, g .limits))
   one trace s b output r m left g (Offering.output-too-small so li few) = turned trace s b output left 10 g (TurnedBack.output-too-small few)

@@ -1,18 +1,20 @@
--- Verdicts agree where the compatible runs do; so where no two observable events share a symbol, they are those without symbols. Assumes nothing.
-use mathlib.Core.Path.{_≡_, sym, subst}
+-- Verdicts agree where the compatible runs do; so where two automata tell the same observable events apart, they are the same over the events behind the
+-- symbols. Assumes nothing.
+use mathlib.Core.Path.{subst}
 use mathlib.Core.List.{List}
 use mathlib.Core.Logic.{_↔_}
 use Prim.Native.Nat.{ℕ, _-_}
 use native.Mathlib.Omega.{arith}
-use lib.ListN.{length}
-use Rattle.automaton.specs.Run.{Automaton, automatonOf}
-use Rattle.automaton.specs.Symbols.{plainHeader, Distinct, Events, symbolsOf, Agree}
-use Rattle.automaton.specs.declared.Header.{Header}
-use Rattle.automaton.proofs.Agreeing.{agree-back, sureAt-agree, sureFrom-agree, clearAt-agree, clearFrom-agree}
-use Rattle.automaton.proofs.Spelling.{symbols-agree}
+use lib.ListN.{length, take}
+use Rattle.automaton.specs.Run.{Automaton}
+use Rattle.automaton.specs.Symbols.{WithoutSymbols, Distinct, SameButSymbols, Alike, SameSymbols, Events, symbolsOf, SameEvents, Agree}
+use Rattle.automaton.proofs.Agreeing.{agree-back, possible-agree, enters-agree, sureAt-agree, sureFrom-agree, clearAt-agree, clearFrom-agree}
+use Rattle.automaton.proofs.Spelling.{alike-agree, distinct-alike, events-spelled, same-agree, same-back}
+use Rattle.verifier.specs.declared.Estimator.{Estimator}
+use Rattle.verifier.specs.Estimators.{Grown}
 use Rattle.verifier.specs.declared.Notion.{Notion}
 use Rattle.verifier.specs.declared.Notion.the-variants.{Weak, Strong}
-use Rattle.verifier.specs.Verdicts.{Steps, none, leak, Sure, Clear, LeastLeak, Tells, LeakAt, Words}
+use Rattle.verifier.specs.Verdicts.{Steps, none, leak, Sure, Clear, Tells, LeakAt, Words}
 
 module _ (p q : Automaton) (a b : List ℕ) (g : Agree p q a b) (secret : ℕ) where
   pub sure-agree : (notion : Notion) (j : ℕ) → Sure notion p secret a j → Sure notion q secret b j
@@ -43,28 +45,62 @@ module _ (p q : Automaton) (a b : List ℕ) (g : Agree p q a b) (secret : ℕ) w
   leak-agree : (notion : Notion) (K l : ℕ) → LeakAt notion p secret K a l → LeakAt notion q secret K b l
   leak-agree notion K l x = record { within = x .within; reached = omega (arith, x .reached, g .sizes); sure = sure-back notion l (x .sure) }
 
-pub words-agree : (p q : Automaton) (a b : List ℕ) → Agree p q a b → (secret : ℕ) (notion : Notion) (K : ℕ) (v : Steps) → Words notion p secret K a v → Words notion q secret K b v
+pub words-agree : (p q : Automaton) (a b : List ℕ) → Agree p q a b → (secret : ℕ) (notion : Notion) (K : ℕ) (v : Steps)
+    → Words notion p secret K a v → Words notion q secret K b v
 words-agree p q a b g secret notion K none x = λ l y. x l (leak-agree q p b a (agree-back p q a b g) secret notion K l y)
 words-agree p q a b g secret notion K (leak l) x = (
   leak-agree p q a b g secret notion K l (x .0),
   λ m h y. x .1 m h (leak-agree q p b a (agree-back p q a b g) secret notion K m y),
 )
 
--- with a header whose observable events have distinct symbols, each verdict on the symbols of events is the one on these events without symbols
-module _ (t : List ℕ) (h : Header) (d : Distinct (automatonOf t h)) (es : List ℕ) (each : Events (automatonOf t h) es) where
-  agreed : Agree (automatonOf t h) (automatonOf t (plainHeader h)) (symbolsOf (automatonOf t h) es) es
-  agreed = symbols-agree (automatonOf t h) d es each
+-- two automata that tell the same observable events apart give traces with the same events behind them the same verdicts
+module _ (p q : Automaton) (like : Alike p q) (a b : List ℕ) (x : SameEvents p q a b) (secret K : ℕ) (notion : Notion) (v : Steps) where
+  pub alike-tells : Tells notion p secret K a v ↔ Tells notion q secret K b v
+  alike-tells =
+      let g = alike-agree p q like a b x in
+      (tells-agree p q a b g secret notion K v, tells-agree q p b a (agree-back p q a b g) secret notion K v)
 
-  pub distinct-words : (notion : Notion) (v : Steps)
-      → Words notion (automatonOf t h) (h .secret) (h .k) (symbolsOf (automatonOf t h) es) v ↔ Words notion (automatonOf t (plainHeader h)) (h .secret) (h .k) es v
-  distinct-words notion v = (
-    words-agree _ _ _ _ agreed (h .secret) notion (h .k) v,
-    words-agree _ _ _ _ (agree-back _ _ _ _ agreed) (h .secret) notion (h .k) v,
-  )
+  pub alike-words : Words notion p secret K a v ↔ Words notion q secret K b v
+  alike-words =
+      let g = alike-agree p q like a b x in
+      (words-agree p q a b g secret notion K v, words-agree q p b a (agree-back p q a b g) secret notion K v)
 
-  pub distinct-tells : (notion : Notion) (v : Steps)
-      → Tells notion (automatonOf t h) (h .secret) (h .k) (symbolsOf (automatonOf t h) es) v ↔ Tells notion (automatonOf t (plainHeader h)) (h .secret) (h .k) es v
-  distinct-tells notion v = (
-    tells-agree _ _ _ _ agreed (h .secret) notion (h .k) v,
-    tells-agree _ _ _ _ (agree-back _ _ _ _ agreed) (h .secret) notion (h .k) v,
-  )
+-- so where no two observable events share a symbol, each verdict on the symbols of events is the one on these events without symbols
+module _ (p q : Automaton) (d : Distinct p) (w : WithoutSymbols q) (s : SameButSymbols p q) (es : List ℕ) (each : Events p es) (secret K : ℕ) (notion : Notion)
+    (v : Steps) where
+  pub distinct-tells : Tells notion p secret K (symbolsOf p es) v ↔ Tells notion q secret K es v
+  distinct-tells = alike-tells p q (distinct-alike p q d w s) (symbolsOf p es) es (events-spelled p q d w s es each) secret K notion v
+
+  pub distinct-words : Words notion p secret K (symbolsOf p es) v ↔ Words notion q secret K es v
+  distinct-words = alike-words p q (distinct-alike p q d w s) (symbolsOf p es) es (events-spelled p q d w s es each) secret K notion v
+
+-- an unobservable event's symbol counts for nothing: every trace has the same verdicts and the same estimator
+module _ (p q : Automaton) (same : SameSymbols p q) (trace : List ℕ) where
+  pub same-tells : (secret K : ℕ) (notion : Notion) (v : Steps) → Tells notion p secret K trace v ↔ Tells notion q secret K trace v
+  same-tells secret K notion v =
+      let g = same-agree p q same trace in
+      (tells-agree p q trace trace g secret notion K v, tells-agree q p trace trace (agree-back p q trace trace g) secret notion K v)
+
+  grown-to : (K : ℕ) (s : Estimator) → Grown p K trace s → Grown q K trace s
+  grown-to K s g =
+      record {
+        possible = possible-agree p q trace trace (same-agree p q same trace) (g .possible);
+        count-is = g .count-is;
+        symbols-are = g .symbols-are;
+        symbols-rest = g .symbols-rest;
+        entries-are = λ l h.
+            let first = take (length trace - l) trace in
+            let y = same-agree p q same first in
+            let e = g .entries-are l h in
+            record {
+              sound = λ r i. enters-agree p q first first y r (e .sound r i);
+              whole = λ r n. e .whole r (enters-agree q p first first (agree-back p q first first y) r n);
+            };
+        entries-rest = g .entries-rest;
+        symbols-size = g .symbols-size;
+        entries-size = g .entries-size;
+        entries-words = g .entries-words;
+      }
+
+pub same-grown : (p q : Automaton) → SameSymbols p q → (trace : List ℕ) (K : ℕ) (s : Estimator) → Grown p K trace s ↔ Grown q K trace s
+same-grown p q same trace K s = (grown-to p q same trace K s, grown-to q p (same-back p q same) trace K s)

@@ -7,3 +7,4 @@ pub mod Judging
 pub mod Storing
 pub mod SecondPoint
 pub mod Agreed
+pub mod Corresponding

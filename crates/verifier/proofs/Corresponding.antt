@@ -1,0 +1,142 @@
+-- Fresh estimators and lists of calls under two headers that are the same but for symbols. Where they tell the same observable events apart, they are
+-- answered alike, call by call; where they differ in the symbols of unobservable events alone, the contracts say the same. Assumes nothing.
+use mathlib.Core.Path.{_≡_, refl, ap, ap₂, sym, _∙_}
+use mathlib.Core.List.{List, [], _∷_, _++_}
+use mathlib.Core.Logic.{inl, inr, _↔_}
+use Prim.Native.Nat.{ℕ}
+use Rattle.automaton.specs.Run.{automatonOf}
+use Rattle.automaton.specs.Symbols.{
+  WithoutSymbols,
+  Distinct,
+  SameButSymbols,
+  Alike,
+  SameSymbols,
+  symbolsOf,
+  OneEvent,
+  SameByte,
+  of-event,
+  of-none,
+  Pairs,
+  no-more,
+  both,
+  SameEvents,
+}
+use Rattle.automaton.specs.declared.Header.{Header}
+use Rattle.automaton.proofs.Agreeing.{possible-agree, impossible-agree}
+use Rattle.automaton.proofs.Spelling.{no-events, one-event, join-events, alike-impossible, distinct-alike, spelled-own, same-agree}
+use Rattle.automaton.proofs.Headers.{both-observable, same-observable, same-sound, relabelled, same-header}
+use Rattle.verifier.specs.declared.Notion.{Notion}
+use Rattle.verifier.specs.declared.Estimator.{Estimator}
+use Rattle.verifier.specs.Verdicts.{Steps, Words, Exactly}
+use Rattle.verifier.specs.Replies.{Said, refused, verdicts, Exact, Opening, opened, Accepting, not-observable, incompatible, accepted}
+use Rattle.verifier.specs.Calls.{Call, Calls, takenBy, acceptedOf, Right, Answered, AllAnswered, end, more}
+use Rattle.verifier.specs.Paired.{SameCalled, Corresponds}
+use Rattle.verifier.proofs.Agreed.{alike-words, same-tells, same-grown}
+use Rattle.verifier.proofs.SecondPoint.{second-point}
+
+module _ (t : List ℕ) (h h′ : Header) (like : Alike (automatonOf t h) (automatonOf t h′)) (secret : h .secret ≡ h′ .secret) (k : h .k ≡ h′ .k) where
+  abbrev Same : List ℕ → List ℕ → Type 0
+  Same a b = SameEvents (automatonOf t h) (automatonOf t h′) a b
+
+  -- verdicts by definition are equal over the same events
+  exactly-alike : (notion : Notion) (a b : List ℕ) (v v′ : Steps) → Same a b → Exactly notion (automatonOf t h) (h .secret) (h .k) a v
+      → Exactly notion (automatonOf t h′) (h′ .secret) (h′ .k) b v′ → v ≡ v′
+  exactly-alike notion a b v v′ x y z =
+      let w : Words notion (automatonOf t h′) (h′ .secret) (h′ .k) b v =
+      rw (← secret, ← k) (alike-words _ _ like a b x (h .secret) (h .k) notion v .0 (y v .0 refl)) in
+      sym (z v .1 w)
+
+  right-alike : (a b : List ℕ) (v w v′ w′ : Steps) → Same a b → Right t h a v w → Right t h′ b v′ w′ → verdicts v w ≡ verdicts v′ w′
+  right-alike a b v w v′ w′ x y z = ap₂ verdicts (exactly-alike _ a b v v′ x (y .weak) (z .weak)) (exactly-alike _ a b w w′ x (y .strong) (z .strong))
+
+  -- one pair of calls, after traces with the same events behind them
+  record OnePair (x y : ℕ) (r r′ : Said) : Type 0 where
+    says : r ≡ r′
+    taken : Same (takenBy r x) (takenBy r′ y)
+
+  module _ (a b : List ℕ) (s : Same a b) (x y : ℕ) where
+    one-more : OneEvent (automatonOf t h) (automatonOf t h′) x y → Same (a ++ x ∷ []) (b ++ y ∷ [])
+    one-more e = join-events _ _ a b _ _ s (one-event _ _ x y e)
+
+    one-pair : SameByte t h h′ x y → (r r′ : Said) → Answered t h a x r → Answered t h′ b y r′ → OnePair x y r r′
+    one-pair (of-none never never′) (verdicts v w) r′ f f′ = absurd (never (f .0))
+    one-pair (of-none never never′) (refused m) (verdicts v w) f f′ = absurd (never′ (f′ .0))
+    one-pair (of-none never never′) (refused m) (refused n) (inr f) f′ = absurd (never (f .1))
+    one-pair (of-none never never′) (refused m) (refused n) (inl f) (inr f′) = absurd (never′ (f′ .1))
+    one-pair (of-none never never′) (refused m) (refused n) (inl f) (inl f′) = record { says = ap refused (f .0 ∙ sym (f′ .0)); taken = no-events _ _ }
+    one-pair (of-event e) (refused m) r′ (inl f) f′ = absurd (f .1 (both-observable t h h′ (like .same) x y e .0))
+    one-pair (of-event e) (refused m) (refused n) (inr f) (inl f′) = absurd (f′ .1 (both-observable t h h′ (like .same) x y e .1))
+    one-pair (of-event e) (refused m) (refused n) (inr f) (inr f′) = record { says = ap refused (f .0 ∙ sym (f′ .0)); taken = no-events _ _ }
+    one-pair (of-event e) (refused m) (verdicts v w) (inr f) f′ =
+        absurd (alike-impossible _ _ like _ _ (one-more e) .0 (f .2) (f′ .1 .run) (f′ .1 .compatible))
+    one-pair (of-event e) (verdicts v w) (refused n) f (inl f′) = absurd (f′ .1 (both-observable t h h′ (like .same) x y e .1))
+    one-pair (of-event e) (verdicts v w) (refused n) f (inr f′) =
+        absurd (alike-impossible _ _ like _ _ (one-more e) .1 (f′ .2) (f .1 .run) (f .1 .compatible))
+    one-pair (of-event e) (verdicts v w) (verdicts v′ w′) f f′ =
+        record { says = right-alike _ _ v w v′ w′ (one-more e) (f .2) (f′ .2); taken = one-event _ _ x y e }
+
+  all-pairs : (a b : List ℕ) (cs cs′ : List Call) → Same a b → Pairs (SameCalled t h h′) cs cs′ → AllAnswered t h a cs → AllAnswered t h′ b cs′
+      → Corresponds (automatonOf t h) (automatonOf t h′) cs cs′
+  all-pairs a b cs cs′ s no-more end end = record { answers = no-more; accepted = no-events _ _ }
+  all-pairs a b cs cs′ s (both {x = c} {y = c′} {xs = rest} {ys = rest′} same pairs) (more f fs) (more f′ fs′) =
+      let y = one-pair a b s (c .byte) (c′ .byte) same (c .says) (c′ .says) f f′ in
+      let z : Corresponds (automatonOf t h) (automatonOf t h′) rest rest′ =
+      all-pairs (a ++ takenBy (c .says) (c .byte)) (b ++ takenBy (c′ .says) (c′ .byte)) rest rest′ (join-events _ _ a b _ _ s (y .taken)) pairs fs fs′ in
+      record { answers = both (y .says) (z .answers); accepted = join-events _ _ _ _ _ _ (y .taken) (z .accepted) }
+
+  -- THE THEOREM of S-2 for lists of calls: fresh estimators that were not refused have the same opening verdicts, and what follows corresponds
+  pub alike-calls : (v w v′ w′ : Steps) (s s′ : Estimator) (cs cs′ : List Call) (e e′ : Estimator)
+      → Opening t h (verdicts v w) s → Opening t h′ (verdicts v′ w′) s′
+      → Pairs (SameCalled t h h′) cs cs′ → Calls t h s cs e → Calls t h′ s′ cs′ e′
+      → (verdicts v w ≡ verdicts v′ w′) × Corresponds (automatonOf t h) (automatonOf t h′) cs cs′
+  alike-calls v w v′ w′ s s′ cs cs′ e e′ o o′ pairs f f′ =
+      let x = second-point t h v w s cs e o f in
+      let y = second-point t h′ v′ w′ s′ cs′ e′ o′ f′ in (
+        right-alike [] [] v w v′ w′ (no-events _ _) (x .opening) (y .opening),
+        all-pairs [] [] cs cs′ (no-events _ _) pairs (x .answered) (y .answered),
+      )
+
+-- so with a header in which no two observable events share a symbol, what is accepted is the symbols of what is without symbols
+pub distinct-calls : (t : List ℕ) (h h′ : Header) → Distinct (automatonOf t h) → WithoutSymbols (automatonOf t h′)
+    → SameButSymbols (automatonOf t h) (automatonOf t h′) → h .secret ≡ h′ .secret → h .k ≡ h′ .k
+    → (v w v′ w′ : Steps) (s s′ : Estimator) (cs cs′ : List Call) (e e′ : Estimator) → Opening t h (verdicts v w) s → Opening t h′ (verdicts v′ w′) s′
+    → Pairs (SameCalled t h h′) cs cs′ → Calls t h s cs e → Calls t h′ s′ cs′ e′
+    → (verdicts v w ≡ verdicts v′ w′) × Corresponds (automatonOf t h) (automatonOf t h′) cs cs′ × (acceptedOf cs ≡ symbolsOf (automatonOf t h) (acceptedOf cs′))
+distinct-calls t h h′ d n same secret k v w v′ w′ s s′ cs cs′ e e′ o o′ pairs f f′ =
+    let x = alike-calls t h h′ (distinct-alike _ _ d n same) secret k v w v′ w′ s s′ cs cs′ e e′ o o′ pairs f f′ in
+    (x .0, x .1, spelled-own _ _ _ _ n same (x .1 .accepted) .1)
+
+-- ---- an unobservable event's symbol counts for nothing
+
+module _ (t : List ℕ) (h : Header) (symbols : List ℕ) (g : SameSymbols (automatonOf t h) (automatonOf t (relabelled h symbols))) where
+  exact-to : (trace : List ℕ) (v w : Steps) (s : Estimator) → Exact t h trace v w s → Exact t (relabelled h symbols) trace v w s
+  exact-to trace v w s x =
+      record {
+        possible = possible-agree _ _ trace trace (same-agree _ _ g trace) (x .possible);
+        weak = same-tells _ _ g trace (h .secret) (h .k) _ v .0 (x .weak);
+        strong = same-tells _ _ g trace (h .secret) (h .k) _ w .0 (x .strong);
+        grown = same-grown _ _ g trace (h .k) s .0 (x .grown);
+      }
+
+  opening-to : (r : Said) (s : Estimator) → Opening t h r s → Opening t (relabelled h symbols) r s
+  opening-to r s (Opening.malformed bad out) = Opening.malformed (λ so. bad (same-sound t h (relabelled h symbols) g refl .1 so)) out
+  opening-to r s (opened so li x) = opened (same-sound t h (relabelled h symbols) g refl .0 so) li (exact-to [] _ _ s x)
+
+  accepting-to : (self : Estimator) (byte : ℕ) (r : Said) (s : Estimator) → Accepting t h self byte r s → Accepting t (relabelled h symbols) self byte r s
+  accepting-to self byte r s (Accepting.malformed bad) =
+      Accepting.malformed (λ x. bad (same-sound t h (relabelled h symbols) g refl .1 (x .0), x .1))
+  accepting-to self byte r s (not-observable so li never) =
+      not-observable (same-sound t h (relabelled h symbols) g refl .0 so) li (λ o. never (same-observable t h (relabelled h symbols) g byte .1 o))
+  accepting-to self byte r s (incompatible so li ob nobody) =
+      incompatible (same-sound t h (relabelled h symbols) g refl .0 so) li (same-observable t h (relabelled h symbols) g byte .0 ob)
+      (λ trace x. impossible-agree _ _ _ _ (same-agree _ _ g (trace ++ byte ∷ [])) (nobody trace (same-grown _ _ g trace (h .k) self .1 x)))
+  accepting-to self byte r s (accepted so li ob after weak strong exact) =
+      accepted (same-sound t h (relabelled h symbols) g refl .0 so) li (same-observable t h (relabelled h symbols) g byte .0 ob) after weak strong
+      (λ trace x. exact-to (trace ++ byte ∷ []) _ _ s (exact trace (same-grown _ _ g trace (h .k) self .1 x)))
+
+module _ (t : List ℕ) (h h′ : Header) (g : SameSymbols (automatonOf t h) (automatonOf t h′)) (secret : h .secret ≡ h′ .secret) (k : h .k ≡ h′ .k) where
+  pub same-opening : (r : Said) (s : Estimator) → Opening t h r s ↔ Opening t h′ r s
+  same-opening r s = same-header t (λ x. Opening t x r s) (λ h symbols g. opening-to t h symbols g r s) h h′ g secret k
+
+  pub same-accepting : (self : Estimator) (byte : ℕ) (r : Said) (s : Estimator) → Accepting t h self byte r s ↔ Accepting t h′ self byte r s
+  same-accepting self byte r s = same-header t (λ x. Accepting t x self byte r s) (λ h symbols g. accepting-to t h symbols g self byte r s) h h′ g secret k

@@ -386,13 +386,7 @@ pub fn observable_reach(table: &[u64], events: u64, estimate: u64) -> u64
 }
 
 // From the states that some symbols can follow, those that the same symbols can follow with one more before them, through allowed states alone.
-pub fn backward_reach(
-    table: &[u64],
-    back: &[u64],
-    allowed: u64,
-    events: u64,
-    then: u64,
-) -> u64
+pub fn backward_reach(table: &[u64], back: &[u64], allowed: u64, events: u64, then: u64) -> u64
     requires { ⌜ (length (now table) ≡ 2048) × (length (now back) ≡ 64) × ((e : ℕ) → In e events → e < 32) ⌝ }
     ensures { λ r. ⌜ ((p : Automaton) (states : ℕ) (rest : List ℕ) (symbol : ℕ) → p .table ≡ now (table .entry) → Showing p symbol events
         → Entered p states (now (back .entry)) → Sub allowed states → Is then (Leaves p allowed rest) → Is r (Leaves p allowed (symbol ∷ rest))) ⌝ }

@@ -442,7 +442,13 @@ fn release_allowed(memory: &[u64; 36864], symbol: u8, before: &[u64; 36864]) -> 
 }
 
 // Whether what a call answered and left is allowed.
-fn allowed(call: u64, symbol: u8, answer: u8, memory: &[u64; 36864], before: &[u64; 36864]) -> bool {
+fn allowed(
+    call: u64,
+    symbol: u8,
+    answer: u8,
+    memory: &[u64; 36864],
+    before: &[u64; 36864],
+) -> bool {
     if answer == 7 {
         let slots = slots_of(call);
         let states = unchanged(memory, slots.first, before)

@@ -128,7 +128,13 @@ fn entered(estimator: Estimator) -> u64
 }
 
 // The states right after one more symbol, by the events that show it, from those right after the symbol before it.
-fn next_estimate(table: &[u64], silent: &[u64], states: u64, entry: u64, events: u64) -> NextEstimate
+fn next_estimate(
+    table: &[u64],
+    silent: &[u64],
+    states: u64,
+    entry: u64,
+    events: u64,
+) -> NextEstimate
     requires { ⌜ (length (now table) ≡ 2048) × (length (now silent) ≡ 64) × ((e : ℕ) → In e events → e < 32) ⌝ }
     ensures { λ r. ⌜ ((p : Automaton) (symbol : ℕ) → p .table ≡ now (table .entry) → p .initial ≤ 63 → Closed p states (now (silent .entry)) → Sub entry states
         → Showing p symbol events → Next p entry symbol r) ⌝ }

@@ -36,7 +36,7 @@ cast-observable : tie.Need-cast-observable Inv-loop μ-loop
 cast-observable c = omega arith
 
 loop-holds : tie.Need-loop-holds Inv-loop μ-loop
-loop-holds c = 
+loop-holds c =
     let empty = c .before .before .pre .1 in
     (omega arith, ap length empty ∙ refl, omega arith, λ e i. i, λ k h. sort-start _ _ k _ (ap (λ (l : List ℕ). getD l k 0) empty ∙ zeros 32 k))
 

@@ -40,7 +40,7 @@ array-read-if2 c =
     omega (arith, in-lt 32 _ _ (g .small) (g .sub _ (pick c .inside)))
 
 returns-2 : tie.Need-returns-2 Inv-loop μ-loop
-returns-2 c = λ all. 
+returns-2 c = λ all.
     let g = c .before .before .loop .inv .1 in
     omega (arith, all _ (g .sub _ (pick (c .before) .inside)), c .if2 .taken)
 

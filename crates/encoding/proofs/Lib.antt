@@ -5,10 +5,11 @@ pub mod Refusing
 pub mod HeaderSymbols
 pub mod Stored
 pub mod Promise
--- Theorems about the definitions: one decoding only, no transition twice, and what a decoded table means. (01's starred encodings are rows of the
+-- Theorems about the definitions: one decoding only, no transition twice, and what a decoded table and a decoded header's symbols mean. (01's starred encodings are rows of the
 -- table in `examples`.)
 pub mod Only
 pub mod Distinct
 pub mod Repeats
 pub mod Cases
 pub mod Listing
+pub mod DecodedSymbols

@@ -1,7 +1,7 @@
 -- `encoding::header_of` meets its contract: the symbols stand behind the front.
 use native.Mathlib.Omega.{arith}
 use borrow.Author.Needs.{needs}
-use Rattle.encoding.proofs.Ended.{symbols-few}
+use Rattle.encoding.proofs.Ended.{observable-fits, symbols-few}
 use Rattle.encoding.proofs.HeaderSymbols.{header-made}
 use Rattle.encoding.proofs.header_of.Statement.{statement}
 use Rattle.encoding.proofs.header_of.Tie as tie
@@ -28,7 +28,7 @@ cast-t8 : tie.Need-cast-t8
 cast-t8 c = search needs
 
 cast-t9 : tie.Need-cast-t9
-cast-t9 c = search needs
+cast-t9 c = let a = c .before .before .before .before .before .before .before .before in omega (arith, observable-fits (a .args .front) (a .pre .0))
 
 returns : tie.Need-returns
 returns c = header-made _ (c .before .before .before .before .before .before .before .before .args .front) _ _ _ (c .before .before .before .before .before .front-end .ensures) (c .before .before .before .before .symbol-count .ensures) (c .before .before .before .all-symbols .ensures)

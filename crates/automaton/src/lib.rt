@@ -108,13 +108,13 @@ fn small_symbols(header: Header) -> bool
         return true;
     }
     let observable = header.observable as u64;
-    let mut todo = observable;
-    while todo != 0 {
-        let e = u64::trailing_zeros(todo) as usize;
+    let mut untested = observable;
+    while untested != 0 {
+        let e = u64::trailing_zeros(untested) as usize;
         if 31 < symbols[e] {
             return false;
         }
-        todo &= todo - 1;
+        untested &= untested - 1;
     }
     true
 }
@@ -342,12 +342,12 @@ fn image_by(table: &[u64], events: u64, set: u64) -> u64
     requires { ⌜ (length (now table) ≡ 2048) × ((e : ℕ) → In e events → e < 32) ⌝ }
     ensures { λ r. ⌜ Is r (Image (Listed (now (table .entry)) events) set) ⌝ }
 {
-    let mut todo = events;
+    let mut left = events;
     let mut r: u64 = 0;
-    while todo != 0 {
-        let e = u64::trailing_zeros(todo) as usize;
+    while left != 0 {
+        let e = u64::trailing_zeros(left) as usize;
         r |= image(event_rows(table, e), set);
-        todo &= todo - 1;
+        left &= left - 1;
     }
     r
 }

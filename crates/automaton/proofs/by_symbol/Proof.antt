@@ -29,7 +29,10 @@ pick c = taken (c .before .loop .todo) (omega arith) (c .before .loop .inv .0)
 seen : (c : tie.In-loop Inv-loop μ-loop) → In (trailingZeros 64 (c .before .loop .todo)) (c .before .before .before .before .args .header .observable)
 seen c = c .before .loop .inv .3 _ (pick c .inside)
 
-small : (c : tie.In-loop Inv-loop μ-loop) → getD (c .before .before .before .before .args .header .symbols) (trailingZeros 64 (c .before .loop .todo)) 0 ≤ 31
+abbrev symbolIn : tie.In-loop Inv-loop μ-loop → ℕ
+symbolIn c = getD (c .before .before .before .before .args .header .symbols) (trailingZeros 64 (c .before .loop .todo)) 0
+
+small : (c : tie.In-loop Inv-loop μ-loop) → symbolIn c ≤ 31
 small c = c .before .before .before .before .pre .0 _ (seen c)
 
 cast-observable : tie.Need-cast-observable Inv-loop μ-loop
@@ -56,19 +59,19 @@ low : (c : tie.In-loop Inv-loop μ-loop) → trailingZeros 64 (c .before .loop .
 low c = in-lt 32 _ _ (c .before .loop .inv .2) (seen c)
 
 cast-sets : tie.Need-cast-sets Inv-loop μ-loop
-cast-sets c = omega (arith, low c)
+cast-sets c = omega (arith, low c, small c)
 
 shl-sets : tie.Need-shl-sets Inv-loop μ-loop
-shl-sets c = omega (arith, low c)
+shl-sets c = omega (arith, low c, small c)
 
 mul-sets : tie.Need-mul-sets Inv-loop μ-loop
-mul-sets c = omega (arith, small c)
+mul-sets c = omega (arith, low c, small c)
 
 slice-read-sets : tie.Need-slice-read-sets Inv-loop μ-loop
-slice-read-sets c = omega (arith, small (c .before), c .before .before .loop .inv .1)
+slice-read-sets c = omega (arith, low (c .before), small (c .before), c .before .before .loop .inv .1)
 
 slice-write-sets : tie.Need-slice-write-sets Inv-loop μ-loop
-slice-write-sets c = omega (arith, small (c .before), c .before .before .loop .inv .1)
+slice-write-sets c = omega (arith, low (c .before), small (c .before), c .before .before .loop .inv .1)
 
 sub-todo : tie.Need-sub-todo Inv-loop μ-loop
 sub-todo c = omega arith
@@ -84,7 +87,7 @@ loop-again c =
       simp length-set (v .1),
       v .2,
       λ e i. v .3 e (k .kept e i),
-      sort-turn _ _ _ _ _ _ _ (c .before .before .loop .sets) k refl (omega (arith, v .1, small (c .before))) (seen (c .before)) (with-event _ _ (low (c .before))) (v .4),
+      sort-turn _ _ _ _ _ (symbolIn (c .before)) _ (c .before .before .loop .sets) k refl (omega (arith, v .1, small (c .before))) (seen (c .before)) (with-event _ _ (low (c .before))) (v .4),
     )
 
 same-length : tie.Need-same-length Inv-loop μ-loop

@@ -1,12 +1,13 @@
--- `automaton::image_by` meets its contract. The invariant: `r` joins the images by the events that are no longer in `todo`, which falls.
+-- `automaton::image_by` meets its contract. The invariant: `r` joins the images by the events that are no longer in `left`, which falls.
 -- Assumes nothing.
 use mathlib.Core.Path.{_≡_, ap, subst, _∙_}
 use mathlib.Core.List.{List}
 use Prim.Native.Nat.{ℕ, _-_, _^_, _<_}
 use native.Mathlib.Omega.{arith}
+use native.Mathlib.Nat.{lt-of-le-of-lt}
 use denote.Ref.{now}
 use lib.ListN.{length}
-use lib.Bits.{bitAnd}
+use lib.Bits.{bitAnd, and-le-r}
 use lib.Count.{trailingZeros}
 use Rattle.stateset.specs.Set.{Is}
 use Rattle.stateset.proofs.Bits.{Taken, taken}
@@ -17,13 +18,16 @@ use Rattle.automaton.proofs.image_by.Statement.{statement}
 use Rattle.automaton.proofs.image_by.Tie as tie
 
 abbrev Inv-loop : tie.InvT-loop
-Inv-loop table events set todo₀ r₀ todo r = (todo < 2 ^ 64) × Joined (λ e. Image (Row (wordsOf table e)) set) events todo r
+Inv-loop table events set left₀ r₀ left r = (left < 2 ^ 64) × Joined (λ e. Image (Row (wordsOf table e)) set) events left r
 
 abbrev μ-loop : tie.MeasureT-loop
-μ-loop table events set todo₀ r₀ todo r = todo
+μ-loop table events set left₀ r₀ left r = left
 
-pick : (c : tie.In-loop Inv-loop μ-loop) → Taken (c .before .loop .todo) (trailingZeros 64 (c .before .loop .todo)) (bitAnd (c .before .loop .todo) (c .before .loop .todo - 1))
-pick c = taken (c .before .loop .todo) (omega arith) (c .before .loop .inv .0)
+pick : (c : tie.In-loop Inv-loop μ-loop) → Taken (c .before .loop .left) (trailingZeros 64 (c .before .loop .left)) (bitAnd (c .before .loop .left) (c .before .loop .left - 1))
+pick c = taken (c .before .loop .left) (omega arith) (c .before .loop .inv .0)
+
+falls : (a b k : ℕ) → b < k → bitAnd a b < k
+falls a b k h = lt-of-le-of-lt (and-le-r a b) h
 
 loop-holds : tie.Need-loop-holds Inv-loop μ-loop
 loop-holds c = (omega arith, join-start _ _)
@@ -32,7 +36,7 @@ cast-e : tie.Need-cast-e Inv-loop μ-loop
 cast-e c = omega (arith, pick c .small)
 
 -- the event that is looked at
-small : (c : tie.In-loop Inv-loop μ-loop) → trailingZeros 64 (c .before .loop .todo) < 32
+small : (c : tie.In-loop Inv-loop μ-loop) → trailingZeros 64 (c .before .loop .left) < 32
 small c = c .before .before .before .pre .1 _ (c .before .loop .inv .1 .sub _ (pick c .inside))
 
 event-rows-requires : tie.Need-event-rows-requires Inv-loop μ-loop
@@ -41,15 +45,15 @@ event-rows-requires c κs = (c .before .before .before .pre .0, small c)
 image-requires : tie.Need-image-requires Inv-loop μ-loop
 image-requires c κs = ap length (c .event-rows .ensures) ∙ part-size _ _ (small (c .before)) (c .before .before .before .before .pre .0)
 
-sub-todo : tie.Need-sub-todo Inv-loop μ-loop
-sub-todo c = omega arith
+sub-left : tie.Need-sub-left Inv-loop μ-loop
+sub-left c = omega arith
 
 loop-less : tie.Need-loop-less Inv-loop μ-loop
-loop-less c = pick (c .before .before) .less
+loop-less c = falls (c .before .before .before .loop .left) _ _ (omega arith)
 
 loop-again : tie.Need-loop-again Inv-loop μ-loop
 loop-again c = (
-  omega (arith, pick (c .before .before) .less),
+  falls (c .before .before .before .loop .left) _ _ (omega (arith, c .before .before .before .loop .inv .0)),
   join-turn _ _ _ _ _ _ _ (pick (c .before .before))
       (subst (λ (l : List ℕ). Is (c .image .result) (Image (Row l) (c .before .before .before .before .before .args .set))) (c .before .event-rows .ensures) (c .image .ensures))
       (c .before .before .before .loop .inv .1),
@@ -70,7 +74,7 @@ image-by-spec =
     cast-e
     event-rows-requires
     image-requires
-    sub-todo
+    sub-left
     loop-less
     loop-again
     returns)

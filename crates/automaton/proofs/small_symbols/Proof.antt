@@ -1,4 +1,4 @@
--- `automaton::small_symbols` meets its contract. The invariant: the events that are no longer in `todo`, which falls, have small symbols. Assumes nothing.
+-- `automaton::small_symbols` meets its contract. The invariant: the events that are no longer in `untested`, which falls, have small symbols. Assumes nothing.
 use Prim.Native.Nat.{ℕ, _-_, _^_, _<_}
 use native.Mathlib.Omega.{arith}
 use lib.Bits.{bitAnd}
@@ -10,13 +10,13 @@ use Rattle.automaton.proofs.small_symbols.Statement.{statement}
 use Rattle.automaton.proofs.small_symbols.Tie as tie
 
 abbrev Inv-loop : tie.InvT-loop
-Inv-loop symbols observable todo₀ todo = (todo < 2 ^ 64) × Tested symbols observable todo
+Inv-loop symbols observable untested₀ untested = Tested symbols observable untested × (untested < 2 ^ 64)
 
 abbrev μ-loop : tie.MeasureT-loop
-μ-loop symbols observable todo₀ todo = todo
+μ-loop symbols observable untested₀ untested = untested
 
-pick : (c : tie.In-loop Inv-loop μ-loop) → Taken (c .before .loop .todo) (trailingZeros 64 (c .before .loop .todo)) (bitAnd (c .before .loop .todo) (c .before .loop .todo - 1))
-pick c = taken (c .before .loop .todo) (omega arith) (c .before .loop .inv .0)
+pick : (c : tie.In-loop Inv-loop μ-loop) → Taken (c .before .loop .untested) (trailingZeros 64 (c .before .loop .untested)) (bitAnd (c .before .loop .untested) (c .before .loop .untested - 1))
+pick c = taken (c .before .loop .untested) (omega arith) (c .before .loop .inv .1)
 
 largest-requires : tie.Need-largest-requires Inv-loop μ-loop
 largest-requires c κs = search needs
@@ -29,32 +29,32 @@ cast-observable : tie.Need-cast-observable Inv-loop μ-loop
 cast-observable c = omega arith
 
 loop-holds : tie.Need-loop-holds Inv-loop μ-loop
-loop-holds c = (omega arith, test-start _ _ (omega arith))
+loop-holds c = (test-start _ _ (omega arith), omega arith)
 
 cast-e : tie.Need-cast-e Inv-loop μ-loop
 cast-e c = omega (arith, pick c .small)
 
 array-read-if2 : tie.Need-array-read-if2 Inv-loop μ-loop
 array-read-if2 c =
-    let g = c .before .loop .inv .1 in
+    let g = c .before .loop .inv .0 in
     omega (arith, in-lt 32 _ _ (g .small) (g .sub _ (pick c .inside)))
 
 returns-2 : tie.Need-returns-2 Inv-loop μ-loop
 returns-2 c = λ all.
-    let g = c .before .before .loop .inv .1 in
+    let g = c .before .before .loop .inv .0 in
     omega (arith, all _ (g .sub _ (pick (c .before) .inside)), c .if2 .taken)
 
-sub-todo : tie.Need-sub-todo Inv-loop μ-loop
-sub-todo c = omega arith
+sub-untested : tie.Need-sub-untested Inv-loop μ-loop
+sub-untested c = omega arith
 
 loop-less : tie.Need-loop-less Inv-loop μ-loop
 loop-less c = pick (c .before) .less
 
 loop-again : tie.Need-loop-again Inv-loop μ-loop
-loop-again c = (omega (arith, pick (c .before) .less), test-turn _ _ _ _ _ (pick (c .before)) (omega (arith, c .if2 .left)) (c .before .before .loop .inv .1))
+loop-again c = (test-turn _ _ _ _ _ (pick (c .before)) (omega (arith, c .if2 .left)) (c .before .before .loop .inv .0), omega (arith, pick (c .before) .less))
 
 returns-3 : tie.Need-returns-3 Inv-loop μ-loop
-returns-3 c = test-end _ _ _ (c .loop-test .left) (c .before .loop .inv .1)
+returns-3 c = test-end _ _ _ (c .loop-test .left) (c .before .loop .inv .0)
 
 pub small-symbols-spec : {M : Type 1} → statement M
 small-symbols-spec =
@@ -69,7 +69,7 @@ small-symbols-spec =
     cast-e
     array-read-if2
     returns-2
-    sub-todo
+    sub-untested
     loop-less
     loop-again
     returns-3)

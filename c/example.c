@@ -1,5 +1,6 @@
 /* The worked example of the requirements through the C interface: decodes automaton P, runs the verifier and a weak enforcer over the trace 1 2 1 1,
-   and prints a line for each event: its place, the event, the weak and the strong verdict, the released events. c/run compares the lines. */
+   and prints a line for each event: its place, its symbol, the weak and the strong verdict, the released symbols. (P lists no symbols: each
+   observable event has its own number.) c/run compares the lines. */
 #include <stdio.h>
 
 #include "opacity.h"
@@ -47,19 +48,19 @@ int main(void)
         return refused(answer);
 
     for (size_t i = 0; i < sizeof trace; i++) {
-        uint8_t event = trace[i];
-        answer = opacity_accept(table, OPACITY_TABLE_WORDS, header, sizeof header, event, estimator, sizeof estimator, verdicts, sizeof verdicts);
+        uint8_t symbol = trace[i];
+        answer = opacity_accept(table, OPACITY_TABLE_WORDS, header, sizeof header, symbol, estimator, sizeof estimator, verdicts, sizeof verdicts);
         /* The enforcer accepts exactly what the verifier accepts, so its answer needs no second report. */
         if (answer == OPACITY_OK)
-            answer = opacity_offer(table, OPACITY_TABLE_WORDS, header, sizeof header, event, enforcer, sizeof enforcer, output, sizeof output,
+            answer = opacity_offer(table, OPACITY_TABLE_WORDS, header, sizeof header, symbol, enforcer, sizeof enforcer, output, sizeof output,
                                    released, sizeof released);
         if (answer != OPACITY_OK) {
-            printf("! %d %d\n", event, answer);
+            printf("! %d %d\n", symbol, answer);
             continue;
         }
         accepted++;
         out += released[0];
-        printf("%lu %d", accepted, event);
+        printf("%lu %d", accepted, symbol);
         print_verdict(verdicts[0]);
         print_verdict(verdicts[1]);
         for (int j = 0; j < released[0]; j++)

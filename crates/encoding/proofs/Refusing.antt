@@ -1,5 +1,5 @@
 -- By which numbers the layout refuses: 1, 3, 4, 5 and 12. For a number x that is none of them, or none of those of a part. Assumes nothing.
-use Prim.Native.Nat.{ℕ, zero, suc, _+_, _-_, _≤_}
+use Prim.Native.Nat.{ℕ, zero, suc, _+_, _-_}
 use mathlib.Core.Path.{_≡_}
 use mathlib.Core.Bool.{not, _&&_}
 use mathlib.Core.List.{List}
@@ -12,16 +12,19 @@ use Rattle.bitfields.proofs.Parsing.{Never, never-then, never-demand, never-fie
 use Rattle.encoding.specs.Transitions.{listed}
 use Rattle.encoding.specs.Encoding.{encoding, ending, fixed, front, symbols, symbolCount, preamble, transition, transitions}
 
--- x is none of 1 to 5
-abbrev pub Outside : ℕ → Type 0
-Outside x = (n : ℕ) → 1 ≤ n → n ≤ 5 → n ≡ x → ⊥
+-- x is none of the numbers by which a part other than the repeats refuses
+pub record Outside (x : ℕ) : Type 0 where
+  pub bits-end : 1 ≡ x → ⊥
+  pub state : 3 ≡ x → ⊥
+  pub event : 4 ≡ x → ⊥
+  pub trailing : 5 ≡ x → ⊥
 
 module _ (x : ℕ) (other : Outside x) (bits : List ℕ) where
   one-field : (w at : ℕ) → Never x (field w bits at)
-  one-field w at = never-field x w bits at (other 1 (omega arith) (omega arith))
+  one-field w at = never-field x w bits at (other .bits-end)
 
   some-flags : (n at : ℕ) → Never x (flags n bits at)
-  some-flags n at = never-flags x n bits at (other 1 (omega arith) (omega arith))
+  some-flags n at = never-flags x n bits at (other .bits-end)
 
   fixed-never : (at : ℕ) → Never x (fixed bits at)
   unfolding fixed
@@ -30,7 +33,7 @@ module _ (x : ℕ) (other : Outside x) (bits : List ℕ) where
       never-then x (field 5 bits n1) _ (one-field 5 n1) λ topevent n2.
       never-then x (field 4 bits n2) _ (one-field 4 n2) λ k n3.
       never-then x (field 6 bits n3) _ (one-field 6 n3) λ initial n4.
-      never-then x (demand (leb initial topstate) 3 bits n4) _ (never-demand x (leb initial topstate) 3 bits n4 (other 3 (omega arith) (omega arith))) λ u5 n5.
+      never-then x (demand (leb initial topstate) 3 bits n4) _ (never-demand x (leb initial topstate) 3 bits n4 (other .state)) λ u5 n5.
       never-then x (field 10 bits n5) _ (one-field 10 n5) λ count n6.
       never-then x (field 1 bits n6) _ (one-field 1 n6) λ symbols n7. tt
 
@@ -57,17 +60,17 @@ module _ (x : ℕ) (other : Outside x) (bits : List ℕ) where
   pub transition-never : (s e at : ℕ) → Never x (transition s e bits at)
   unfolding transition
   transition-never s e at =
-      let state : 3 ≡ x → ⊥ = other 3 (omega arith) (omega arith) in
+      let state : 3 ≡ x → ⊥ = other .state in
       never-then x (field 6 bits at) _ (one-field 6 at) λ from n1.
       never-then x (demand (leb from s) 3 bits n1) _ (never-demand x (leb from s) 3 bits n1 state) λ u2 n2.
       never-then x (field 5 bits n2) _ (one-field 5 n2) λ event n3.
-      never-then x (demand (leb event e) 4 bits n3) _ (never-demand x (leb event e) 4 bits n3 (other 4 (omega arith) (omega arith))) λ u4 n4.
+      never-then x (demand (leb event e) 4 bits n3) _ (never-demand x (leb event e) 4 bits n3 (other .event)) λ u4 n4.
       never-then x (field 6 bits n4) _ (one-field 6 n4) λ to n5.
       never-then x (demand (leb to s) 3 bits n5) _ (never-demand x (leb to s) 3 bits n5 state) λ u6 n6. tt
 
   pub ending-never : (at : ℕ) → Never x (ending bits at)
   unfolding ending
-  ending-never at = never-demand x (ltb (length bits - at) 8 && eqb (numberAt bits at (length bits - at)) 0) 5 bits at (other 5 (omega arith) (omega arith))
+  ending-never at = never-demand x (ltb (length bits - at) 8 && eqb (numberAt bits at (length bits - at)) 0) 5 bits at (other .trailing)
 
   module _ (unrepeated : 12 ≡ x → ⊥) where
     transitions-never : (s e n at : ℕ) → Never x (transitions s e n bits at)
@@ -85,3 +88,7 @@ module _ (x : ℕ) (other : Outside x) (bits : List ℕ) where
         let f = d .front .fixed in
         never-then x (transitions (f .topstate) (f .topevent) (f .count) bits n1) _ (transitions-never (f .topstate) (f .topevent) (f .count) n1) λ ts n2.
         never-then x (ending bits n2) _ (ending-never n2) λ u n3. tt
+
+-- REFUSAL 2 NO LONGER OCCURS (02, S-2)
+pub never-two : (bits : List ℕ) → Never 2 (encoding bits 0)
+never-two bits = encoding-never 2 (record { bits-end = λ e. omega arith; state = λ e. omega arith; event = λ e. omega arith; trailing = λ e. omega arith }) bits (λ e. omega arith) 0

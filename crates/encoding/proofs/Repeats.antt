@@ -23,7 +23,7 @@ repeat-refused bits r =
     rw (r .preamble-read, transitions-stop (f .topstate) (f .topevent) bits (r .start) (a .number) x (f .count) (a .fewer))
 
 outside : Outside 12
-outside n low high e = omega arith
+outside = record { bits-end = λ e. omega arith; state = λ e. omega arith; event = λ e. omega arith; trailing = λ e. omega arith }
 
 demanded : (b : Bool) (ts : List Transition) (bits : List ℕ) (at : ℕ) → _>>_ (demand (not b) 12) (give ts) bits at ≡ refused 12 → b ≡ true
 demanded true ts bits at r = refl

@@ -9,9 +9,12 @@ use Rattle.bitfields.specs.Parser.{Parsed}
 use Rattle.bitfields.proofs.Parsing.{Never}
 use Rattle.encoding.specs.Encoding.{Encoding}
 use Rattle.encoding.specs.Decoding.{Decoding, refuse}
-use Rattle.encoding.proofs.Refusing.{encoding-never}
+use Rattle.encoding.proofs.Refusing.{Outside, encoding-never}
+
+outside : Outside 0
+outside = record { bits-end = λ e. omega arith; state = λ e. omega arith; event = λ e. omega arith; trailing = λ e. omega arith }
 
 pub not-zero : (bytes table : List ℕ) {h : Header} {n : ℕ} {after : List ℕ} → Decoding bytes table h (refuse n) after → n ≡ 0 → ⊥
 not-zero bytes table (Decoding.malformed bad) = λ e. absurd (omega arith)
 not-zero bytes table (Decoding.refused size n e) =
-    subst (λ (p : Parsed Encoding). Never 0 p) e (encoding-never 0 (λ n low high z. omega arith) (bitsOf bytes) (λ z. omega arith) 0)
+    subst (λ (p : Parsed Encoding). Never 0 p) e (encoding-never 0 outside (bitsOf bytes) (λ z. omega arith) 0)

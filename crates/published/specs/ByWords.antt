@@ -32,7 +32,8 @@ WordLang p s = (q : ℕ) × Leads p (p .initial) s q
 abbrev pub Marked : Automaton → ℕ → List ℕ → Type 0
 Marked p secret s = (q : ℕ) × In q secret × Leads p (p .initial) s q
 
--- P(s), the projection: the word without its events that are not observable
+-- P(s), the projection: the word without its events that are not observable, and each of the others by its symbol. (Source 000's keeps these as they are: so
+-- it is where each observable event's symbol is its own number)
 abbrev pub projected : Automaton → List ℕ → List ℕ
 projected p [] = []
 projected p (e ∷ s) = shows p e ++ projected p s

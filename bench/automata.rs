@@ -12,6 +12,17 @@ pub struct Automaton {
     pub observable: u32,
     /// Bit `to` of word 64 * event + from.
     pub table: Box<[u64; 2048]>,
+    /// What (a) gets in place of the table and the observable set, if events share symbols.
+    pub shared: Option<Shared>,
+}
+
+/// An automaton in which several observable events have one symbol: the number of the first of them. A reader does not tell it from the automaton
+/// that has one event for each symbol, with all their transitions, which is what (b), (c) and (d) get.
+#[derive(Clone)]
+pub struct Shared {
+    pub table: Box<[u64; 2048]>,
+    pub observable: u32,
+    pub symbols: [u8; 32],
 }
 
 impl Automaton {
@@ -20,16 +31,43 @@ impl Automaton {
         for &(from, event, to) in transitions {
             table[64 * event + from] |= 1 << to;
         }
-        Automaton { states, events, k, initial: 0, secret, observable, table }
+        Automaton { states, events, k, initial: 0, secret, observable, table, shared: None }
     }
 
     pub fn with_k(&self, k: u8) -> Self {
-        Automaton { k, table: self.table.clone(), ..*self }
+        Automaton { k, table: self.table.clone(), shared: self.shared.clone(), ..*self }
     }
 
+    /// With so many symbols, shared by the observable events in turn.
+    pub fn sharing(self, symbols: usize) -> Self {
+        let mut shared = Shared { table: self.table.clone(), observable: self.observable, symbols: [0; 32] };
+        let mut joined = Automaton { table: Box::new(*self.table), observable: 0, ..self };
+        let observable: Vec<usize> = (0..32).filter(|e| shared.observable >> e & 1 == 1).collect();
+        for (i, &event) in observable.iter().enumerate() {
+            let symbol = observable[i % symbols];
+            shared.symbols[event] = symbol as u8;
+            joined.observable |= 1 << symbol;
+            for q in (0..64).filter(|_| symbol != event) {
+                joined.table[64 * symbol + q] |= shared.table[64 * event + q];
+                joined.table[64 * event + q] = 0;
+            }
+        }
+        joined.shared = Some(shared);
+        joined
+    }
+
+    /// The table, the observable set and, where events share them, the symbols, as (a) gets them.
+    pub fn lent(&self) -> (&[u64; 2048], u32, Option<&[u8; 32]>) {
+        match &self.shared {
+            Some(shared) => (&shared.table, shared.observable, Some(&shared.symbols)),
+            None => (&self.table, self.observable, None),
+        }
+    }
+
+    /// Those that (a) gets.
     pub fn transitions(&self) -> Vec<(usize, usize, usize)> {
         let mut list = Vec::new();
-        for (word, &targets) in self.table.iter().enumerate() {
+        for (word, &targets) in self.lent().0.iter().enumerate() {
             list.extend((0..64).filter(|to| targets >> to & 1 == 1).map(|to| (word % 64, word / 64, to)));
         }
         list
@@ -48,9 +86,11 @@ impl Automaton {
         field(self.k as usize, 4);
         field(self.initial as usize, 6);
         field(transitions.len(), 10);
-        field(0, 1);
+        let (_, observable, symbols) = self.lent();
+        field(symbols.is_some() as usize, 1);
         (0..self.states).for_each(|q| field((self.secret >> q & 1) as usize, 1));
-        (0..self.events).for_each(|e| field((self.observable >> e & 1) as usize, 1));
+        (0..self.events).for_each(|e| field((observable >> e & 1) as usize, 1));
+        symbols.into_iter().for_each(|symbols| (0..self.events).for_each(|e| field(symbols[e] as usize, 5)));
         for (from, event, to) in transitions {
             field(from, 6);
             field(event, 5);

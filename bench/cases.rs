@@ -35,14 +35,19 @@ pub fn growing() -> Vec<Case> {
         let automaton = automata::large(states);
         list.push(Case { name, trace: automaton.trace(EVENTS, 1), automaton, large: false });
     }
+    for (symbols, name) in [(1, "large, 1 symbol"), (4, "large, 4 symbols"), (14, "large, 14 symbols")] {
+        let automaton = automata::large(64).sharing(symbols);
+        list.push(Case { name, trace: automaton.trace(EVENTS, 1), automaton, large: false });
+    }
     list
 }
 
-/// Small automata that differ in everything, to be compared alone.
+/// Small automata that differ in everything, to be compared alone; of every second one events share symbols.
 pub fn small() -> Vec<Case> {
     (0..4_000)
         .map(|number| {
             let automaton = automata::small(number);
+            let automaton = if number % 2 == 0 { automaton } else { automaton.sharing(1 + number as usize / 2 % 3) };
             Case { name: "small", trace: automaton.trace(40, number), automaton, large: false }
         })
         .collect()

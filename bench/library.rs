@@ -12,11 +12,11 @@ extern "C" {
     fn opacity_decode(encoding: *const u8, _: usize, table: *mut u64, _: usize, header: *mut u8, _: usize) -> u8;
     fn opacity_fresh(table: *const u64, _: usize, header: *const u8, _: usize, estimator: *mut u8, _: usize, verdicts: *mut u8, _: usize) -> u8;
     fn opacity_accept(
-        table: *const u64, _: usize, header: *const u8, _: usize, event: u8, estimator: *mut u8, _: usize, verdicts: *mut u8, _: usize,
+        table: *const u64, _: usize, header: *const u8, _: usize, symbol: u8, estimator: *mut u8, _: usize, verdicts: *mut u8, _: usize,
     ) -> u8;
     fn opacity_start(table: *const u64, _: usize, header: *const u8, _: usize, notion: u8, enforcer: *mut u8, _: usize) -> u8;
     fn opacity_offer(
-        table: *const u64, _: usize, header: *const u8, _: usize, event: u8, enforcer: *mut u8, _: usize, output: *mut u8, _: usize,
+        table: *const u64, _: usize, header: *const u8, _: usize, symbol: u8, enforcer: *mut u8, _: usize, output: *mut u8, _: usize,
         released: *mut u8, _: usize,
     ) -> u8;
 }
@@ -78,9 +78,10 @@ impl Library {
         match automaton.encode() {
             Some(encoding) => {
                 assert_eq!(made.call_decode(&PROVED, &encoding), 0, "decode");
-                assert!(made.table[..] == automaton.table[..], "decode: the table");
+                assert!(made.table[..] == automaton.lent().0[..], "decode: the table");
             }
             None => {
+                assert!(automaton.shared.is_none(), "an encoding can list it");
                 made.table.copy_from_slice(&automaton.table[..]);
                 made.header[0] = automaton.initial;
                 made.header[1] = automaton.k;
@@ -112,11 +113,11 @@ impl Library {
     }
 
     #[inline(always)]
-    pub fn call_accept(&mut self, functions: &Functions, event: u8) -> u8 {
+    pub fn call_accept(&mut self, functions: &Functions, symbol: u8) -> u8 {
         let (table, header, estimator, verdicts) = (&self.table, &self.header, &mut self.estimator, &mut self.verdicts);
         unsafe {
             (functions.accept)(
-                table.as_ptr(), table.len(), header.as_ptr(), header.len(), event, estimator.as_mut_ptr(), estimator.len(),
+                table.as_ptr(), table.len(), header.as_ptr(), header.len(), symbol, estimator.as_mut_ptr(), estimator.len(),
                 verdicts.as_mut_ptr(), verdicts.len(),
             )
         }
@@ -129,11 +130,11 @@ impl Library {
     }
 
     #[inline(always)]
-    pub fn call_offer(&mut self, functions: &Functions, event: u8) -> u8 {
+    pub fn call_offer(&mut self, functions: &Functions, symbol: u8) -> u8 {
         let (table, header, enforcer, output, released) = (&self.table, &self.header, &mut self.enforcer, &mut self.output, &mut self.released);
         unsafe {
             (functions.offer)(
-                table.as_ptr(), table.len(), header.as_ptr(), header.len(), event, enforcer.as_mut_ptr(), enforcer.len(), output.as_mut_ptr(),
+                table.as_ptr(), table.len(), header.as_ptr(), header.len(), symbol, enforcer.as_mut_ptr(), enforcer.len(), output.as_mut_ptr(),
                 output.len(), released.as_mut_ptr(), released.len(),
             )
         }
@@ -145,8 +146,8 @@ impl Library {
     }
 
     /// The two verdicts, or the number of the refusal.
-    pub fn accept(&mut self, event: u8) -> Result<[u8; 2], u8> {
-        match self.call_accept(&PROVED, event) {
+    pub fn accept(&mut self, symbol: u8) -> Result<[u8; 2], u8> {
+        match self.call_accept(&PROVED, symbol) {
             0 => Ok(self.verdicts),
             refusal => Err(refusal),
         }
@@ -156,9 +157,9 @@ impl Library {
         assert_eq!(self.call_start(&PROVED, notion), 0, "start");
     }
 
-    /// The released events, or the number of the refusal.
-    pub fn offer(&mut self, event: u8) -> Result<&[u8], u8> {
-        match self.call_offer(&PROVED, event) {
+    /// The released symbols, or the number of the refusal.
+    pub fn offer(&mut self, symbol: u8) -> Result<&[u8], u8> {
+        match self.call_offer(&PROVED, symbol) {
             0 => Ok(&self.output[..self.released[0] as usize]),
             refusal => Err(refusal),
         }

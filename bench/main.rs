@@ -170,7 +170,8 @@ fn print_decoding(missed: &mut Missed) {
     println!("\nDecoding, microseconds, best of {} passes:", measure::ROUNDS * measure::REPETITIONS);
     let longest = automata::large(64);
     assert_eq!(longest.transitions().len(), 1023, "the longest encoding");
-    for (name, automaton) in [("P", automata::p()), ("mid", automata::mid()), ("large", longest)] {
+    let symbols = automata::large(64).sharing(4);
+    for (name, automaton) in [("P", automata::p()), ("mid", automata::mid()), ("large", longest), ("large, symbols", symbols)] {
         let encoding = automaton.encode().expect("an encoding");
         let milliseconds = measure::measure_decoding(&automaton, &encoding).0 / 1e6;
         println!("  {name:<14} {:>5} transitions {:>5} bytes {:>8}", automaton.transitions().len(), encoding.len(), number(milliseconds * 1e3));

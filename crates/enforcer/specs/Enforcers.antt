@@ -11,13 +11,13 @@ use Rattle.enforcer.specs.SafePrefix.{Safe}
 use Rattle.enforcer.specs.Queues.{Queue}
 use Rattle.enforcer.specs.declared.Enforcer.{Enforcer}
 
--- within its limits: its estimator is, and it holds at most K + 1 events, each up to 31
+-- within its limits: its estimator is, and it holds at most K + 1 symbols, each up to 31
 pub record Limits (K : ℕ) (s : Enforcer) : Type 0 where
   pub estimator : estimator.Limits K (s .estimator)
   pub few : s .count ≤ K + 1
   pub small : (i : ℕ) → i < s .count → getD (s .pending) i 0 ≤ 31
 
--- the pending events (01: held), the oldest first
+-- the pending symbols (01: held events), the oldest first
 abbrev pub pendingOf : Enforcer → List ℕ
 pendingOf s = take (s .count) (s .pending)
 

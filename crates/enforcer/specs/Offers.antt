@@ -49,12 +49,12 @@ abbrev pub releasedCount : List Offer → ℕ
 releasedCount [] = 0
 releasedCount (o ∷ os) = countBy (o .says) + releasedCount os
 
--- the events released: the front of each accepting offer's output, joined
+-- the symbols released: the front of each accepting offer's output, joined
 abbrev pub releasedOf : List Offer → List ℕ
 releasedOf [] = []
 releasedOf (o ∷ os) = take (countBy (o .says)) (o .left) ++ releasedOf os
 
--- the refusal table turns a byte back, with this number, after these accepted events
+-- the refusal table turns a byte back, with this number, after these accepted symbols
 pub data TurnedBack (t : List ℕ) (h : Header) (trace : List ℕ) (byte : ℕ) (output : List ℕ) : ℕ → Type 0 where
   output-too-small : length output < 17 → TurnedBack t h trace byte output 10
   not-observable : 17 ≤ length output → (Observable h byte → ⊥) → TurnedBack t h trace byte output 6
@@ -77,11 +77,11 @@ pub data Each (Judged : List ℕ → Offer → Type 0) : List ℕ → List Offer
 
 -- the mission's third point, after the offers
 pub record Promise (notion : Notion) (t : List ℕ) (h : Header) (os : List Offer) (e : Enforcer) : Type 0 where
-  -- the accepted events are exactly the offered bytes that the refusal table does not turn back; the others got the number that the table gives
+  -- the accepted symbols (01: events) are exactly the offered bytes that the refusal table does not turn back; the others got the number that the table gives
   pub accepted : Each (λ trace o. ByTable t h trace o (o .says)) [] os
-  -- the events released so far are a prefix of the accepted ones, in their order
+  -- the symbols released so far are a prefix of the accepted ones, in their order
   pub prefix : releasedOf os ≡ take (releasedCount os) (acceptedOf os)
-  -- nobody who reads only the released events can be sure of a secret state at most K accepted events back: in 01's words, and by runs in hand
+  -- nobody who reads only the released symbols can be sure of a secret state at most K accepted symbols back: in 01's words, and by runs in hand
   pub safe : Safe notion (automatonOf t h) (h .secret) (h .k) (releasedOf os) (length (acceptedOf os))
   pub by-runs : SafeByRuns notion (automatonOf t h) (h .secret) (h .k) (releasedOf os) (length (acceptedOf os))
   -- every longer prefix would have made somebody sure: it is not safe in 01's words, and somebody is sure
@@ -89,13 +89,13 @@ pub record Promise (notion : Notion) (t : List ℕ) (h : Header) (os : List Offe
       → Safe notion (automatonOf t h) (h .secret) (h .k) (take r (acceptedOf os)) (length (acceptedOf os)) → ⊥
   pub unsafe : (r : ℕ) → releasedCount os < r → r ≤ length (acceptedOf os)
       → Unsafe notion (automatonOf t h) (h .secret) (h .k) (take r (acceptedOf os)) (length (acceptedOf os))
-  -- the same by source 000's Definition 12: the released events are safe to output, and no longer prefix is
+  -- the same by source 000's Definition 12: the released symbols are safe to output, and no longer prefix is
   pub published : SafeToOutput notion (automatonOf t h) (h .secret) (h .k) (acceptedOf os) (releasedOf os)
   pub published-longest : (r : ℕ) → releasedCount os < r → r ≤ length (acceptedOf os)
       → SafeToOutput notion (automatonOf t h) (h .secret) (h .k) (acceptedOf os) (take r (acceptedOf os)) → ⊥
-  -- each accepted event is released by the time K + 1 more are accepted
+  -- each accepted symbol is released by the time K + 1 more are accepted
   pub in-time : (i : ℕ) → suc i + (h .k + 1) ≤ length (acceptedOf os) → i < releasedCount os
   -- accepted = released + pending
   pub balance : length (acceptedOf os) ≡ releasedCount os + e .count
-  -- and the enforcer is the one of the accepted events
+  -- and the enforcer is the one of the accepted symbols
   pub grown : Grown notion (automatonOf t h) (h .secret) (h .k) (acceptedOf os) e

@@ -16,7 +16,7 @@ ghost use Rattle.enforcer.specs.Enforcers.{Limits, Padded};
 ghost use Rattle.enforcer.specs.Offerings.{begun, said, Starting, Offering};
 ghost use Rattle.enforcer.specs.Inner.{waitOf, Ready, Took};
 
-// The estimator, the notion, and the pending events, the oldest first, each with the number of further events that it waits for (01: Holder).
+// The estimator, the notion, and the pending symbols, the oldest first, each with the number of further ones that it waits for (01: Holder).
 pub struct Enforcer {
     pub estimator: Estimator,
     pub notion: Notion,
@@ -35,7 +35,7 @@ pub struct Start {
     pub answer: StartAnswer,
 }
 
-// How many events were released to the front of the output (01: freed, tray).
+// How many symbols were released to the front of the output (01: freed, tray).
 pub enum OfferAnswer {
     Refused(Refusal),
     Released(u8),
@@ -46,7 +46,7 @@ pub struct Given {
     pub answer: OfferAnswer,
 }
 
-// How many further events make a trace with this verdict safe.
+// How many further symbols make a trace with this verdict safe.
 fn wait(k: u8, verdict: Verdict) -> u8
     requires { ⌜ k ≤ 15 ⌝ }
     ensures { λ r. ⌜ r ≡ waitOf k (stepsOf verdict) ⌝ }
@@ -60,7 +60,7 @@ fn wait(k: u8, verdict: Verdict) -> u8
     k + 1 - l
 }
 
-// Writes the first `count` of the events, and one more, to the front of the array that is lent.
+// Writes the first `count` of the symbols, and one more, to the front of the array that is lent.
 fn joined(pending: [u8; 16], count: u8, byte: u8, to: &mut [u8])
     requires { ⌜ (count ≤ 16) × (length (now to) ≡ 17) ⌝ }
     ensures { λ r. ⌜ (length pending ≡ 16) × ((i : ℕ) → i < count → getD (now (to .exit)) i 0 ≡ getD pending i 0) × (getD (now (to .exit)) count 0 ≡ byte) ⌝ }
@@ -216,7 +216,7 @@ impl Enforcer {
         automaton::in_range(&pending, count)
     }
 
-    // The event that was accepted is put behind the pending ones, and what is safe is released.
+    // The symbol that was accepted is put behind the pending ones, and what is safe is released.
     fn take_in(self, k: u8, estimator: Estimator, w: u8, byte: u8, output: &mut [u8]) -> Given
         requires { ⌜ (k ≤ 15) × (self .count ≤ k + 1) × (17 ≤ length (now output)) ⌝ }
         ensures { λ r. ⌜ Took k self estimator w byte (now (output .entry)) (r .answer) (r .enforcer) (now (output .exit)) ⌝ }
@@ -245,7 +245,7 @@ impl Enforcer {
         }
     }
 
-    // Offers one byte: an event that is accepted joins the pending ones, and the longest safe prefix is released to the front of the output.
+    // Offers one byte: a symbol that is accepted joins the pending ones, and the longest safe prefix is released to the front of the output.
     pub fn offer(self, table: &[u64], header: Header, byte: u8, output: &mut [u8]) -> Given
         ensures { λ r. ⌜ Offering (now (table .entry)) header self byte (now (output .entry)) (said (r .answer)) (r .enforcer) (now (output .exit)) ⌝ }
     {

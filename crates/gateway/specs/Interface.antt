@@ -40,7 +40,7 @@ pub data Fresh (t header estimator verdicts : List ℕ) : ℕ → List ℕ → L
   accepted : VerifierSizes header estimator verdicts → {weak strong : Steps} {s : Estimator} → Opening t (headerAt header) (verifier.verdicts weak strong) s → EstimatorSaved s
       → Fresh t header estimator verdicts 0 (estimatorBytes s) (verdictByte weak ∷ verdictByte strong ∷ [])
 
--- accept: the same, of the estimator that the bytes hold and an event
+-- accept: the same, of the estimator that the bytes hold and a symbol
 pub data Accept (t header : List ℕ) (symbol : ℕ) (estimator verdicts : List ℕ) : ℕ → List ℕ → List ℕ → Type 0 where
   size : (VerifierSizes header estimator verdicts → ⊥) → Accept t header symbol estimator verdicts 9 estimator verdicts
   refused : VerifierSizes header estimator verdicts → {n : ℕ} {s : Estimator} → Accepting t (headerAt header) (estimatorAt estimator) symbol (verifier.refused n) s
@@ -76,7 +76,7 @@ pub record OfferSizes (header enforcer released : List ℕ) : Type 0 where
   pub notion-known : getD enforcer 144 0 ≤ 1
   pub released-size : length released ≡ 1
 
--- offer: the answer, the enforcer's bytes after, the output after and the number of released events after
+-- offer: the answer, the enforcer's bytes after, the output after and the number of released symbols after
 pub data Offer (t header : List ℕ) (symbol : ℕ) (enforcer output released : List ℕ) : ℕ → List ℕ → List ℕ → List ℕ → Type 0 where
   size : (OfferSizes header enforcer released → ⊥) → Offer t header symbol enforcer output released 9 enforcer output released
   refused : OfferSizes header enforcer released → {n : ℕ} {s : Enforcer}

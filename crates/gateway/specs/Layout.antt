@@ -42,7 +42,7 @@ headerAt bytes = record { initial = getD bytes 0 0; k = getD bytes 1 0; secret =
 abbrev pub headerBytes : Header → List ℕ
 headerBytes h = h .initial ∷ h .k ∷ bytesOf 8 (h .secret) ++ (bytesOf 4 (h .observable) ++ h .symbols)
 
--- an estimator: 144 bytes. The number of remembered events, 15 events, the newest first, 16 state sets (8 bytes each)
+-- an estimator: 144 bytes. The number of remembered symbols, 15 symbols, the newest first, 16 state sets (8 bytes each)
 abbrev pub estimatorAt : List ℕ → Estimator
 estimatorAt bytes = record { count = getD bytes 0 0; symbols = bytesAt bytes 1 15; entries = wordsAt bytes 16 16 }
 
@@ -64,7 +64,7 @@ abbrev pub notionByte : Notion → ℕ
 notionByte Weak = 0
 notionByte Strong = 1
 
--- an enforcer: 178 bytes. Its estimator (144), its notion, the number of pending events, 16 pending events, the oldest first, 16 waits
+-- an enforcer: 178 bytes. Its estimator (144), its notion, the number of pending symbols, 16 pending symbols, the oldest first, 16 waits
 abbrev pub enforcerAt : List ℕ → Enforcer
 enforcerAt bytes =
     record { estimator = estimatorAt bytes; notion = notionAt (getD bytes 144 0); count = getD bytes 145 0; pending = bytesAt bytes 146 16; waits = bytesAt bytes 162 16 }

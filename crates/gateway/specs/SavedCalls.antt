@@ -12,7 +12,7 @@ use Rattle.enforcer.specs.Offers as enforcer
 use Rattle.gateway.specs.Layout.{verdictAt}
 use Rattle.gateway.specs.Interface.{Accept, Offer}
 
--- one call of accept: the event, the bytes lent for the verdicts, the answer, and those bytes after it
+-- one call of accept: the symbol, the bytes lent for the verdicts, the answer, and those bytes after it
 pub record AcceptCall : Type 0 where
   pub symbol : ℕ
   pub lent : List ℕ
@@ -45,7 +45,7 @@ abbrev pub callsOf : List AcceptCall → List Call
 callsOf [] = []
 callsOf (c ∷ cs) = record { byte = c .symbol; says = acceptSaid (c .answer) (c .told) } ∷ callsOf cs
 
--- one call of offer: the event, the output and the byte lent for the number of released events, the answer, and both after it
+-- one call of offer: the symbol, the output and the byte lent for the number of released symbols, the answer, and both after it
 pub record OfferCall : Type 0 where
   pub symbol : ℕ
   pub output : List ℕ
@@ -63,7 +63,7 @@ pub data OfferCalls (t header : List ℕ) : List ℕ → List OfferCall → List
   unsized : {s m e : List ℕ} {c : OfferCall} {cs : List OfferCall} → (length (c .lent) ≡ 1 → ⊥)
       → Offer t header (c .symbol) s (c .output) (c .lent) (c .answer) m (c .left) (c .released) → OfferCalls t header m cs e → OfferCalls t header s cs e
 
--- what an answer says: 0 that the byte is the number of released events, and else the number of a refusal
+-- what an answer says: 0 that the byte is the number of released symbols, and else the number of a refusal
 abbrev pub offerSaid : ℕ → List ℕ → offering.Said
 offerSaid zero released = offering.released (getD released 0 0)
 offerSaid (suc n) released = offering.refused (suc n)

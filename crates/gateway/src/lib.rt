@@ -330,7 +330,7 @@ pub extern "C" fn opacity_fresh(
     }
 }
 
-// Accepts one event: the estimator after it, and the two verdicts.
+// Accepts one symbol: the estimator after it, and the two verdicts.
 #[no_mangle]
 pub extern "C" fn opacity_accept(
     table: &[u64],
@@ -390,7 +390,7 @@ pub extern "C" fn opacity_start(table: &[u64], header: &[u8], notion: u8, enforc
     }
 }
 
-// Offers one event: the enforcer after it, the released events at the front of the output, and their number in one byte.
+// Offers one symbol: the enforcer after it, the released symbols at the front of the output, and their number in one byte.
 #[no_mangle]
 pub extern "C" fn opacity_offer(
     table: &[u64],

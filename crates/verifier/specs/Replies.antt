@@ -1,4 +1,4 @@
--- What a fresh estimator and an offered event give, in the order that 01 gives below its refusal table.
+-- What a fresh estimator and an offered symbol give, in the order that 01 gives below its refusal table.
 use mathlib.Core.List.{List, [], _∷_, _++_}
 use Prim.Native.Nat.{ℕ, _≤_}
 use Rattle.automaton.specs.Run.{automatonOf, Possible, Impossible, Observable, Sound}
@@ -42,7 +42,7 @@ pub data Opening (t : List ℕ) (h : Header) : Said → Estimator → Type 0 whe
   malformed : {s : Estimator} → (Sound t h → ⊥) → ((K : ℕ) → K ≤ 15 → Limits K s → ⊥) → Opening t h (refused 9) s
   opened : {weak strong : Steps} {s : Estimator} → Sound t h → Limits (h .k) s → Exact t h [] weak strong s → Opening t h (verdicts weak strong) s
 
--- an event offered to an estimator: the answer, and the estimator after it. Of one that is Grown by no trace only the limits are said
+-- a symbol offered to an estimator: the answer, and the estimator after it. Of one that is Grown by no trace only the limits are said
 pub data Accepting (t : List ℕ) (h : Header) (self : Estimator) (symbol : ℕ) : Said → Estimator → Type 0 where
   malformed : (Sound t h × Limits (h .k) self → ⊥) → Accepting t h self symbol (refused 9) self
   not-observable : Sound t h → Limits (h .k) self → (Observable h symbol → ⊥) → Accepting t h self symbol (refused 6) self
@@ -67,7 +67,7 @@ abbrev pub chosen : Notion → declared.Verdicts → Verdict
 chosen Weak v = v .weak
 chosen Strong v = v .strong
 
--- an event that was accepted: the estimator after it, whatever is asked for. That it has grown says that some run is compatible (Grown.possible)
+-- a symbol that was accepted: the estimator after it, whatever is asked for. That it has grown says that some run is compatible (Grown.possible)
 pub record Moved (t : List ℕ) (h : Header) (self : Estimator) (symbol : ℕ) (s : Estimator) : Type 0 where
   pub sound : Sound t h
   pub limits : Limits (h .k) self
@@ -80,7 +80,7 @@ pub record TellsBy (notion : Notion) (t : List ℕ) (h : Header) (self : Estimat
   pub bounded : Bounded (h .k) v
   pub tells : (trace : List ℕ) → Grown (automatonOf t h) (h .k) trace self → Tells notion (automatonOf t h) (h .secret) (h .k) (trace ++ symbol ∷ []) v
 
--- an event offered to an estimator, with the verdict by one notion: refusals as above, and an accepted event with that verdict
+-- a symbol offered to an estimator, with the verdict by one notion: refusals as above, and an accepted symbol with that verdict
 pub data AcceptingBy (notion : Notion) (t : List ℕ) (h : Header) (self : Estimator) (symbol : ℕ) : SaidBy → Estimator → Type 0 where
   turned-back : {n : ℕ} {s : Estimator} → Accepting t h self symbol (refused n) s → AcceptingBy notion t h self symbol (refused-by n) s
   accepted-by : {v : Steps} {s : Estimator} → Moved t h self symbol s → TellsBy notion t h self symbol v → AcceptingBy notion t h self symbol (verdict v) s

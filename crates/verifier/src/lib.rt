@@ -64,13 +64,13 @@ struct Asked {
     strong: bool,
 }
 
-// The states right after one more event, if a run is left.
+// The states right after one more symbol, if a run is left.
 pub enum NextEstimate {
     States(u64),
     Empty,
 }
 
-// The first `n` of the new event and the old ones.
+// The first `n` of the new symbol and the old ones.
 fn push_symbol(symbols: [u8; 15], n: u8, symbol: u8) -> [u8; 15]
     requires { ⌜ n ≤ 15 ⌝ }
     ensures { λ r. ⌜ Pushed symbol symbols n 15 r ⌝ }
@@ -104,7 +104,7 @@ fn push_entry(entries: [u64; 16], n: u8, entry: u64) -> [u64; 16]
     r
 }
 
-// One event more to remember, and at most K.
+// One symbol more to remember, and at most K.
 fn count_after(count: u8, k: u8) -> u8
     requires { ⌜ (count ≤ k) × (k ≤ 15) ⌝ }
     ensures { λ r. ⌜ r ≡ min k (count + 1) ⌝ }
@@ -148,7 +148,7 @@ fn next_estimate(
 }
 
 // The possible states, those in which runs can be and that are in `then`; or, where one of them is not secret, it among some of them. (Most often
-// one is right after the event, and nothing is closed.)
+// one is right after the symbol, and nothing is closed.)
 fn possible_states(silent: &[u64], states: u64, entry: u64, then: u64, secret: u64) -> u64
     requires { ⌜ length (now silent) ≡ 64 ⌝ }
     ensures { λ r. ⌜ ((p : Automaton) (trace : List ℕ) → p .initial ≤ 63 → Closed p states (now (silent .entry)) → Sub entry states
@@ -162,7 +162,7 @@ fn possible_states(silent: &[u64], states: u64, entry: u64, then: u64, secret: u
 }
 
 // The least step back at which every possible state is secret. (01: "every moment of count n − l is in a secret state". The possible states l steps
-// back: those in which runs can be there and from which the last l events can follow.)
+// back: those in which runs can be there and from which the last l symbols can follow.)
 fn weak_verdict(
     estimator: Estimator,
     table: &[u64],
@@ -294,7 +294,7 @@ pub fn choose(notion: Notion, verdicts: Verdicts) -> Verdict
 }
 
 impl Estimator {
-    // With no event: the initial state alone.
+    // With no symbol: the initial state alone.
     fn initial(state: u8) -> Estimator
         requires { ⌜ state ≤ 63 ⌝ }
         ensures { λ r. ⌜ ((p : Automaton) (K : ℕ) → p .initial ≡ state → Grown p K [] r) ⌝ }
@@ -334,7 +334,7 @@ impl Estimator {
         automaton::in_range(&symbols, count)
     }
 
-    // With one event more, and the states right after it.
+    // With one symbol more, and the states right after it.
     fn push(self, k: u8, symbol: u8, entry: u64) -> Estimator
         requires { ⌜ (k ≤ 15) × (symbol ≤ 31) × Limits k self ⌝ }
         ensures { λ r. ⌜ Limits k r × ((p : Automaton) (trace : List ℕ) → Grown p k trace self → Is entry (Enters p (trace ++ symbol ∷ []))
@@ -454,7 +454,7 @@ impl Estimator {
         self.accept_asked(table, header, symbol, asked)
     }
 
-    // Accepts one event, with the verdict by one notion: an enforcer pays for one look back.
+    // Accepts one symbol, with the verdict by one notion: an enforcer pays for one look back.
     pub fn accept_by(self, table: &[u64], header: Header, symbol: u8, notion: Notion) -> ReplyBy
         ensures { λ r. ⌜ AcceptingBy notion (now (table .entry)) header self symbol (saidBy (r .answer)) (r .estimator) ⌝ }
     {

@@ -87,8 +87,8 @@ fn larger(a: u8, b: u8) -> u8
     a
 }
 
-// A number that none of the symbols is above: the largest of all 32, the unobservable events' among them.
-fn largest(symbols: [u8; 32]) -> u8
+// A number that none of the 32 symbols is above, those of unobservable events among them.
+fn upper_bound(symbols: [u8; 32]) -> u8
     ensures { λ r. ⌜ ((e : ℕ) → e < 32 → getD symbols e 0 ≤ r) ⌝ }
 {
     let mut most: u8 = 0;
@@ -104,7 +104,7 @@ fn small_symbols(header: Header) -> bool
     ensures { λ r. ⌜ Decided r (SmallSymbols (header .observable) (header .symbols)) ⌝ }
 {
     let symbols = header.symbols;
-    if largest(symbols) <= 31 {
+    if upper_bound(symbols) <= 31 {
         return true;
     }
     let observable = header.observable as u64;

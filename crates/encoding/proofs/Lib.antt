@@ -13,3 +13,4 @@ pub mod Repeats
 pub mod Cases
 pub mod Listing
 pub mod DecodedSymbols
+pub mod Longest

@@ -31,7 +31,7 @@ pub data Question : Type 0 where
   answers-after : (trace : List ℕ) → List Call → Question
   -- the answer to a start of the enforcer
   start-of : Notion → Begun → Question
-  -- the events that an enforcer releases with each event of a trace
+  -- the symbols that an enforcer releases with each symbol of a trace
   releases-of : Notion → (trace : List ℕ) → List (List ℕ) → Question
 
 -- the verdicts are those of the definition; some run is compatible with the trace, so that no leak is an empty statement
@@ -54,13 +54,13 @@ pub record StartIs (t : List ℕ) (h : Header) (notion : Notion) (answer : Begun
   pub possible : Possible (automatonOf t h) []
   pub opened : Opened t h notion answer
 
--- the events `out` are the longest safe prefix of the accepted trace
+-- the symbols `out` are the longest safe prefix of the accepted trace
 pub record ReleasedIs (t : List ℕ) (h : Header) (notion : Notion) (trace out : List ℕ) : Type 0 where
   pub possible : Possible (automatonOf t h) trace
   pub prefix : out ≡ take (length out) trace
   pub longest : Longest (Safe notion (automatonOf t h) (h .secret) (h .k)) trace (length out)
 
--- after the accepted events, of which `out` are released, each event of the rest is accepted in turn and releases what stands at its place
+-- after the accepted symbols, of which `out` are released, each symbol of the rest is accepted in turn and releases what stands at its place
 pub data EachReleases (t : List ℕ) (h : Header) (notion : Notion) : (accepted out rest : List ℕ) → List (List ℕ) → Type 0 where
   end : {accepted out : List ℕ} → EachReleases t h notion accepted out [] []
   more : {accepted out rest now : List ℕ} {e : ℕ} {later : List (List ℕ)} → Observable h e → ReleasedIs t h notion (accepted ++ e ∷ []) (out ++ now)

@@ -1,4 +1,4 @@
--- The starred examples of 01's section "Feeds to try" as one table, and an example for 02's S-2.
+-- The starred examples of 01's section "Feeds to try" as one table, and examples for 02's S-2.
 use mathlib.Core.List.{List, [], _∷_, _++_}
 use lib.ListN.{take, replicate}
 use Prim.Native.Nat.{ℕ, _+_, _^_}
@@ -8,7 +8,7 @@ use Rattle.verifier.specs.Verdicts.{none, leak}
 use Rattle.verifier.specs.Replies.{Said, refused, verdicts}
 use Rattle.verifier.specs.Calls.{Call}
 use Rattle.enforcer.specs.Offerings.{started, not-started}
-use Rattle.examples.specs.Meaning.{Example, Question, verdicts-of, answers-after, start-of, releases-of, Contents, automaton, refusal, Row, about, description, All}
+use Rattle.examples.specs.Meaning.{Example, verdicts-of, answers-after, start-of, releases-of, automaton, refusal, Row, about, description, All}
 
 abbrev pub transition : (from event to : ℕ) → Transition
 transition from event to = record { from = from; event = event; to = to }
@@ -52,6 +52,17 @@ Pumps first second = record {
   header = record { initial = 0; k = 0; secret = 2 ^ 1; observable = 2 ^ 0 + 2 ^ 1; symbols = first ∷ second ∷ replicate 30 0 };
 }
 
+-- two events with symbol 7, of which the next symbol tells which it was: a leak that begins one step back
+abbrev pub Later : Example
+Later = record {
+  transitions = transition 0 0 1 ∷ transition 0 1 2 ∷ transition 1 2 3 ∷ transition 3 0 3 ∷ transition 3 1 0 ∷ [];
+  header = record { initial = 0; k = 2; secret = 2 ^ 1; observable = 2 ^ 0 + 2 ^ 1 + 2 ^ 2; symbols = 7 ∷ 7 ∷ 3 ∷ replicate 29 0 };
+}
+
+-- P whose events 1 and 2 have the symbols 2 and 0. Its encoding lists 31 for event 0, which is unobservable: the header has 0 there
+abbrev pub PSymbols : Example
+PSymbols = record { transitions = P 2 .transitions; header = record { initial = 0; k = 2; secret = 2 ^ 1; observable = 2 ^ 1 + 2 ^ 2; symbols = 0 ∷ 2 ∷ replicate 30 0 } }
+
 abbrev pub call : ℕ → Said → Call
 call byte says = record { byte = byte; says = says }
 
@@ -65,6 +76,10 @@ p-bytes = 0x0C ∷ 0x44 ∷ 0x00 ∷ 0x0A ∷ 0x46 ∷ 0x00 ∷ 0x02 ∷ 0x00 �
 -- with symbol 7 for both events
 abbrev pub pumps-bytes : List ℕ
 pumps-bytes = 0x08 ∷ 0x20 ∷ 0x00 ∷ 0x05 ∷ 0x59 ∷ 0xCE ∷ 0x00 ∷ 0x01 ∷ 0x00 ∷ 0x21 ∷ 0x00 ∷ []
+
+abbrev pub p-symbols-bytes : List ℕ
+p-symbols-bytes =
+    0x0C ∷ 0x44 ∷ 0x00 ∷ 0x0B ∷ 0x47 ∷ 0xF1 ∷ 0x00 ∷ 0x00 ∷ 0x04 ∷ 0x00 ∷ 0x41 ∷ 0x04 ∷ 0x40 ∷ 0x04 ∷ 0x10 ∷ 0xC3 ∷ 0x08 ∷ 0x60 ∷ []
 
 -- K 0 and U are shown under both notions, and P's description too
 abbrev pub rows : List Row
@@ -105,6 +120,11 @@ rows =
     ∷ description (0x08 ∷ 0x20 ∷ 0x00 ∷ 0x04 ∷ 0x58 ∷ 0x00 ∷ 0x04 ∷ 0x00 ∷ 0x84 ∷ []) (automaton (Pumps 0 1))
     ∷ description pumps-bytes (automaton (Pumps 7 7))
     ∷ description (take 5 pumps-bytes) (refusal 1)
+    ∷ about Later (verdicts-of (7 ∷ []) none none)
+    ∷ about Later (verdicts-of (7 ∷ 3 ∷ []) (leak 1) (leak 1))
+    ∷ about Later (releases-of Weak (7 ∷ 3 ∷ 7 ∷ 7 ∷ []) ((7 ∷ []) ∷ [] ∷ [] ∷ (3 ∷ 7 ∷ 7 ∷ []) ∷ []))
+    ∷ about PSymbols (verdicts-of (2 ∷ 0 ∷ 2 ∷ []) (leak 2) (leak 2))
+    ∷ description p-symbols-bytes (automaton PSymbols)
     ∷ []
 
 -- the statement; the proof is every-row-holds of proofs/EveryRow

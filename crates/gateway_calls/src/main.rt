@@ -41,7 +41,7 @@ const START: u64 = 0x7374617274;
 
 const OFFER: u64 = 0x6f66666572;
 
-// Where an enforcer has the number of its pending events, and behind it those events.
+// Where an enforcer has the number of its pending symbols, and behind it those symbols.
 const PENDING: usize = 145;
 
 // Stands for every answer that is allowed where the answer is left open.
@@ -403,7 +403,7 @@ fn unchanged(memory: &[u64; 36864], slot: usize, before: &[u64; 36864]) -> bool 
     matches(memory, slot, 0, before, slot, 0, SLOT)
 }
 
-// Whether, of the events that were pending and the new one behind them, the first ones stand at the front of the output, with what it had behind
+// Whether, of the symbols that were pending and the new one behind them, the first ones stand at the front of the output, with what it had behind
 // them, and the others are pending.
 fn release_allowed(memory: &[u64; 36864], symbol: u8, before: &[u64; 36864]) -> bool {
     let count = wide(byte_of(before, ENFORCER, PENDING));

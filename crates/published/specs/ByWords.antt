@@ -1,10 +1,11 @@
 -- Source document 000's Definitions 1, 3 and 4 as they stand there: a state and an event have one target, and an execution sequence is a word, a list of events.
+-- One thing differs: the projection names each observable event by its symbol (02, S-2)
 use mathlib.Core.Path.{_≡_}
 use mathlib.Core.List.{List, [], _∷_, _++_}
 use Prim.Native.Nat.{ℕ, _+_, _*_, _^_, _≤_, _-_}
 use lib.ListN.{length, replicate, set}
-use Rattle.stateset.specs.Set.{In}
-use Rattle.automaton.specs.Run.{Automaton, Transition, Step, shows}
+use Rattle.stateset.specs.Set.{bit, In}
+use Rattle.automaton.specs.Run.{Automaton, Transition, Step, showIf, shows}
 use Rattle.automaton.specs.Symbols.{ownNumbers}
 use Rattle.verifier.specs.declared.Notion.{Notion}
 use Rattle.verifier.specs.declared.Notion.the-variants.{Weak, Strong}
@@ -32,11 +33,15 @@ WordLang p s = (q : ℕ) × Leads p (p .initial) s q
 abbrev pub Marked : Automaton → ℕ → List ℕ → Type 0
 Marked p secret s = (q : ℕ) × In q secret × Leads p (p .initial) s q
 
--- P(s), the projection: the word without its events that are not observable, and each of the others by its symbol. (Source 000's keeps these as they are: so
--- it is where each observable event's symbol is its own number)
+-- P(s), the projection: the word without its events that are not observable, and each of the others by its symbol
 abbrev pub projected : Automaton → List ℕ → List ℕ
 projected p [] = []
 projected p (e ∷ s) = shows p e ++ projected p s
+
+-- source 000's own. Without symbols the two are the same (proofs Projections, own-projection)
+abbrev pub erased : (observable : ℕ) → List ℕ → List ℕ
+erased observable [] = []
+erased observable (e ∷ s) = showIf (bit e observable) e ++ erased observable s
 
 -- Definition 3
 pub record EquivalentWord (p : Automaton) (secret : ℕ) (t t′ : List ℕ) : Type 0 where

@@ -18,12 +18,12 @@ abbrev μ-loop : tie.MeasureT-loop
 pick : (c : tie.In-loop Inv-loop μ-loop) → Taken (c .before .loop .untested) (trailingZeros 64 (c .before .loop .untested)) (bitAnd (c .before .loop .untested) (c .before .loop .untested - 1))
 pick c = taken (c .before .loop .untested) (omega arith) (c .before .loop .inv .1)
 
-largest-requires : tie.Need-largest-requires Inv-loop μ-loop
-largest-requires c κs = search needs
+upper-bound-requires : tie.Need-upper-bound-requires Inv-loop μ-loop
+upper-bound-requires c κs = search needs
 
 -- all 32 are small, and so are those of the observable events
 returns : tie.Need-returns Inv-loop μ-loop
-returns c = λ e i. omega (arith, c .before .largest .ensures e (in-lt 32 e _ (omega arith) i), c .if1 .taken)
+returns c = λ e i. omega (arith, c .before .upper-bound .ensures e (in-lt 32 e _ (omega arith) i), c .if1 .taken)
 
 cast-observable : tie.Need-cast-observable Inv-loop μ-loop
 cast-observable c = omega arith
@@ -62,7 +62,7 @@ small-symbols-spec =
     (tie.spec
     Inv-loop
     μ-loop
-    largest-requires
+    upper-bound-requires
     returns
     cast-observable
     loop-holds

@@ -1,11 +1,11 @@
--- `automaton::largest` meets its contract. The invariant: none of the first `e` symbols is above `most`. Assumes nothing.
+-- `automaton::upper_bound` meets its contract. The invariant: none of the first `e` symbols is above `most`. Assumes nothing.
 use Prim.Native.Nat.{ℕ, _≤_, _<_, _-_}
 use native.Mathlib.Omega.{arith}
 use borrow.Author.Needs.{needs}
 use borrow.Author.Count.{below-more}
 use lib.ListN.{getD}
-use Rattle.automaton.proofs.largest.Statement.{statement}
-use Rattle.automaton.proofs.largest.Tie as tie
+use Rattle.automaton.proofs.upper_bound.Statement.{statement}
+use Rattle.automaton.proofs.upper_bound.Tie as tie
 
 abbrev Inv-loop : tie.InvT-loop
 Inv-loop symbols most₀ e₀ most e = (e ≤ 32) × ((k : ℕ) → k < e → getD symbols k 0 ≤ most)
@@ -34,8 +34,8 @@ loop-again c = (omega arith, below-more _ _ (λ k h. omega (arith, c .before .be
 returns : tie.Need-returns Inv-loop μ-loop
 returns c = λ k h. c .before .loop .inv .1 k (omega arith)
 
-pub largest-spec : {M : Type 1} → statement M
-largest-spec =
+pub upper-bound-spec : {M : Type 1} → statement M
+upper-bound-spec =
     tie.close
     (tie.spec
     Inv-loop

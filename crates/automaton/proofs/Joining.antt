@@ -1,5 +1,5 @@
 -- A loop that walks through the members e of a set and joins, for each, the word of the numbers that have `P e`. Assumes nothing.
-use mathlib.Core.Path.{_≡_, subst, sym}
+use mathlib.Core.Path.{_≡_, subst}
 use mathlib.Core.List.{List}
 use mathlib.Core.Logic.{_⊎_, inl, inr, ⊎-elim}
 use Prim.Native.Nat.{ℕ, _*_, _^_, _<_}
@@ -8,7 +8,7 @@ use lib.Bits.{bitOr}
 use lib.ListN.{length, getD, take, drop}
 use Rattle.stateset.specs.Set.{In, Is}
 use Rattle.stateset.proofs.Bits.{Taken, in-or, or-l, or-r, bit-zero, empty}
-use Rattle.automaton.specs.Relation.{Row, Rows, Listed, Image, Preimage}
+use Rattle.automaton.specs.Relation.{Row, Listed, Image, Preimage}
 use Rattle.automaton.proofs.Entering.{part-rows, row-sound, row-whole}
 
 pub record Joined (P : ℕ → ℕ → Type 0) (set todo r : ℕ) : Type 0 where

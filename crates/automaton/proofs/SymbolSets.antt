@@ -13,7 +13,7 @@ use lib.Count.{trailingZeros}
 use lib.Seq.{getD-set-same, getD-set-other}
 use Rattle.stateset.specs.Set.{In, Is}
 use Rattle.stateset.proofs.Bits.{Taken, in-lt, empty, trailing-in, one-shl, with-is}
-use Rattle.automaton.specs.Run.{Automaton, automatonOf, shows, Observable, SmallSymbols, Sound}
+use Rattle.automaton.specs.Run.{Automaton, automatonOf, Observable, SmallSymbols, Sound}
 use Rattle.automaton.specs.declared.Header.{Header}
 use Rattle.automaton.specs.Reaching.{Showing}
 use Rattle.automaton.proofs.Entering.{shows-one, only-shows, symbol-small}

@@ -1,21 +1,19 @@
 -- What a decoded header says of symbols (02, S-2). Assumes nothing.
 use Prim.Native.Nat.{ℕ, _+_, _≤_, _<_}
-use mathlib.Core.Path.{_≡_, refl, sym, ap, subst, _∙_}
-use mathlib.Core.List.{List, [], _∷_}
+use mathlib.Core.Path.{_≡_, sym, ap, subst, _∙_}
+use mathlib.Core.List.{List, []}
 use native.Mathlib.Omega.{arith}
-use lib.ListN.{length, getD}
+use lib.ListN.{getD}
 use lib.Seq.{ext-getD}
 use Rattle.stateset.specs.Set.{In}
 use Rattle.stateset.proofs.Bits.{in?, in-lt}
 use Rattle.automaton.specs.Run.{automatonOf}
 use Rattle.automaton.specs.Symbols.{WithoutSymbols}
-use Rattle.automaton.specs.declared.Header.{Header}
 use Rattle.bitfields.specs.Bits.{bitsOf}
 use Rattle.bitfields.specs.Parser.{done}
 use Rattle.bitfields.proofs.Parsing.{on-done, same-done}
-use Rattle.encoding.specs.Encoding.{Encoding, encoding, front, symbols, countIf, symbolCount, Preamble, preamble}
-use Rattle.encoding.specs.Answers.{givenSymbol, symbolFor, headerSymbols, headerOf}
-use Rattle.encoding.specs.Decoding.{Decoding, accept}
+use Rattle.encoding.specs.Encoding.{Encoding, encoding, front, symbols, symbolCount, Preamble, preamble}
+use Rattle.encoding.specs.Answers.{givenSymbol, headerSymbols, headerOf}
 use Rattle.encoding.specs.declared.Front.{Front}
 use Rattle.encoding.proofs.Ended.{encoding-read, encoding-in}
 use Rattle.encoding.proofs.HeaderSymbols.{header-at, header-length, symbol-observable, symbol-unobservable, count-none}

@@ -1,8 +1,8 @@
 -- How long an encoding can be: where each part ends, and so the whole. Assumes nothing.
-use Prim.Native.Nat.{ℕ, zero, suc, _+_, _*_, _-_, _≤_, _<_}
+use Prim.Native.Nat.{ℕ, zero, suc, _+_, _*_, _-_, _≤_}
 use mathlib.Core.Path.{_≡_, refl}
-use mathlib.Core.Bool.{Bool, true, false, not, _&&_}
-use mathlib.Core.List.{List, _∷_, []}
+use mathlib.Core.Bool.{Bool, true, false, _&&_}
+use mathlib.Core.List.{List}
 use native.Mathlib.Omega.{arith}
 use borrow.Author.Tests.{ltb-true}
 use lib.Dec.{leb, ltb, eqb}
@@ -15,7 +15,6 @@ use Rattle.encoding.specs.Transitions.{Transition}
 use Rattle.encoding.specs.Encoding.{Encoding, encoding, ending, fixed, front, symbols, symbolCount, Preamble, preamble, transition, transitions}
 use Rattle.encoding.specs.Answers.{FrontSmall, preambleEnd}
 use Rattle.encoding.specs.declared.Fixed.{Fixed}
-use Rattle.encoding.specs.declared.Front.{Front}
 use Rattle.encoding.proofs.Ended.{symbols-few, transitions-read, encoding-in}
 
 fixed-ends : (bits : List ℕ) {f : Fixed} {n : ℕ} → fixed bits 0 ≡ done f n → n ≡ 32

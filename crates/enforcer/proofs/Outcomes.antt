@@ -14,7 +14,7 @@ use Rattle.verifier.specs.declared.Estimator.{Estimator}
 use Rattle.verifier.specs.Verdicts.{stepsOf, Tells}
 use Rattle.verifier.specs.Replies as verifier
 use Rattle.verifier.specs.Replies.{Accepting, Moved, TellsBy}
-use Rattle.enforcer.specs.Enforcers.{Limits, Grown}
+use Rattle.enforcer.specs.Enforcers.{Limits}
 use Rattle.enforcer.specs.Offerings.{refused, said, Offering, Exact, not-observable, incompatible, accepted}
 use Rattle.verifier.specs.Replies.{chosen}
 use Rattle.enforcer.specs.Inner.{waitOf, Took}

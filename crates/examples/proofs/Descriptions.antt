@@ -9,7 +9,7 @@ use Rattle.automaton.specs.declared.Header.{Header}
 use Rattle.bitfields.specs.Bits.{bitsOf}
 use Rattle.encoding.specs.Transitions.{Transition, sameTransition}
 use Rattle.encoding.specs.Encoding.{encoding}
-use Rattle.examples.specs.Meaning.{Example, Contents, automaton, refusal, contentsOf}
+use Rattle.examples.specs.Meaning.{Contents, automaton, refusal, contentsOf}
 use Rattle.encoding.proofs.Listed.{same-equal}
 use Rattle.examples.proofs.Booleans.{and-left, and-right, is-true, sameList, same-list}
 use Rattle.examples.proofs.Checks.{Check, by}

@@ -1,12 +1,12 @@
 -- What the table law of `encoding` says of the transitions of runs; no other module looks into a table. Assumes nothing.
-use mathlib.Core.Path.{_≡_, sym, subst}
+use mathlib.Core.Path.{sym, subst}
 use mathlib.Core.Bool.{Bool, _&&_}
 use mathlib.Core.List.{List, [], _∷_}
 use Prim.Native.Nat.{ℕ, _≤_, _<_}
 use lib.Dec.{T, ltb, ltb→lt}
 use Rattle.automaton.specs.Run.{automatonOf, SmallSymbols, Sound}
 use Rattle.automaton.specs.declared.Header.{Header}
-use Rattle.encoding.specs.Transitions.{Transition, sameTransition, listed}
+use Rattle.encoding.specs.Transitions.{Transition, sameTransition}
 use Rattle.encoding.specs.Table.{Holds, tableOf}
 use Rattle.encoding.proofs.Stored.{Small, holds-all}
 use Rattle.encoding.proofs.Listing.{Placed, listed-exactly}

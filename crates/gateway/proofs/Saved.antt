@@ -1,13 +1,12 @@
 -- What several stores leave of a slice that is written from its front to its end. Assumes nothing.
-use Prim.Native.Nat.{ℕ, zero, suc, _+_, _*_, _≤_, _<_}
+use Prim.Native.Nat.{ℕ, zero, suc, _+_, _*_}
 use mathlib.Core.Path.{_≡_, refl, ap, sym, _∙_}
 use mathlib.Core.List.{List, [], _∷_, _++_, append-nil}
 use native.Mathlib.Omega.{arith}
-use lib.ListN.{length, take, drop, set, length-append}
+use lib.ListN.{length, set, length-append}
 use lib.Seq.{sets, sets-eq}
 use Rattle.automaton.proofs.Filled.{sets-append}
-use Rattle.verifier.specs.declared.Notion.{Notion}
-use Rattle.verifier.specs.declared.Notion.the-variants.{Weak, Strong}
+use Rattle.verifier.specs.declared.Notion.the-variants.{Strong}
 use Rattle.gateway.specs.Layout.{bytesOf, wordsBytes, notionAt}
 use Rattle.gateway.proofs.Bytes.{bytes-length, drop-all}
 

@@ -1,16 +1,9 @@
 -- The header of an accepted encoding fits its bytes, and so reads back. Assumes nothing.
-use Prim.Native.Nat.{ℕ, suc, _+_, _^_, _<_}
-use mathlib.Core.Path.{_≡_, subst}
-use mathlib.Core.List.{List, [], _∷_}
-use native.Mathlib.Omega.{arith}
-use native.Mathlib.Nat.{lt-of-lt-of-le}
-use lib.ListN.{getD}
-use lib.Pow.{pow-mono}
-use Rattle.bitfields.specs.Bits.{bitsOf}
-use Rattle.bitfields.specs.Parser.{done, flags}
-use Rattle.bitfields.proofs.Parsing.{on-done, same-done, flags-lt}
+use Prim.Native.Nat.{ℕ}
+use mathlib.Core.Path.{_≡_}
+use mathlib.Core.List.{List}
 use Rattle.automaton.specs.declared.Header.{Header}
-use Rattle.encoding.specs.Encoding.{Encoding, encoding, ending, fixed, front, symbols, symbolCount, Preamble, preamble, transitions}
+use Rattle.encoding.specs.Encoding.{front, symbols}
 use Rattle.encoding.specs.Decoding.{Decoding, accept}
 use Rattle.encoding.proofs.Ended.{secret-fits, observable-fits, encoding-in}
 use Rattle.encoding.proofs.HeaderSymbols.{header-length}

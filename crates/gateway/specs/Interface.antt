@@ -1,8 +1,8 @@
 -- What each function of the interface answers and leaves, by the contracts of the crates below: 0, or the number of a refusal, which leaves every
 -- lent slice as it was. A slice of another length than its layout has, and a notion that is none, get 9 before anything else.
-use Prim.Native.Nat.{ℕ, suc, _≤_, _<_}
+use Prim.Native.Nat.{ℕ, _≤_}
 use mathlib.Core.Path.{_≡_}
-use mathlib.Core.List.{List, [], _∷_, _++_}
+use mathlib.Core.List.{List, [], _∷_}
 use lib.ListN.{length, getD}
 use Rattle.automaton.specs.declared.Header.{Header}
 use Rattle.encoding.specs.Decoding.{Decoding, accept, refuse}

@@ -11,7 +11,7 @@ use verifier::Notion;
 use verifier::Verdicts;
 ghost use mathlib.Core.Path.{_≡_};
 ghost use Prim.Native.Nat.{_+_, _*_, _<_};
-ghost use lib.ListN.{length, take};
+ghost use lib.ListN.{length};
 ghost use Rattle.stateset.specs.Set.{Decided};
 ghost use Rattle.automaton.specs.Run.{Sound};
 ghost use Rattle.verifier.specs.Replies as verifier;

@@ -3,7 +3,7 @@ use mathlib.Core.Path.{_≡_, refl, ap, ap₂, sym, _∙_}
 use mathlib.Core.List.{List, [], _∷_, _++_}
 use Prim.Native.Nat.{ℕ, _<_}
 use native.Mathlib.Omega.{arith}
-use Rattle.stateset.specs.Set.{bit, In}
+use Rattle.stateset.specs.Set.{bit}
 use Rattle.stateset.proofs.Bits.{in?, bit-lt}
 use Rattle.automaton.specs.Run.{Automaton, showIf, shows}
 use Rattle.automaton.specs.Symbols.{WithoutSymbols}

@@ -1,18 +1,17 @@
 -- `automaton::preimage_by` meets its contract. The invariant: `r` joins the preimages by the events that are no longer in `todo`, which falls.
 -- Assumes nothing.
-use mathlib.Core.Path.{_≡_, ap, subst, _∙_}
+use mathlib.Core.Path.{ap, subst, _∙_}
 use mathlib.Core.List.{List}
 use Prim.Native.Nat.{ℕ, _-_, _^_, _<_}
 use native.Mathlib.Omega.{arith}
-use denote.Ref.{now}
 use lib.ListN.{length}
 use lib.Bits.{bitAnd}
 use lib.Count.{trailingZeros}
 use Rattle.stateset.specs.Set.{Is}
 use Rattle.stateset.proofs.Bits.{Taken, taken}
-use Rattle.automaton.specs.Relation.{Row, Image, Preimage}
+use Rattle.automaton.specs.Relation.{Row, Preimage}
 use Rattle.automaton.proofs.Entering.{part-size}
-use Rattle.automaton.proofs.Joining.{Joined, wordsOf, join-start, join-turn, join-end, image-joined, preimage-joined}
+use Rattle.automaton.proofs.Joining.{Joined, wordsOf, join-start, join-turn, join-end, preimage-joined}
 use Rattle.automaton.proofs.preimage_by.Statement.{statement}
 use Rattle.automaton.proofs.preimage_by.Tie as tie
 

@@ -1,5 +1,5 @@
 -- `automaton::small_symbols` meets its contract. The invariant: the events that are no longer in `untested`, which falls, have small symbols. Assumes nothing.
-use Prim.Native.Nat.{ℕ, _-_, _^_, _<_}
+use Prim.Native.Nat.{_-_, _^_, _<_}
 use native.Mathlib.Omega.{arith}
 use lib.Bits.{bitAnd}
 use lib.Count.{trailingZeros}

@@ -1,8 +1,6 @@
 -- `automaton::sound` meets its contract: each test decides one of the limits.
-use native.Mathlib.Omega.{arith}
 use borrow.Author.Needs.{needs}
 use Rattle.stateset.proofs.Decides.{decided-as}
-use Rattle.automaton.specs.Run.{SmallSymbols, Sound}
 use Rattle.automaton.proofs.sound.Statement.{statement}
 use Rattle.automaton.proofs.sound.Tie as tie
 

@@ -1,5 +1,5 @@
 -- `encoding::read_preamble` meets its contract: the bits of the symbols are there, or not.
-use Prim.Native.Nat.{ℕ, _+_, _*_, _≤_}
+use Prim.Native.Nat.{ℕ, _≤_}
 use mathlib.Core.Path.{_≡_}
 use mathlib.Core.List.{List}
 use borrow.Author.Needs.{needs}

@@ -506,6 +506,20 @@ def open_states(calls):
             calls.put(enforcer=begun + bytes([notion, count] + [symbol] * 16 + [200] * 16))
             calls.offer(200)
             calls.open("offer", 1)
+    calls.say("a state that grew under a header in which an observable event then gets another symbol")
+    calls.lend(P_SYMBOLS)
+    lend_all(calls)
+    calls.fresh()
+    calls.start(0)
+    for byte in (2, 0):
+        calls.accept(byte)
+        calls.offer(byte)
+    calls.put(header=changed(calls.slices["header"], SYMBOLS + 1, 5))
+    for byte in (0, 5):
+        calls.open("accept", byte)
+        calls.open("offer", byte)
+    calls.accept(2)
+    calls.offer(2)
 
 
 def random_state(rng, k):

@@ -10,9 +10,9 @@ use Rattle.stateset.specs.Set.{In}
 use Rattle.stateset.proofs.Bits.{in?, in-lt}
 use Rattle.automaton.specs.Run.{automatonOf, Observable, Sound}
 use Rattle.automaton.specs.declared.Header.{Header}
-use Rattle.automaton.specs.Symbols.{WithoutSymbols, SameButSymbols, SameSymbols, OneEvent, SameByte, of-event, of-none, Pairs, no-more, both}
+use Rattle.automaton.specs.Symbols.{WithoutSymbols, SameButSymbols, SameSymbols, Events, symbolsOf, OneEvent, SameByte, of-event, of-none, Pairs, no-more, both}
 use Rattle.automaton.proofs.Entering.{shows-one, only-shows}
-use Rattle.automaton.proofs.Spelling.{in-same, same-back}
+use Rattle.automaton.proofs.Spelling.{but-back, in-same, same-back}
 
 -- refusal 6: the bytes that are not refused are the symbols of the observable events
 module _ (h : Header) where
@@ -154,3 +154,34 @@ module _ (t : List ℕ) (h h′ : Header) (s : SameButSymbols (automatonOf t h) 
       let y = same-byte x in
       let ys = same-bytes xs in
       (y .0 ∷ ys .0, both (y .1) (ys .1))
+
+-- and the other way round
+module _ (t : List ℕ) (h h′ : Header) (s : SameButSymbols (automatonOf t h) (automatonOf t h′)) where
+  pub same-byte-back : (x y : ℕ) → SameByte t h h′ x y → SameByte t h′ h y x
+  same-byte-back x y (of-event o) =
+      of-event (record {
+        event = o .event;
+        event-small = o .event-small;
+        event-observable = in-same _ _ s (o .event) (o .event-observable);
+        first = o .second;
+        second = o .first;
+      })
+  same-byte-back x y (of-none never never′) = of-none never′ never
+
+  pub same-bytes-back : (xs ys : List ℕ) → Pairs (SameByte t h h′) xs ys → Pairs (SameByte t h′ h) ys xs
+  same-bytes-back xs ys no-more = no-more
+  same-bytes-back xs ys (both {x = x} {y = y} {xs = rest} {ys = rest′} b pairs) = both (same-byte-back x y b) (same-bytes-back rest rest′ pairs)
+
+-- so each list of events, offered without symbols, is paired with a list of symbols
+pub event-bytes : (t : List ℕ) (h h′ : Header) → SameButSymbols (automatonOf t h) (automatonOf t h′) → Sound t h
+    → (ys : List ℕ) → (xs : List ℕ) × Pairs (SameByte t h h′) xs ys
+event-bytes t h h′ s sound ys =
+    let back = but-back _ _ s in
+    let xs = same-bytes t h′ h back sound ys in
+    (xs .0, same-bytes-back t h′ h back ys (xs .0) (xs .1))
+
+-- where all of them are observable, with their symbols
+pub event-symbols : (t : List ℕ) (h h′ : Header) → SameButSymbols (automatonOf t h) (automatonOf t h′) → WithoutSymbols (automatonOf t h′)
+    → (es : List ℕ) → Events (automatonOf t h) es → Pairs (SameByte t h h′) (symbolsOf (automatonOf t h) es) es
+event-symbols t h h′ s w [] x = no-more
+event-symbols t h h′ s w (e ∷ es) x = both (of-event (own-event t h h′ s w e (x .0) (x .1))) (event-symbols t h h′ s w es (x .2))

@@ -28,7 +28,22 @@ use Rattle.automaton.proofs.Headers.{both-observable, own-sound, same-observabl
 use Rattle.verifier.specs.declared.Notion.{Notion}
 use Rattle.verifier.specs.declared.Estimator.{Estimator}
 use Rattle.verifier.specs.Verdicts.{Steps, Words, Exactly}
-use Rattle.verifier.specs.Replies.{Said, refused, verdicts, Exact, Opening, opened, Accepting, not-observable, incompatible, accepted}
+use Rattle.verifier.specs.Replies.{
+  Said,
+  refused,
+  verdicts,
+  Exact,
+  Opening,
+  opened,
+  Accepting,
+  not-observable,
+  incompatible,
+  accepted,
+  SaidBy,
+  AcceptingBy,
+  turned-back,
+  accepted-by,
+}
 use Rattle.verifier.specs.Calls.{Call, Calls, done, takenBy, Right, Answered, AllAnswered, end, more}
 use Rattle.verifier.specs.Paired.{SameCalled, Corresponds, CallsFollow}
 use Rattle.verifier.proofs.Agreed.{alike-words, same-tells, same-grown}
@@ -165,9 +180,29 @@ module _ (t : List ℕ) (h : Header) (symbols : List ℕ) (g : SameSymbols (auto
       accepted (same-sound t h (relabelled h symbols) g refl .0 so) li (same-observable t h (relabelled h symbols) g byte .0 ob) after weak strong
       (λ trace x. exact-to (trace ++ byte ∷ []) _ _ s (exact trace (same-grown _ _ g trace (h .k) self .1 x)))
 
+  accepting-by-to : (notion : Notion) (self : Estimator) (byte : ℕ) (r : SaidBy) (s : Estimator) → AcceptingBy notion t h self byte r s
+      → AcceptingBy notion t (relabelled h symbols) self byte r s
+  accepting-by-to notion self byte r s (turned-back x) = turned-back (accepting-to self byte _ s x)
+  accepting-by-to notion self byte r s (accepted-by {v = steps} m v) =
+      accepted-by (record {
+        sound = same-sound t h (relabelled h symbols) g refl .0 (m .sound);
+        limits = m .limits;
+        observable = same-observable t h (relabelled h symbols) g byte .0 (m .observable);
+        limits-after = m .limits-after;
+        grown = λ trace x. same-grown _ _ g (trace ++ byte ∷ []) (h .k) s .0 (m .grown trace (same-grown _ _ g trace (h .k) self .1 x));
+      }) (record {
+        bounded = v .bounded;
+        tells = λ trace x. same-tells _ _ g (trace ++ byte ∷ []) (h .secret) (h .k) notion steps .0 (v .tells trace (same-grown _ _ g trace (h .k) self .1 x));
+      })
+
 module _ (t : List ℕ) (h h′ : Header) (g : SameSymbols (automatonOf t h) (automatonOf t h′)) (secret : h .secret ≡ h′ .secret) (k : h .k ≡ h′ .k) where
   pub same-opening : (r : Said) (s : Estimator) → Opening t h r s ↔ Opening t h′ r s
   same-opening r s = same-header t (λ x. Opening t x r s) (λ h symbols g. opening-to t h symbols g r s) h h′ g secret k
 
   pub same-accepting : (self : Estimator) (byte : ℕ) (r : Said) (s : Estimator) → Accepting t h self byte r s ↔ Accepting t h′ self byte r s
   same-accepting self byte r s = same-header t (λ x. Accepting t x self byte r s) (λ h symbols g. accepting-to t h symbols g self byte r s) h h′ g secret k
+
+  pub same-accepting-by : (notion : Notion) (self : Estimator) (byte : ℕ) (r : SaidBy) (s : Estimator)
+      → AcceptingBy notion t h self byte r s ↔ AcceptingBy notion t h′ self byte r s
+  same-accepting-by notion self byte r s =
+      same-header t (λ x. AcceptingBy notion t x self byte r s) (λ h symbols g. accepting-by-to t h symbols g notion self byte r s) h h′ g secret k

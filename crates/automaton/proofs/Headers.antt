@@ -2,13 +2,13 @@
 use mathlib.Core.Path.{_≡_, refl, sym, subst, _∙_}
 use mathlib.Core.List.{List, [], _∷_}
 use mathlib.Core.Logic.{_↔_}
-use Prim.Native.Nat.{ℕ, zero, suc, _<_, _^_}
+use Prim.Native.Nat.{ℕ, _<_, _^_}
 use native.Mathlib.Omega.{arith}
-use native.Mathlib.Decide.{ℕ-discrete}
 use lib.ListN.{getD}
 use Rattle.stateset.specs.Set.{In}
-use Rattle.stateset.proofs.Bits.{in?, in-lt}
-use Rattle.automaton.specs.Run.{automatonOf, Observable, Sound}
+use Rattle.stateset.proofs.Bits.{in-lt}
+use Rattle.stateset.proofs.Tests.{test-as, same?, some?}
+use Rattle.automaton.specs.Run.{automatonOf, showsBy, Observable, Sound}
 use Rattle.automaton.specs.declared.Header.{Header}
 use Rattle.automaton.specs.Symbols.{WithoutSymbols, SameButSymbols, SameSymbols, Events, symbolsOf, OneEvent, SameByte, of-event, of-none, Pairs, no-more, both}
 use Rattle.automaton.proofs.Entering.{shows-one, only-shows}
@@ -107,37 +107,10 @@ module _ (t : List ℕ) (C : Header → Type 0)
   same-header h h′ g secret k = (header-to h h′ g secret k, header-to h′ h (same-back _ _ g) (sym secret) (sym k))
 
 -- a byte is the symbol of an observable event, or it is not
-module _ (h : Header) (byte : ℕ) where
-  abbrev Has : ℕ → Type 0
-  Has e = In e (h .observable) × (getD (h .symbols) e 0 ≡ byte)
-
-  has? : (e : ℕ) → Dec (Has e)
-  has? e = go (in? e (h .observable)) (ℕ-discrete (getD (h .symbols) e 0) byte)
-    where
-      go : Dec (In e (h .observable)) → Dec (getD (h .symbols) e 0 ≡ byte) → Dec (Has e)
-      go (yes i) (yes s) = yes (i, s)
-      go (no i) s = no (λ x. i (x .0))
-      go (yes i) (no s) = no (λ x. s (x .1))
-
-  among : (n : ℕ) → Dec ((e : ℕ) × (e < n) × Has e)
-  among zero = no (λ x. absurd (omega (arith, x .1)))
-  among (suc n) = go (among n) (has? n)
-    where
-      last : ((e : ℕ) × (e < n) × Has e → ⊥) → (Has n → ⊥) → (e : ℕ) → e < suc n → Has e → Dec (e ≡ n) → ⊥
-      last none other e l x (yes same) = other (subst (λ (k : ℕ). Has k) same x)
-      last none other e l x (no differ) = none (e, omega arith, x)
-
-      go : Dec ((e : ℕ) × (e < n) × Has e) → Dec (Has n) → Dec ((e : ℕ) × (e < suc n) × Has e)
-      go (yes x) b = yes (x .0, omega (arith, x .1), x .2)
-      go (no none) (yes x) = yes (n, omega arith, x)
-      go (no none) (no other) = no (λ x. last none other (x .0) (x .1) (x .2) (ℕ-discrete (x .0) n))
-
-  pub observable? : Dec (Observable h byte)
-  observable? = go (among 32)
-    where
-      go : Dec ((e : ℕ) × (e < 32) × Has e) → Dec (Observable h byte)
-      go (yes x) = yes (subst (λ (n : ℕ). Observable h n) (x .2 .1) (event-observable h (x .0) (x .1) (x .2 .0)))
-      go (no none) = no (λ o. let x = observable-event h byte o in none (x .0, x .1, (x .2, x .3)))
+pub observable? : (h : Header) (byte : ℕ) → Dec (Observable h byte)
+observable? h byte =
+    test-as (λ x. record { event = x .at; event-small = x .small; shows-it = x .holds }) (λ o. record { at = o .event; small = o .event-small; holds = o .shows-it })
+    (some? (λ e. showsBy (h .observable) (h .symbols) e ≡ byte ∷ []) (λ e. same? (showsBy (h .observable) (h .symbols) e) (byte ∷ [])) 32)
 
 -- so each list of bytes under the one header has a list under the other that corresponds to it
 module _ (t : List ℕ) (h h′ : Header) (s : SameButSymbols (automatonOf t h) (automatonOf t h′)) (sound : Sound t h′) where

@@ -8,7 +8,7 @@ use Rattle.stateset.specs.Set.{bit, In}
 use Rattle.stateset.proofs.Bits.{in-lt}
 use Rattle.automaton.specs.Run.{Automaton, automatonOf, Possible, Sound}
 use Rattle.automaton.specs.declared.Header.{Header}
-use Rattle.automaton.specs.Symbols.{WithoutSymbols, Distinct, SameButSymbols, Alike, SameSymbols, Events, SameByte, of-event, of-none, Pairs}
+use Rattle.automaton.specs.Symbols.{symbolOf, WithoutSymbols, Distinct, SameButSymbols, Alike, SameSymbols, Events, SameByte, of-event, of-none, Pairs}
 use Rattle.automaton.proofs.Spelling.{distinct-alike, alike-possible, events-spelled}
 use Rattle.automaton.proofs.Headers.{observable-event, event-symbols}
 
@@ -65,7 +65,7 @@ events-0-1 = (omega arith, refl, (omega arith, refl, tt))
 pub distinct-5-6 : Distinct p
 distinct-5-6 = record { one = λ d e hd he i j s. go d e (two d i) (two e j) s }
   where
-    go : (d e : ℕ) → d < 2 → e < 2 → getD (p .symbols) d 0 ≡ getD (p .symbols) e 0 → d ≡ e
+    go : (d e : ℕ) → d < 2 → e < 2 → symbolOf p d ≡ symbolOf p e → d ≡ e
     go zero zero hd he s = refl
     go zero (suc zero) hd he s = absurd (omega arith)
     go (suc zero) zero hd he s = absurd (omega arith)
@@ -77,7 +77,7 @@ distinct-5-6 = record { one = λ d e hd he i j s. go d e (two d i) (two e j) s }
 pub without : WithoutSymbols q
 without = record { own = λ e h i. go e (two e i) }
   where
-    go : (e : ℕ) → e < 2 → getD (q .symbols) e 0 ≡ e
+    go : (e : ℕ) → e < 2 → symbolOf q e ≡ e
     go zero h = refl
     go (suc zero) h = refl
     go (suc (suc e)) h = absurd (omega arith)

@@ -10,7 +10,20 @@ use Rattle.stateset.proofs.Bits.{in-lt}
 use Rattle.stateset.proofs.Tests.{test-as, same?, some?}
 use Rattle.automaton.specs.Run.{automatonOf, showsBy, Observable, Sound}
 use Rattle.automaton.specs.declared.Header.{Header}
-use Rattle.automaton.specs.Symbols.{WithoutSymbols, SameButSymbols, SameSymbols, Events, symbolsOf, OneEvent, SameByte, of-event, of-none, Pairs, no-more, both}
+use Rattle.automaton.specs.Symbols.{
+  WithoutSymbols,
+  SameButSymbols,
+  SameSymbols,
+  Events,
+  symbolsOf,
+  OneEvent,
+  SameByte,
+  of-event,
+  of-none,
+  Pairs,
+  no-more,
+  both,
+}
 use Rattle.automaton.proofs.Entering.{shows-one, only-shows}
 use Rattle.automaton.proofs.Spelling.{but-back, in-same, same-back}
 
@@ -109,7 +122,8 @@ module _ (t : List ℕ) (C : Header → Type 0)
 -- a byte is the symbol of an observable event, or it is not
 pub observable? : (h : Header) (byte : ℕ) → Dec (Observable h byte)
 observable? h byte =
-    test-as (λ x. record { event = x .at; event-small = x .small; shows-it = x .holds }) (λ o. record { at = o .event; small = o .event-small; holds = o .shows-it })
+    test-as (λ x. record { event = x .at; event-small = x .small; shows-it = x .holds })
+    (λ o. record { at = o .event; small = o .event-small; holds = o .shows-it })
     (some? (λ e. showsBy (h .observable) (h .symbols) e ≡ byte ∷ []) (λ e. same? (showsBy (h .observable) (h .symbols) e) (byte ∷ [])) 32)
 
 -- so each list of bytes under the one header has a list under the other that corresponds to it

@@ -233,13 +233,14 @@ alike-starts notion t h h′ like secret k sounds r r′ s s′ x y = go x y
 started-sound : (notion : Notion) (t : List ℕ) (h : Header) (s : Enforcer) → Starting t h notion started s → Sound t h
 started-sound notion t h s (Starting.ready so tells g) = so
 
--- so where no two observable events share a symbol: an automaton with symbols and the one without are answered alike, whatever either answers, and what
--- is accepted and released is the symbols of what is without symbols
+-- so where no two observable events share a symbol: a start with symbols and one without are answered alike, and what is then accepted and released is
+-- the symbols of what is without symbols
 module _ (notion : Notion) (t : List ℕ) (h h′ : Header) (d : Distinct (automatonOf t h)) (w : WithoutSymbols (automatonOf t h′))
     (same : SameButSymbols (automatonOf t h) (automatonOf t h′)) (secret : h .secret ≡ h′ .secret) (k : h .k ≡ h′ .k) (small : h .observable < 2 ^ 32) where
   pub distinct-starts : Sound t h → (r r′ : Begun) (s s′ : Enforcer) → Starting t h notion r s → Starting t h′ notion r′ s′ → r ≡ r′
   distinct-starts so r r′ s s′ x y =
-      alike-starts notion t h h′ (distinct-alike _ _ d w same) secret k (λ z. own-sound t h h′ same w (omega (arith, same .observable)) k z, λ z. so) r r′ s s′ x y
+      let so′ = own-sound t h h′ same w (omega (arith, same .observable)) k so in
+      alike-starts notion t h h′ (distinct-alike _ _ d w same) secret k (λ z. so′, λ z. so) r r′ s s′ x y
 
   follow : (s s′ : Enforcer) → Starting t h notion started s → Starting t h′ notion started s′ → OffersFollow t h h′ s s′
   follow s s′ start start′ os os′ e e′ pairs f f′ =

@@ -112,7 +112,8 @@ module _ (t a b : List ℕ) (x : SameHeaders a b) where
       (same-offering t (headerAt a) (headerAt b) (same-symbols a b x t) (same-secret a b x) (same-k a b x) _ symbol output _ _ _ .0 o) saved
 
 module _ (t a b : List ℕ) (x : SameHeaders a b) where
-  pub same-fresh : (estimator verdicts : List ℕ) (n : ℕ) (after told : List ℕ) → Fresh t a estimator verdicts n after told ↔ Fresh t b estimator verdicts n after told
+  pub same-fresh : (estimator verdicts : List ℕ) (n : ℕ) (after told : List ℕ)
+      → Fresh t a estimator verdicts n after told ↔ Fresh t b estimator verdicts n after told
   same-fresh estimator verdicts n after told =
       (fresh-to t a b x estimator verdicts n after told, fresh-to t b a (headers-back a b x) estimator verdicts n after told)
 

@@ -125,13 +125,14 @@ module _ (t : List ℕ) (h h′ : Header) (like : Alike (automatonOf t h) (autom
 opened-sound : (t : List ℕ) (h : Header) (v w : Steps) (s : Estimator) → Opening t h (verdicts v w) s → Sound t h
 opened-sound t h v w s (opened so li x) = so
 
--- so where no two observable events share a symbol: an automaton with symbols and the one without are answered alike, whatever either answers, and what
--- is accepted is the symbols of what is without symbols
+-- so where no two observable events share a symbol: fresh estimators with symbols and without are answered alike, and what is then accepted is the symbols
+-- of what is without symbols
 module _ (t : List ℕ) (h h′ : Header) (d : Distinct (automatonOf t h)) (n : WithoutSymbols (automatonOf t h′))
     (same : SameButSymbols (automatonOf t h) (automatonOf t h′)) (secret : h .secret ≡ h′ .secret) (k : h .k ≡ h′ .k) (small : h .observable < 2 ^ 32) where
   pub distinct-openings : Sound t h → (r r′ : Said) (s s′ : Estimator) → Opening t h r s → Opening t h′ r′ s′ → r ≡ r′
   distinct-openings so r r′ s s′ o o′ =
-      alike-openings t h h′ (distinct-alike _ _ d n same) secret k (λ x. own-sound t h h′ same n (omega (arith, same .observable)) k x, λ x. so) r r′ s s′ o o′
+      let so′ = own-sound t h h′ same n (omega (arith, same .observable)) k so in
+      alike-openings t h h′ (distinct-alike _ _ d n same) secret k (λ x. so′, λ x. so) r r′ s s′ o o′
 
   follow : (v w : Steps) (s s′ : Estimator) → Opening t h (verdicts v w) s → Opening t h′ (verdicts v w) s′ → CallsFollow t h h′ s s′
   follow v w s s′ o o′ cs cs′ e e′ pairs f f′ =

@@ -67,7 +67,8 @@ returns-2 c =
     let v = c .before .before in
     let o = ok (v .before .before .before .before .before) in
     let a = v .before .before .before .before .before .before .before .before .args in
-    refused-asked _ _ _ _ _ refusal.NotObservable _ (r .0) (r .1) (not-observable (o .0) (o .1) (none-observable (now (a .table)) (a .header) _ _ (showing v) (c .before .if2 .taken)))
+    refused-asked _ _ _ _ _ refusal.NotObservable _ (r .0) (r .1)
+    (not-observable (o .0) (o .1) (none-observable (now (a .table)) (a .header) _ _ (showing v) (c .before .if2 .taken)))
 
 element-copy-out-newest : tie.Need-element-copy-out-newest
 element-copy-out-newest c = search needs

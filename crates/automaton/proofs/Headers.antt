@@ -2,17 +2,30 @@
 use mathlib.Core.Path.{_≡_, refl, sym, subst, _∙_}
 use mathlib.Core.List.{List, [], _∷_}
 use mathlib.Core.Logic.{_↔_}
-use Prim.Native.Nat.{ℕ, zero, suc, _<_, _^_}
+use Prim.Native.Nat.{ℕ, _<_, _^_}
 use native.Mathlib.Omega.{arith}
-use native.Mathlib.Decide.{ℕ-discrete}
 use lib.ListN.{getD}
 use Rattle.stateset.specs.Set.{In}
-use Rattle.stateset.proofs.Bits.{in?, in-lt}
-use Rattle.automaton.specs.Run.{automatonOf, Observable, Sound}
+use Rattle.stateset.proofs.Bits.{in-lt}
+use Rattle.stateset.proofs.Tests.{test-as, same?, some?}
+use Rattle.automaton.specs.Run.{automatonOf, showsBy, Observable, Sound}
 use Rattle.automaton.specs.declared.Header.{Header}
-use Rattle.automaton.specs.Symbols.{WithoutSymbols, SameButSymbols, SameSymbols, OneEvent, SameByte, of-event, of-none, Pairs, no-more, both}
+use Rattle.automaton.specs.Symbols.{
+  WithoutSymbols,
+  SameButSymbols,
+  SameSymbols,
+  Events,
+  symbolsOf,
+  OneEvent,
+  SameByte,
+  of-event,
+  of-none,
+  Pairs,
+  no-more,
+  both,
+}
 use Rattle.automaton.proofs.Entering.{shows-one, only-shows}
-use Rattle.automaton.proofs.Spelling.{in-same, same-back}
+use Rattle.automaton.proofs.Spelling.{but-back, in-same, same-back}
 
 -- refusal 6: the bytes that are not refused are the symbols of the observable events
 module _ (h : Header) where
@@ -107,37 +120,11 @@ module _ (t : List ℕ) (C : Header → Type 0)
   same-header h h′ g secret k = (header-to h h′ g secret k, header-to h′ h (same-back _ _ g) (sym secret) (sym k))
 
 -- a byte is the symbol of an observable event, or it is not
-module _ (h : Header) (byte : ℕ) where
-  abbrev Has : ℕ → Type 0
-  Has e = In e (h .observable) × (getD (h .symbols) e 0 ≡ byte)
-
-  has? : (e : ℕ) → Dec (Has e)
-  has? e = go (in? e (h .observable)) (ℕ-discrete (getD (h .symbols) e 0) byte)
-    where
-      go : Dec (In e (h .observable)) → Dec (getD (h .symbols) e 0 ≡ byte) → Dec (Has e)
-      go (yes i) (yes s) = yes (i, s)
-      go (no i) s = no (λ x. i (x .0))
-      go (yes i) (no s) = no (λ x. s (x .1))
-
-  among : (n : ℕ) → Dec ((e : ℕ) × (e < n) × Has e)
-  among zero = no (λ x. absurd (omega (arith, x .1)))
-  among (suc n) = go (among n) (has? n)
-    where
-      last : ((e : ℕ) × (e < n) × Has e → ⊥) → (Has n → ⊥) → (e : ℕ) → e < suc n → Has e → Dec (e ≡ n) → ⊥
-      last none other e l x (yes same) = other (subst (λ (k : ℕ). Has k) same x)
-      last none other e l x (no differ) = none (e, omega arith, x)
-
-      go : Dec ((e : ℕ) × (e < n) × Has e) → Dec (Has n) → Dec ((e : ℕ) × (e < suc n) × Has e)
-      go (yes x) b = yes (x .0, omega (arith, x .1), x .2)
-      go (no none) (yes x) = yes (n, omega arith, x)
-      go (no none) (no other) = no (λ x. last none other (x .0) (x .1) (x .2) (ℕ-discrete (x .0) n))
-
-  pub observable? : Dec (Observable h byte)
-  observable? = go (among 32)
-    where
-      go : Dec ((e : ℕ) × (e < 32) × Has e) → Dec (Observable h byte)
-      go (yes x) = yes (subst (λ (n : ℕ). Observable h n) (x .2 .1) (event-observable h (x .0) (x .1) (x .2 .0)))
-      go (no none) = no (λ o. let x = observable-event h byte o in none (x .0, x .1, (x .2, x .3)))
+pub observable? : (h : Header) (byte : ℕ) → Dec (Observable h byte)
+observable? h byte =
+    test-as (λ x. record { event = x .at; event-small = x .small; shows-it = x .holds })
+    (λ o. record { at = o .event; small = o .event-small; holds = o .shows-it })
+    (some? (λ e. showsBy (h .observable) (h .symbols) e ≡ byte ∷ []) (λ e. same? (showsBy (h .observable) (h .symbols) e) (byte ∷ [])) 32)
 
 -- so each list of bytes under the one header has a list under the other that corresponds to it
 module _ (t : List ℕ) (h h′ : Header) (s : SameButSymbols (automatonOf t h) (automatonOf t h′)) (sound : Sound t h′) where
@@ -154,3 +141,34 @@ module _ (t : List ℕ) (h h′ : Header) (s : SameButSymbols (automatonOf t h) 
       let y = same-byte x in
       let ys = same-bytes xs in
       (y .0 ∷ ys .0, both (y .1) (ys .1))
+
+-- and the other way round
+module _ (t : List ℕ) (h h′ : Header) (s : SameButSymbols (automatonOf t h) (automatonOf t h′)) where
+  pub same-byte-back : (x y : ℕ) → SameByte t h h′ x y → SameByte t h′ h y x
+  same-byte-back x y (of-event o) =
+      of-event (record {
+        event = o .event;
+        event-small = o .event-small;
+        event-observable = in-same _ _ s (o .event) (o .event-observable);
+        first = o .second;
+        second = o .first;
+      })
+  same-byte-back x y (of-none never never′) = of-none never′ never
+
+  pub same-bytes-back : (xs ys : List ℕ) → Pairs (SameByte t h h′) xs ys → Pairs (SameByte t h′ h) ys xs
+  same-bytes-back xs ys no-more = no-more
+  same-bytes-back xs ys (both {x = x} {y = y} {xs = rest} {ys = rest′} b pairs) = both (same-byte-back x y b) (same-bytes-back rest rest′ pairs)
+
+-- so each list of events, offered without symbols, is paired with a list of symbols
+pub event-bytes : (t : List ℕ) (h h′ : Header) → SameButSymbols (automatonOf t h) (automatonOf t h′) → Sound t h
+    → (ys : List ℕ) → (xs : List ℕ) × Pairs (SameByte t h h′) xs ys
+event-bytes t h h′ s sound ys =
+    let back = but-back _ _ s in
+    let xs = same-bytes t h′ h back sound ys in
+    (xs .0, same-bytes-back t h′ h back ys (xs .0) (xs .1))
+
+-- where all of them are observable, with their symbols
+pub event-symbols : (t : List ℕ) (h h′ : Header) → SameButSymbols (automatonOf t h) (automatonOf t h′) → WithoutSymbols (automatonOf t h′)
+    → (es : List ℕ) → Events (automatonOf t h) es → Pairs (SameByte t h h′) (symbolsOf (automatonOf t h) es) es
+event-symbols t h h′ s w [] x = no-more
+event-symbols t h h′ s w (e ∷ es) x = both (of-event (own-event t h h′ s w e (x .0) (x .1))) (event-symbols t h h′ s w es (x .2))

@@ -11,8 +11,9 @@ use Rattle.stateset.specs.Set.{bit, In}
 use Rattle.stateset.proofs.Bits.{in?}
 use Rattle.automaton.specs.Run.{Automaton, Transition, Step, Takes, endOf, showIf, shows, shown, Possible, Impossible}
 use Rattle.automaton.specs.Symbols.{
-  numbersFrom,
+  eachFrom,
   ownNumbers,
+  symbolOf,
   WithoutSymbols,
   Distinct,
   SameButSymbols,
@@ -32,12 +33,12 @@ use Rattle.automaton.proofs.Agreeing.{agree-back, possible-agree, impos
 module _ (p : Automaton) where
   symbols-append : (a b : List ℕ) → symbolsOf p (a ++ b) ≡ symbolsOf p a ++ symbolsOf p b
   symbols-append [] b = refl
-  symbols-append (e ∷ a) b = ap (λ (l : List ℕ). getD (p .symbols) e 0 ∷ l) (symbols-append a b)
+  symbols-append (e ∷ a) b = ap (λ (l : List ℕ). symbolOf p e ∷ l) (symbols-append a b)
 
   symbols-take : (r : ℕ) (es : List ℕ) → symbolsOf p (take r es) ≡ take r (symbolsOf p es)
   symbols-take zero es = refl
   symbols-take (suc r) [] = refl
-  symbols-take (suc r) (e ∷ es) = ap (λ (l : List ℕ). getD (p .symbols) e 0 ∷ l) (symbols-take r es)
+  symbols-take (suc r) (e ∷ es) = ap (λ (l : List ℕ). symbolOf p e ∷ l) (symbols-take r es)
 
   symbols-drop : (r : ℕ) (es : List ℕ) → symbolsOf p (drop r es) ≡ drop r (symbolsOf p es)
   symbols-drop zero es = refl
@@ -137,8 +138,8 @@ module _ (p q : Automaton) (s : SameButSymbols p q) where
   count-same (x ∷ ss) =
       let e = x .event in
       let one : length (shows p e) ≡ length (shows q e) =
-      show-length (bit e (p .observable)) (getD (p .symbols) e 0) (getD (q .symbols) e 0)
-      ∙ ap (λ (w : ℕ). length (showIf (bit e w) (getD (q .symbols) e 0))) (s .observable) in
+      show-length (bit e (p .observable)) (symbolOf p e) (symbolOf q e)
+      ∙ ap (λ (w : ℕ). length (showIf (bit e w) (symbolOf q e))) (s .observable) in
       omega (arith, count-same ss, one, length-append (shows p e) (shown p ss), length-append (shows q e) (shown q ss))
 
   -- what steps show has the same events behind it
@@ -196,7 +197,7 @@ module _ (p q : Automaton) (g : Alike p q) where
   alike-symbols [] (b ∷ ys) x y e = let z : _≡_ {A = ℕ} 0 1 = cc in absurd (omega arith)
   alike-symbols (a ∷ xs) [] x y e = let z : _≡_ {A = ℕ} 0 1 = cc in absurd (omega arith)
   alike-symbols (a ∷ xs) (b ∷ ys) x y e =
-      let head : getD (p .symbols) a 0 ≡ getD (p .symbols) b 0 = cc in
+      let head : symbolOf p a ≡ symbolOf p b = cc in
       let tail : symbolsOf p xs ≡ symbolsOf p ys = cc in
       ap₂ (λ (c : ℕ) (cs : List ℕ). c ∷ cs) (g .shared a b (x .0) (y .0) (x .1) (y .1) .0 head) (alike-symbols xs ys (x .2) (y .2) tail)
 
@@ -260,16 +261,20 @@ same-back p q g =
 
 -- ---- an automaton without symbols beside one in which no two observable events share a symbol
 
-number-from : (first n e : ℕ) → e < n → getD (numbersFrom first n) e 0 ≡ first + e
-number-from first zero e h = absurd (omega arith)
-number-from first (suc n) zero h = omega arith
-number-from first (suc n) (suc e) h = let i = number-from (suc first) n e (omega arith) in omega arith
+pub each-at : (f : ℕ → ℕ) (first n e : ℕ) → e < n → getD (eachFrom f first n) e 0 ≡ f (first + e)
+each-at f first zero e h = absurd (omega arith)
+each-at f first (suc n) zero h = let z : first ≡ first + 0 = omega arith in ap f z
+each-at f first (suc n) (suc e) h = let z : suc first + e ≡ first + suc e = omega arith in each-at f (suc first) n e (omega arith) ∙ ap f z
+
+pub each-length : (f : ℕ → ℕ) (first n : ℕ) → length (eachFrom f first n) ≡ n
+each-length f first zero = refl
+each-length f first (suc n) = ap suc (each-length f (suc first) n)
 
 abbrev plain : Automaton → Automaton
 plain p = record { table = p .table; initial = p .initial; observable = p .observable; symbols = ownNumbers }
 
 pub own-numbers : (p : Automaton) → p .symbols ≡ ownNumbers → WithoutSymbols p
-own-numbers p s = record { own = λ e h i. ap (λ (l : List ℕ). getD l e 0) s ∙ number-from 0 32 e h ∙ zero-add e }
+own-numbers p s = record { own = λ e h i. ap (λ (l : List ℕ). getD l e 0) s ∙ each-at (λ (n : ℕ). n) 0 32 e h ∙ zero-add e }
 
 pub own-symbols : (p : Automaton) → WithoutSymbols p → (es : List ℕ) → Events p es → symbolsOf p es ≡ es
 own-symbols p w [] x = refl
@@ -283,7 +288,7 @@ module _ (p q : Automaton) (d : Distinct p) (w : WithoutSymbols q) (s : SameButS
         shared = λ a b ha hb i j.
             let x = w .own a ha (in-same p q s a i) in
             let y = w .own b hb (in-same p q s b j) in
-            (λ e. ap (λ (c : ℕ). getD (q .symbols) c 0) (d .one a b ha hb i j e), λ e. ap (λ (c : ℕ). getD (p .symbols) c 0) (sym x ∙ e ∙ y));
+            (λ e. ap (λ (c : ℕ). symbolOf q c) (d .one a b ha hb i j e), λ e. ap (λ (c : ℕ). symbolOf p c) (sym x ∙ e ∙ y));
       }
 
   -- a list of observable events without symbols, beside its symbols

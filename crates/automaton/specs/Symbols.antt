@@ -8,22 +8,26 @@ use Rattle.stateset.specs.Set.{In}
 use Rattle.automaton.specs.Run.{Automaton, automatonOf, Step, Compatible, Position, count, stateAt, Observable}
 use Rattle.automaton.specs.declared.Header.{Header}
 
--- the n numbers from the first on
-abbrev pub numbersFrom : ℕ → ℕ → List ℕ
-numbersFrom first zero = []
-numbersFrom first (suc n) = first ∷ numbersFrom (suc first) n
+-- f of the n numbers from the first on
+abbrev pub eachFrom : (ℕ → ℕ) → ℕ → ℕ → List ℕ
+eachFrom f first zero = []
+eachFrom f first (suc n) = f first ∷ eachFrom f (suc first) n
 
 -- each of the 32 events with its own number as its symbol
 abbrev pub ownNumbers : List ℕ
-ownNumbers = numbersFrom 0 32
+ownNumbers = eachFrom (λ e. e) 0 32
+
+-- an event's symbol
+abbrev pub symbolOf : Automaton → ℕ → ℕ
+symbolOf p e = getD (p .symbols) e 0
 
 -- an automaton without symbols: each observable event has its own number. (What an unobservable event has counts for nothing, here and below)
 pub record WithoutSymbols (p : Automaton) : Type 0 where
-  pub own : (e : ℕ) → e < 32 → In e (p .observable) → getD (p .symbols) e 0 ≡ e
+  pub own : (e : ℕ) → e < 32 → In e (p .observable) → symbolOf p e ≡ e
 
 -- no two observable events share a symbol
 pub record Distinct (p : Automaton) : Type 0 where
-  pub one : (d e : ℕ) → d < 32 → e < 32 → In d (p .observable) → In e (p .observable) → getD (p .symbols) d 0 ≡ getD (p .symbols) e 0 → d ≡ e
+  pub one : (d e : ℕ) → d < 32 → e < 32 → In d (p .observable) → In e (p .observable) → symbolOf p d ≡ symbolOf p e → d ≡ e
 
 -- the same automaton but for the symbols
 pub record SameButSymbols (p q : Automaton) : Type 0 where
@@ -35,12 +39,12 @@ pub record SameButSymbols (p q : Automaton) : Type 0 where
 pub record Alike (p q : Automaton) : Type 0 where
   pub same : SameButSymbols p q
   pub shared : (d e : ℕ) → d < 32 → e < 32 → In d (p .observable) → In e (p .observable)
-      → (getD (p .symbols) d 0 ≡ getD (p .symbols) e 0) ↔ (getD (q .symbols) d 0 ≡ getD (q .symbols) e 0)
+      → (symbolOf p d ≡ symbolOf p e) ↔ (symbolOf q d ≡ symbolOf q e)
 
 -- the same automaton, and each observable event has the same symbol: they differ at most in the symbols of unobservable events
 pub record SameSymbols (p q : Automaton) : Type 0 where
   pub same : SameButSymbols p q
-  pub symbols-are : (e : ℕ) → In e (p .observable) → getD (p .symbols) e 0 ≡ getD (q .symbols) e 0
+  pub symbols-are : (e : ℕ) → In e (p .observable) → symbolOf p e ≡ symbolOf q e
 
 -- a list of observable events, and the symbols that they have
 abbrev pub Events : Automaton → List ℕ → Type 0
@@ -49,15 +53,15 @@ Events p (e ∷ es) = (e < 32) × In e (p .observable) × Events p es
 
 abbrev pub symbolsOf : Automaton → List ℕ → List ℕ
 symbolsOf p [] = []
-symbolsOf p (e ∷ es) = getD (p .symbols) e 0 ∷ symbolsOf p es
+symbolsOf p (e ∷ es) = symbolOf p e ∷ symbolsOf p es
 
 -- x and y are the symbols of one observable event, in p and in q
 pub record OneEvent (p q : Automaton) (x y : ℕ) : Type 0 where
   pub event : ℕ
   pub event-small : event < 32
   pub event-observable : In event (p .observable)
-  pub first : getD (p .symbols) event 0 ≡ x
-  pub second : getD (q .symbols) event 0 ≡ y
+  pub first : symbolOf p event ≡ x
+  pub second : symbolOf q event ≡ y
 
 -- two offered bytes: the symbols of one observable event, each under its header, or neither is the symbol of any
 pub data SameByte (t : List ℕ) (h h′ : Header) (x y : ℕ) : Type 0 where

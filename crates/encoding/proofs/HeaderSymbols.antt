@@ -10,22 +10,14 @@ use lib.Seq.{ext-getD, getD-append-add}
 use Rattle.stateset.specs.Set.{bit, In}
 use Rattle.stateset.proofs.Bits.{bit-lt, in-lt}
 use Rattle.automaton.specs.Run.{SmallSymbols}
+use Rattle.automaton.proofs.Spelling.{each-at, each-length}
 use Rattle.bitfields.specs.Bits.{numberAt}
 use Rattle.encoding.specs.Transitions.{symbolsAt}
 use Rattle.encoding.specs.Encoding.{countIf, symbolCount}
-use Rattle.encoding.specs.Answers.{givenSymbol, symbolIf, symbolFor, eachFrom, headerSymbols, frontEnd, givenSymbols, headerOf}
+use Rattle.encoding.specs.Answers.{givenSymbol, symbolIf, symbolFor, headerSymbols, frontEnd, givenSymbols, headerOf}
 use Rattle.encoding.specs.declared.Front.{Front}
 use Rattle.automaton.specs.declared.Header.{Header}
 use Rattle.encoding.proofs.Ended.{FiveBits}
-
-each-at : (f : ℕ → ℕ) (first n e : ℕ) → e < n → getD (eachFrom f first n) e 0 ≡ f (first + e)
-each-at f first zero e h = absurd (omega arith)
-each-at f first (suc n) zero h = let z : first ≡ first + 0 = omega arith in ap f z
-each-at f first (suc n) (suc e) h = let z : suc first + e ≡ first + suc e = omega arith in each-at f (suc first) n e (omega arith) ∙ ap f z
-
-each-length : (f : ℕ → ℕ) (first n : ℕ) → length (eachFrom f first n) ≡ n
-each-length f first zero = refl
-each-length f first (suc n) = ap suc (each-length f (suc first) n)
 
 pub header-at : (observable : ℕ) (given : List ℕ) (e : ℕ) → e < 32 → getD (headerSymbols observable given) e 0 ≡ symbolFor observable given e
 unfolding headerSymbols

@@ -4,7 +4,7 @@
 use mathlib.Core.Path.{_≡_, refl, ap, ap₂, sym, subst, _∙_}
 use mathlib.Core.List.{List, [], _∷_, _++_}
 use mathlib.Core.Logic.{_↔_}
-use Prim.Native.Nat.{ℕ, _+_, _-_}
+use Prim.Native.Nat.{ℕ, _+_, _-_, _<_, _^_}
 use native.Mathlib.Omega.{arith}
 use lib.ListN.{length, take, drop}
 use Rattle.automaton.specs.Run.{automatonOf, Sound}
@@ -14,7 +14,6 @@ use Rattle.automaton.specs.Symbols.{
   SameButSymbols,
   Alike,
   SameSymbols,
-  symbolsOf,
   SameByte,
   of-event,
   of-none,
@@ -37,7 +36,7 @@ use Rattle.automaton.proofs.Spelling.{
   same-agree,
 }
 use Rattle.automaton.proofs.Agreeing.{possible-agree, impossible-agree}
-use Rattle.automaton.proofs.Headers.{both-observable, same-observable, same-sound, relabelled, same-header}
+use Rattle.automaton.proofs.Headers.{both-observable, own-sound, same-observable, same-sound, relabelled, same-header}
 use Rattle.verifier.specs.declared.Notion.{Notion}
 use Rattle.verifier.specs.Verdicts.{Steps, none, leak, Tells}
 use Rattle.verifier.proofs.Exactness.{in-words, exactly}
@@ -53,9 +52,7 @@ use Rattle.enforcer.specs.Offers.{
   done,
   next,
   takenBy,
-  acceptedOf,
   countBy,
-  releasedOf,
   TurnedBack,
   output-too-small,
   not-observable,
@@ -63,7 +60,7 @@ use Rattle.enforcer.specs.Offers.{
   LetThrough,
   ByTable,
 }
-use Rattle.enforcer.specs.Paired.{SameOffered, SameAnswered, Corresponds}
+use Rattle.enforcer.specs.Paired.{SameOffered, SameAnswered, Corresponds, OffersFollow}
 use Rattle.enforcer.specs.declared.Enforcer.{Enforcer}
 use Rattle.enforcer.proofs.Agreed.{alike-longest, same-grown}
 use Rattle.enforcer.proofs.Unique.{one-longest}
@@ -206,17 +203,6 @@ pub alike-offers : (notion : Notion) (t : List ℕ) (h h′ : Header) → Alike 
 alike-offers notion t h h′ like secret k s s′ os os′ e e′ (Starting.ready sound tells g) (Starting.ready sound′ tells′ g′) pairs f f′ =
     all-pairs t h h′ like notion secret k sound sound′ [] [] s s′ os os′ e e′ (no-events _ _) g g′ pairs f f′
 
--- so with a header in which no two observable events share a symbol, what is accepted and released is the symbols of what is without symbols
-pub distinct-offers : (notion : Notion) (t : List ℕ) (h h′ : Header) → Distinct (automatonOf t h) → WithoutSymbols (automatonOf t h′)
-    → SameButSymbols (automatonOf t h) (automatonOf t h′) → h .secret ≡ h′ .secret → h .k ≡ h′ .k
-    → (s s′ : Enforcer) (os os′ : List Offer) (e e′ : Enforcer) → Starting t h notion started s → Starting t h′ notion started s′
-    → Pairs (SameOffered t h h′) os os′ → Offers t h s os e → Offers t h′ s′ os′ e′
-    → Corresponds (automatonOf t h) (automatonOf t h′) os os′
-    × (acceptedOf os ≡ symbolsOf (automatonOf t h) (acceptedOf os′)) × (releasedOf os ≡ symbolsOf (automatonOf t h) (releasedOf os′))
-distinct-offers notion t h h′ d w same secret k s s′ os os′ e e′ start start′ pairs f f′ =
-    let x = alike-offers notion t h h′ (distinct-alike _ _ d w same) secret k s s′ os os′ e e′ start start′ pairs f f′ in
-    (x, spelled-own _ _ _ _ w same (x .accepted) .1, spelled-own _ _ _ _ w same (x .released) .1)
-
 -- starts are refused alike: 9 where the headers are automata alike, 8 by the verdict of the empty trace
 pub alike-starts : (notion : Notion) (t : List ℕ) (h h′ : Header) → Alike (automatonOf t h) (automatonOf t h′) → h .secret ≡ h′ .secret → h .k ≡ h′ .k
     → Sound t h ↔ Sound t h′ → (r r′ : Begun) (s s′ : Enforcer) → Starting t h notion r s → Starting t h′ notion r′ s′ → r ≡ r′
@@ -243,6 +229,36 @@ alike-starts notion t h h′ like secret k sounds r r′ s s′ x y = go x y
     go (Starting.ready so n g) (Starting.malformed bad out) = absurd (bad (sounds .0 so))
     go (Starting.ready so n g) (Starting.initial-leak so′ l out) = absurd (differ (too none n) l)
     go (Starting.ready so n g) (Starting.ready so′ n′ g′) = refl
+
+started-sound : (notion : Notion) (t : List ℕ) (h : Header) (s : Enforcer) → Starting t h notion started s → Sound t h
+started-sound notion t h s (Starting.ready so tells g) = so
+
+-- so where no two observable events share a symbol: a start with symbols and one without are answered alike, and what is then accepted and released is
+-- the symbols of what is without symbols
+module _ (notion : Notion) (t : List ℕ) (h h′ : Header) (d : Distinct (automatonOf t h)) (w : WithoutSymbols (automatonOf t h′))
+    (same : SameButSymbols (automatonOf t h) (automatonOf t h′)) (secret : h .secret ≡ h′ .secret) (k : h .k ≡ h′ .k) (small : h .observable < 2 ^ 32) where
+  pub distinct-starts : Sound t h → (r r′ : Begun) (s s′ : Enforcer) → Starting t h notion r s → Starting t h′ notion r′ s′ → r ≡ r′
+  distinct-starts so r r′ s s′ x y =
+      let so′ = own-sound t h h′ same w (omega (arith, same .observable)) k so in
+      alike-starts notion t h h′ (distinct-alike _ _ d w same) secret k (λ z. so′, λ z. so) r r′ s s′ x y
+
+  follow : (s s′ : Enforcer) → Starting t h notion started s → Starting t h′ notion started s′ → OffersFollow t h h′ s s′
+  follow s s′ start start′ os os′ e e′ pairs f f′ =
+      let x = alike-offers notion t h h′ (distinct-alike _ _ d w same) secret k s s′ os os′ e e′ start start′ pairs f f′ in
+      (x, spelled-own _ _ _ _ w same (x .accepted) .1, spelled-own _ _ _ _ w same (x .released) .1)
+
+  -- the one with symbols has started
+  pub distinct-offers : (r′ : Begun) (s s′ : Enforcer) → Starting t h notion started s → Starting t h′ notion r′ s′ → (r′ ≡ started) × OffersFollow t h h′ s s′
+  distinct-offers r′ s s′ x y =
+      let e = sym (distinct-starts (started-sound notion t h s x) started r′ s s′ x y) in
+      (e, follow s s′ x (subst (λ (r : Begun). Starting t h′ notion r s′) e y))
+
+  -- the one without symbols has
+  pub distinct-offers-back : Sound t h → (r : Begun) (s s′ : Enforcer) → Starting t h notion r s → Starting t h′ notion started s′
+      → (r ≡ started) × OffersFollow t h h′ s s′
+  distinct-offers-back so r s s′ x y =
+      let e = distinct-starts so r started s s′ x y in
+      (e, follow s s′ (subst (λ (r : Begun). Starting t h notion r s) e x) y)
 
 -- ---- an unobservable event's symbol counts for nothing
 

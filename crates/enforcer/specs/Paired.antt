@@ -3,10 +3,11 @@ use mathlib.Core.Path.{_≡_}
 use mathlib.Core.List.{List}
 use Prim.Native.Nat.{ℕ}
 use lib.ListN.{length, take}
-use Rattle.automaton.specs.Run.{Automaton}
-use Rattle.automaton.specs.Symbols.{SameByte, SameEvents, Pairs}
+use Rattle.automaton.specs.Run.{Automaton, automatonOf}
+use Rattle.automaton.specs.Symbols.{symbolsOf, SameByte, SameEvents, Pairs}
 use Rattle.automaton.specs.declared.Header.{Header}
-use Rattle.enforcer.specs.Offers.{Offer, acceptedOf, countBy, releasedCount, releasedOf}
+use Rattle.enforcer.specs.Offers.{Offer, Offers, acceptedOf, countBy, releasedCount, releasedOf}
+use Rattle.enforcer.specs.declared.Enforcer.{Enforcer}
 
 -- two offers of the same: such bytes, and outputs of one length
 pub record SameOffered (t : List ℕ) (h h′ : Header) (o o′ : Offer) : Type 0 where
@@ -24,3 +25,9 @@ pub record Corresponds (p q : Automaton) (os os′ : List Offer) : Type 0 where
   pub accepted : SameEvents p q (acceptedOf os) (acceptedOf os′)
   pub released : SameEvents p q (releasedOf os) (releasedOf os′)
   pub counts : releasedCount os ≡ releasedCount os′
+
+-- whatever offers follow to two enforcers, they correspond, and what the first accepts and releases is the symbols of what the second, without symbols, does
+abbrev pub OffersFollow : List ℕ → Header → Header → Enforcer → Enforcer → Type 0
+OffersFollow t h h′ s s′ = (os os′ : List Offer) (e e′ : Enforcer) → Pairs (SameOffered t h h′) os os′ → Offers t h s os e → Offers t h′ s′ os′ e′
+    → Corresponds (automatonOf t h) (automatonOf t h′) os os′
+    × (acceptedOf os ≡ symbolsOf (automatonOf t h) (acceptedOf os′)) × (releasedOf os ≡ symbolsOf (automatonOf t h) (releasedOf os′))

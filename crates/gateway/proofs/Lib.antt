@@ -7,3 +7,4 @@ pub mod Sizes
 pub mod Numbered
 pub mod SavedSteps
 pub mod SavedPoints
+pub mod HeaderBytes

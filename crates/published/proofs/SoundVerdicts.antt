@@ -8,7 +8,7 @@ use lib.ListN.{length, length-append}
 use lib.Seq.{take-at, getD-append-seam}
 use Rattle.automaton.specs.declared.Header.{Header}
 use Rattle.automaton.specs.Run.{Automaton, automatonOf, Possible, Observable}
-use Rattle.automaton.proofs.Traces.{Shown, trace-observable, prefix-possible}
+use Rattle.automaton.proofs.Traces.{trace-observable, prefix-possible}
 use Rattle.verifier.specs.declared.Notion.{Notion}
 use Rattle.verifier.specs.declared.Notion.the-variants.{Weak, Strong}
 use Rattle.verifier.specs.Verdicts.{Steps}
@@ -48,8 +48,7 @@ module _ (t : List ℕ) (h : Header) where
   event-seen : (trace : List ℕ) (byte : ℕ) (rest : List ℕ) → Possible (automatonOf t h) (trace ++ byte ∷ rest) → Observable h byte
   event-seen trace byte rest x =
       let long : length trace < length (trace ++ byte ∷ rest) = rw length-append (omega arith) in
-      let seen : Shown (automatonOf t h) byte = rw (getD-append-seam trace byte rest 0) at (trace-observable (automatonOf t h) (trace ++ byte ∷ rest) x (length trace) long) in
-      record { event = seen .event; event-small = seen .event-small; shows-it = seen .shows-it }
+      rw (getD-append-seam trace byte rest 0) at (trace-observable (automatonOf t h) (trace ++ byte ∷ rest) x (length trace) long)
 
   front-possible : (a b : List ℕ) → Possible (automatonOf t h) (a ++ b) → Possible (automatonOf t h) a
   front-possible a b x =

@@ -1,17 +1,17 @@
 -- Fresh estimators and lists of calls under two headers that are the same but for symbols. Where they tell the same observable events apart, they are
 -- answered alike, call by call; where they differ in the symbols of unobservable events alone, the contracts say the same. Assumes nothing.
-use mathlib.Core.Path.{_≡_, refl, ap, ap₂, sym, _∙_}
+use mathlib.Core.Path.{_≡_, refl, ap, ap₂, sym, subst, _∙_}
 use mathlib.Core.List.{List, [], _∷_, _++_}
 use mathlib.Core.Logic.{inl, inr, _↔_}
-use Prim.Native.Nat.{ℕ}
-use Rattle.automaton.specs.Run.{automatonOf}
+use Prim.Native.Nat.{ℕ, _<_, _^_}
+use native.Mathlib.Omega.{arith}
+use Rattle.automaton.specs.Run.{automatonOf, Sound}
 use Rattle.automaton.specs.Symbols.{
   WithoutSymbols,
   Distinct,
   SameButSymbols,
   Alike,
   SameSymbols,
-  symbolsOf,
   OneEvent,
   SameByte,
   of-event,
@@ -24,13 +24,28 @@ use Rattle.automaton.specs.Symbols.{
 use Rattle.automaton.specs.declared.Header.{Header}
 use Rattle.automaton.proofs.Agreeing.{possible-agree, impossible-agree}
 use Rattle.automaton.proofs.Spelling.{no-events, one-event, join-events, alike-impossible, distinct-alike, spelled-own, same-agree}
-use Rattle.automaton.proofs.Headers.{both-observable, same-observable, same-sound, relabelled, same-header}
+use Rattle.automaton.proofs.Headers.{both-observable, own-sound, same-observable, same-sound, relabelled, same-header}
 use Rattle.verifier.specs.declared.Notion.{Notion}
 use Rattle.verifier.specs.declared.Estimator.{Estimator}
 use Rattle.verifier.specs.Verdicts.{Steps, Words, Exactly}
-use Rattle.verifier.specs.Replies.{Said, refused, verdicts, Exact, Opening, opened, Accepting, not-observable, incompatible, accepted}
-use Rattle.verifier.specs.Calls.{Call, Calls, takenBy, acceptedOf, Right, Answered, AllAnswered, end, more}
-use Rattle.verifier.specs.Paired.{SameCalled, Corresponds}
+use Rattle.verifier.specs.Replies.{
+  Said,
+  refused,
+  verdicts,
+  Exact,
+  Opening,
+  opened,
+  Accepting,
+  not-observable,
+  incompatible,
+  accepted,
+  SaidBy,
+  AcceptingBy,
+  turned-back,
+  accepted-by,
+}
+use Rattle.verifier.specs.Calls.{Call, Calls, done, takenBy, Right, Answered, AllAnswered, end, more}
+use Rattle.verifier.specs.Paired.{SameCalled, Corresponds, CallsFollow}
 use Rattle.verifier.proofs.Agreed.{alike-words, same-tells, same-grown}
 use Rattle.verifier.proofs.SecondPoint.{second-point}
 
@@ -96,15 +111,47 @@ module _ (t : List ℕ) (h h′ : Header) (like : Alike (automatonOf t h) (autom
         all-pairs [] [] cs cs′ (no-events _ _) pairs (x .answered) (y .answered),
       )
 
--- so with a header in which no two observable events share a symbol, what is accepted is the symbols of what is without symbols
-pub distinct-calls : (t : List ℕ) (h h′ : Header) → Distinct (automatonOf t h) → WithoutSymbols (automatonOf t h′)
-    → SameButSymbols (automatonOf t h) (automatonOf t h′) → h .secret ≡ h′ .secret → h .k ≡ h′ .k
-    → (v w v′ w′ : Steps) (s s′ : Estimator) (cs cs′ : List Call) (e e′ : Estimator) → Opening t h (verdicts v w) s → Opening t h′ (verdicts v′ w′) s′
-    → Pairs (SameCalled t h h′) cs cs′ → Calls t h s cs e → Calls t h′ s′ cs′ e′
-    → (verdicts v w ≡ verdicts v′ w′) × Corresponds (automatonOf t h) (automatonOf t h′) cs cs′ × (acceptedOf cs ≡ symbolsOf (automatonOf t h) (acceptedOf cs′))
-distinct-calls t h h′ d n same secret k v w v′ w′ s s′ cs cs′ e e′ o o′ pairs f f′ =
-    let x = alike-calls t h h′ (distinct-alike _ _ d n same) secret k v w v′ w′ s s′ cs cs′ e e′ o o′ pairs f f′ in
-    (x .0, x .1, spelled-own _ _ _ _ n same (x .1 .accepted) .1)
+  -- fresh estimators are refused alike: 9 where the headers are automata alike
+  pub alike-openings : Sound t h ↔ Sound t h′ → (r r′ : Said) (s s′ : Estimator) → Opening t h r s → Opening t h′ r′ s′ → r ≡ r′
+  alike-openings sounds r r′ s s′ x y = go x y
+    where
+      go : {r r′ : Said} → Opening t h r s → Opening t h′ r′ s′ → r ≡ r′
+      go (Opening.malformed bad out) (Opening.malformed bad′ out′) = refl
+      go (Opening.malformed bad out) (opened so li f) = absurd (bad (sounds .1 so))
+      go (opened so li f) (Opening.malformed bad out) = absurd (bad (sounds .0 so))
+      go (opened {weak = v} {strong = w} so li f) (opened {weak = v′} {strong = w′} so′ li′ f′) =
+          alike-calls v w v′ w′ s s′ [] [] s s′ (opened so li f) (opened so′ li′ f′) no-more done done .0
+
+opened-sound : (t : List ℕ) (h : Header) (v w : Steps) (s : Estimator) → Opening t h (verdicts v w) s → Sound t h
+opened-sound t h v w s (opened so li x) = so
+
+-- so where no two observable events share a symbol: fresh estimators with symbols and without are answered alike, and what is then accepted is the symbols
+-- of what is without symbols
+module _ (t : List ℕ) (h h′ : Header) (d : Distinct (automatonOf t h)) (n : WithoutSymbols (automatonOf t h′))
+    (same : SameButSymbols (automatonOf t h) (automatonOf t h′)) (secret : h .secret ≡ h′ .secret) (k : h .k ≡ h′ .k) (small : h .observable < 2 ^ 32) where
+  pub distinct-openings : Sound t h → (r r′ : Said) (s s′ : Estimator) → Opening t h r s → Opening t h′ r′ s′ → r ≡ r′
+  distinct-openings so r r′ s s′ o o′ =
+      let so′ = own-sound t h h′ same n (omega (arith, same .observable)) k so in
+      alike-openings t h h′ (distinct-alike _ _ d n same) secret k (λ x. so′, λ x. so) r r′ s s′ o o′
+
+  follow : (v w : Steps) (s s′ : Estimator) → Opening t h (verdicts v w) s → Opening t h′ (verdicts v w) s′ → CallsFollow t h h′ s s′
+  follow v w s s′ o o′ cs cs′ e e′ pairs f f′ =
+      let x = alike-calls t h h′ (distinct-alike _ _ d n same) secret k v w v w s s′ cs cs′ e e′ o o′ pairs f f′ in
+      (x .1, spelled-own _ _ _ _ n same (x .1 .accepted) .1)
+
+  -- the one with symbols was not refused
+  pub distinct-calls : (v w : Steps) (r′ : Said) (s s′ : Estimator) → Opening t h (verdicts v w) s → Opening t h′ r′ s′
+      → (r′ ≡ verdicts v w) × CallsFollow t h h′ s s′
+  distinct-calls v w r′ s s′ o o′ =
+      let e = sym (distinct-openings (opened-sound t h v w s o) (verdicts v w) r′ s s′ o o′) in
+      (e, follow v w s s′ o (subst (λ (r : Said). Opening t h′ r s′) e o′))
+
+  -- the one without symbols was not
+  pub distinct-calls-back : Sound t h → (r : Said) (v w : Steps) (s s′ : Estimator) → Opening t h r s → Opening t h′ (verdicts v w) s′
+      → (r ≡ verdicts v w) × CallsFollow t h h′ s s′
+  distinct-calls-back so r v w s s′ o o′ =
+      let e = distinct-openings so r (verdicts v w) s s′ o o′ in
+      (e, follow v w s s′ (subst (λ (r : Said). Opening t h r s) e o) o′)
 
 -- ---- an unobservable event's symbol counts for nothing
 
@@ -134,9 +181,29 @@ module _ (t : List ℕ) (h : Header) (symbols : List ℕ) (g : SameSymbols (auto
       accepted (same-sound t h (relabelled h symbols) g refl .0 so) li (same-observable t h (relabelled h symbols) g byte .0 ob) after weak strong
       (λ trace x. exact-to (trace ++ byte ∷ []) _ _ s (exact trace (same-grown _ _ g trace (h .k) self .1 x)))
 
+  accepting-by-to : (notion : Notion) (self : Estimator) (byte : ℕ) (r : SaidBy) (s : Estimator) → AcceptingBy notion t h self byte r s
+      → AcceptingBy notion t (relabelled h symbols) self byte r s
+  accepting-by-to notion self byte r s (turned-back x) = turned-back (accepting-to self byte _ s x)
+  accepting-by-to notion self byte r s (accepted-by {v = steps} m v) =
+      accepted-by (record {
+        sound = same-sound t h (relabelled h symbols) g refl .0 (m .sound);
+        limits = m .limits;
+        observable = same-observable t h (relabelled h symbols) g byte .0 (m .observable);
+        limits-after = m .limits-after;
+        grown = λ trace x. same-grown _ _ g (trace ++ byte ∷ []) (h .k) s .0 (m .grown trace (same-grown _ _ g trace (h .k) self .1 x));
+      }) (record {
+        bounded = v .bounded;
+        tells = λ trace x. same-tells _ _ g (trace ++ byte ∷ []) (h .secret) (h .k) notion steps .0 (v .tells trace (same-grown _ _ g trace (h .k) self .1 x));
+      })
+
 module _ (t : List ℕ) (h h′ : Header) (g : SameSymbols (automatonOf t h) (automatonOf t h′)) (secret : h .secret ≡ h′ .secret) (k : h .k ≡ h′ .k) where
   pub same-opening : (r : Said) (s : Estimator) → Opening t h r s ↔ Opening t h′ r s
   same-opening r s = same-header t (λ x. Opening t x r s) (λ h symbols g. opening-to t h symbols g r s) h h′ g secret k
 
   pub same-accepting : (self : Estimator) (byte : ℕ) (r : Said) (s : Estimator) → Accepting t h self byte r s ↔ Accepting t h′ self byte r s
   same-accepting self byte r s = same-header t (λ x. Accepting t x self byte r s) (λ h symbols g. accepting-to t h symbols g self byte r s) h h′ g secret k
+
+  pub same-accepting-by : (notion : Notion) (self : Estimator) (byte : ℕ) (r : SaidBy) (s : Estimator)
+      → AcceptingBy notion t h self byte r s ↔ AcceptingBy notion t h′ self byte r s
+  same-accepting-by notion self byte r s =
+      same-header t (λ x. AcceptingBy notion t x self byte r s) (λ h symbols g. accepting-by-to t h symbols g notion self byte r s) h h′ g secret k

@@ -30,7 +30,9 @@ showing : (c : tie.After-events-with) → Showing (automatonOf (now (c .before .
 showing c = c .events-with .ensures _ (ok (c .before .before .before .before .before) .0 .symbols-small) (c .before .before .before .by-symbol .ensures (now (c .before .before .before .before .before .before .before .before .args .table)))
 
 observed : (c : tie.Else2) → Observable (c .before .before .before .before .before .before .before .before .before .args .header) (c .before .before .before .before .before .before .before .before .before .args .symbol)
-observed c = some-observable (now (c .before .before .before .before .before .before .before .before .before .args .table)) _ _ _ (showing (c .before)) (omega arith) (c .if2 .left)
+observed c =
+    let a = c .before .before .before .before .before .before .before .before .before .args in
+    some-observable (now (a .table)) (a .header) _ _ (showing (c .before)) (omega arith) (c .if2 .left)
 
 sound-requires : tie.Need-sound-requires
 sound-requires c κs = search needs
@@ -64,7 +66,9 @@ returns-2 c =
     let r = c .refused2 .ensures in
     let v = c .before .before in
     let o = ok (v .before .before .before .before .before) in
-    refused-asked _ _ _ _ _ refusal.NotObservable _ (r .0) (r .1) (not-observable (o .0) (o .1) (none-observable (now (v .before .before .before .before .before .before .before .before .args .table)) _ _ _ (showing v) (c .before .if2 .taken)))
+    let a = v .before .before .before .before .before .before .before .before .args in
+    refused-asked _ _ _ _ _ refusal.NotObservable _ (r .0) (r .1)
+    (not-observable (o .0) (o .1) (none-observable (now (a .table)) (a .header) _ _ (showing v) (c .before .if2 .taken)))
 
 element-copy-out-newest : tie.Need-element-copy-out-newest
 element-copy-out-newest c = search needs

@@ -1,0 +1,133 @@
+-- The bytes of two headers that are the same but for the symbols of unobservable events (02, S-2): every function that takes a header says the same with
+-- either. Assumes nothing.
+use mathlib.Core.Path.{_≡_, refl, sym, ap₂, subst, _∙_}
+use mathlib.Core.List.{List}
+use mathlib.Core.Logic.{_↔_}
+use Prim.Native.Nat.{ℕ, zero, suc, _+_, _*_, _≤_, _<_}
+use native.Mathlib.Omega.{arith}
+use native.Mathlib.Decide.{decLt}
+use lib.ListN.{length, getD, List·getD-eq-default}
+use Rattle.stateset.specs.Set.{In}
+use Rattle.automaton.specs.Run.{automatonOf}
+use Rattle.automaton.specs.Symbols.{SameSymbols}
+use Rattle.verifier.proofs.Corresponding.{same-opening, same-accepting}
+use Rattle.enforcer.proofs.Corresponding.{same-starting, same-offering}
+use Rattle.gateway.specs.Layout.{numberAt, bytesAt, headerAt}
+use Rattle.gateway.specs.Interface.{VerifierSizes, Fresh, Accept, StartSizes, Start, OfferSizes, Offer}
+use Rattle.gateway.proofs.Bytes.{number-more, number-none, part-length, part-at}
+
+-- 46 bytes each: the first 14 are the same, and of the others those of observable events
+pub record SameHeaders (a b : List ℕ) : Type 0 where
+  pub size : length a ≡ 46
+  pub other-size : length b ≡ 46
+  pub front : (i : ℕ) → i < 14 → getD a i 0 ≡ getD b i 0
+  pub symbols : (e : ℕ) → e < 32 → In e (headerAt a .observable) → getD a (14 + e) 0 ≡ getD b (14 + e) 0
+
+number-same : (a b : List ℕ) (at n : ℕ) → ((i : ℕ) → at ≤ i → i < at + n → getD a i 0 ≡ getD b i 0) → numberAt a at n ≡ numberAt b at n
+number-same a b at zero same = number-none a at ∙ sym (number-none b at)
+number-same a b at (suc n) same =
+    number-more a at n
+    ∙ ap₂ (λ (x y : ℕ). x + 256 * y) (same at (omega arith) (omega arith)) (number-same a b (suc at) n (λ i l h. same i (omega arith) (omega arith)))
+    ∙ sym (number-more b at n)
+
+module _ (a b : List ℕ) (x : SameHeaders a b) where
+  pub same-k : headerAt a .k ≡ headerAt b .k
+  same-k = x .front 1 (omega arith)
+
+  pub same-secret : headerAt a .secret ≡ headerAt b .secret
+  same-secret = number-same a b 2 8 (λ i l h. x .front i (omega arith))
+
+  same-observable : headerAt a .observable ≡ headerAt b .observable
+  same-observable = number-same a b 10 4 (λ i l h. x .front i (omega arith))
+
+  symbol-same : (e : ℕ) → In e (headerAt a .observable) → getD (bytesAt a 14 32) e 0 ≡ getD (bytesAt b 14 32) e 0
+  symbol-same e i = go (decLt e 32)
+    where
+      go : Dec (e < 32) → getD (bytesAt a 14 32) e 0 ≡ getD (bytesAt b 14 32) e 0
+      go (yes l) = part-at a 14 32 e l ∙ x .symbols e l i ∙ sym (part-at b 14 32 e l)
+      go (no l) =
+          List·getD-eq-default (bytesAt a 14 32) 0 (omega (arith, part-length a 14 32 (omega (arith, x .size))))
+          ∙ sym (List·getD-eq-default (bytesAt b 14 32) 0 (omega (arith, part-length b 14 32 (omega (arith, x .other-size)))))
+
+  pub same-symbols : (t : List ℕ) → SameSymbols (automatonOf t (headerAt a)) (automatonOf t (headerAt b))
+  same-symbols t =
+      record { same = record { table = refl; initial = x .front 0 (omega arith); observable = same-observable }; symbols-are = λ e i. symbol-same e i }
+
+  headers-back : SameHeaders b a
+  headers-back =
+      record {
+        size = x .other-size;
+        other-size = x .size;
+        front = λ i l. sym (x .front i l);
+        symbols = λ e l i. sym (x .symbols e l (subst (λ (w : ℕ). In e w) (sym same-observable) i));
+      }
+
+  verifier-sizes : (estimator verdicts : List ℕ) → VerifierSizes a estimator verdicts → VerifierSizes b estimator verdicts
+  verifier-sizes estimator verdicts s = record { header-size = x .other-size; estimator-size = s .estimator-size; verdicts-size = s .verdicts-size }
+
+  start-sizes : (notion : ℕ) (enforcer : List ℕ) → StartSizes a notion enforcer → StartSizes b notion enforcer
+  start-sizes notion enforcer s = record { header-size = x .other-size; notion-known = s .notion-known; enforcer-size = s .enforcer-size }
+
+  offer-sizes : (enforcer released : List ℕ) → OfferSizes a enforcer released → OfferSizes b enforcer released
+  offer-sizes enforcer released s =
+      record { header-size = x .other-size; enforcer-size = s .enforcer-size; notion-known = s .notion-known; released-size = s .released-size }
+
+module _ (t a b : List ℕ) (x : SameHeaders a b) where
+  fresh-to : (estimator verdicts : List ℕ) (n : ℕ) (after told : List ℕ) → Fresh t a estimator verdicts n after told → Fresh t b estimator verdicts n after told
+  fresh-to estimator verdicts n after told (Fresh.size bad) = Fresh.size (λ s. bad (verifier-sizes b a (headers-back a b x) estimator verdicts s))
+  fresh-to estimator verdicts n after told (Fresh.refused s o) =
+      Fresh.refused (verifier-sizes a b x estimator verdicts s)
+      (same-opening t (headerAt a) (headerAt b) (same-symbols a b x t) (same-secret a b x) (same-k a b x) _ _ .0 o)
+  fresh-to estimator verdicts n after told (Fresh.accepted s o saved) =
+      Fresh.accepted (verifier-sizes a b x estimator verdicts s)
+      (same-opening t (headerAt a) (headerAt b) (same-symbols a b x t) (same-secret a b x) (same-k a b x) _ _ .0 o) saved
+
+  accept-to : (symbol : ℕ) (estimator verdicts : List ℕ) (n : ℕ) (after told : List ℕ) → Accept t a symbol estimator verdicts n after told
+      → Accept t b symbol estimator verdicts n after told
+  accept-to symbol estimator verdicts n after told (Accept.size bad) = Accept.size (λ s. bad (verifier-sizes b a (headers-back a b x) estimator verdicts s))
+  accept-to symbol estimator verdicts n after told (Accept.refused s o) =
+      Accept.refused (verifier-sizes a b x estimator verdicts s)
+      (same-accepting t (headerAt a) (headerAt b) (same-symbols a b x t) (same-secret a b x) (same-k a b x) _ symbol _ _ .0 o)
+  accept-to symbol estimator verdicts n after told (Accept.accepted s o saved) =
+      Accept.accepted (verifier-sizes a b x estimator verdicts s)
+      (same-accepting t (headerAt a) (headerAt b) (same-symbols a b x t) (same-secret a b x) (same-k a b x) _ symbol _ _ .0 o) saved
+
+  start-to : (notion : ℕ) (enforcer : List ℕ) (n : ℕ) (after : List ℕ) → Start t a notion enforcer n after → Start t b notion enforcer n after
+  start-to notion enforcer n after (Start.size bad) = Start.size (λ s. bad (start-sizes b a (headers-back a b x) notion enforcer s))
+  start-to notion enforcer n after (Start.refused s o) =
+      Start.refused (start-sizes a b x notion enforcer s)
+      (same-starting t (headerAt a) (headerAt b) (same-symbols a b x t) (same-secret a b x) (same-k a b x) _ _ _ .0 o)
+  start-to notion enforcer n after (Start.started s o saved) =
+      Start.started (start-sizes a b x notion enforcer s)
+      (same-starting t (headerAt a) (headerAt b) (same-symbols a b x t) (same-secret a b x) (same-k a b x) _ _ _ .0 o) saved
+
+  offer-to : (symbol : ℕ) (enforcer output released : List ℕ) (n : ℕ) (after out count : List ℕ) → Offer t a symbol enforcer output released n after out count
+      → Offer t b symbol enforcer output released n after out count
+  offer-to symbol enforcer output released n after out count (Offer.size bad) = Offer.size (λ s. bad (offer-sizes b a (headers-back a b x) enforcer released s))
+  offer-to symbol enforcer output released n after out count (Offer.refused s o) =
+      Offer.refused (offer-sizes a b x enforcer released s)
+      (same-offering t (headerAt a) (headerAt b) (same-symbols a b x t) (same-secret a b x) (same-k a b x) _ symbol output _ _ _ .0 o)
+  offer-to symbol enforcer output released n after out count (Offer.released s o saved) =
+      Offer.released (offer-sizes a b x enforcer released s)
+      (same-offering t (headerAt a) (headerAt b) (same-symbols a b x t) (same-secret a b x) (same-k a b x) _ symbol output _ _ _ .0 o) saved
+
+module _ (t a b : List ℕ) (x : SameHeaders a b) where
+  pub same-fresh : (estimator verdicts : List ℕ) (n : ℕ) (after told : List ℕ)
+      → Fresh t a estimator verdicts n after told ↔ Fresh t b estimator verdicts n after told
+  same-fresh estimator verdicts n after told =
+      (fresh-to t a b x estimator verdicts n after told, fresh-to t b a (headers-back a b x) estimator verdicts n after told)
+
+  pub same-accept : (symbol : ℕ) (estimator verdicts : List ℕ) (n : ℕ) (after told : List ℕ)
+      → Accept t a symbol estimator verdicts n after told ↔ Accept t b symbol estimator verdicts n after told
+  same-accept symbol estimator verdicts n after told =
+      (accept-to t a b x symbol estimator verdicts n after told, accept-to t b a (headers-back a b x) symbol estimator verdicts n after told)
+
+  pub same-start : (notion : ℕ) (enforcer : List ℕ) (n : ℕ) (after : List ℕ) → Start t a notion enforcer n after ↔ Start t b notion enforcer n after
+  same-start notion enforcer n after = (start-to t a b x notion enforcer n after, start-to t b a (headers-back a b x) notion enforcer n after)
+
+  pub same-offer : (symbol : ℕ) (enforcer output released : List ℕ) (n : ℕ) (after out count : List ℕ)
+      → Offer t a symbol enforcer output released n after out count ↔ Offer t b symbol enforcer output released n after out count
+  same-offer symbol enforcer output released n after out count = (
+    offer-to t a b x symbol enforcer output released n after out count,
+    offer-to t b a (headers-back a b x) symbol enforcer output released n after out count,
+  )

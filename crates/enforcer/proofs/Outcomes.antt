@@ -17,18 +17,18 @@ use Rattle.verifier.specs.Replies.{Accepting, Moved, TellsBy}
 use Rattle.enforcer.specs.Enforcers.{Limits}
 use Rattle.enforcer.specs.Offerings.{refused, said, Offering, Exact, not-observable, incompatible, accepted}
 use Rattle.verifier.specs.Replies.{chosen}
-use Rattle.enforcer.specs.Inner.{waitOf, Took}
+use Rattle.enforcer.specs.Inner.{PendingWithin, waitOf, Took}
 use Rattle.enforcer.specs.declared.Enforcer.{Enforcer}
 use Rattle.enforcer.specs.declared.OfferAnswer.{OfferAnswer}
 use Rattle.enforcer.specs.declared.OfferAnswer.the-variants as offer
-use Rattle.enforcer.proofs.TakingIn.{grown-next}
+use Rattle.enforcer.proofs.TakingIn.{limits-joined, grown-next}
 
 pub refused-outcome : (t : List ℕ) (h : Header) (self : Enforcer) (byte : ℕ) (output : List ℕ) (n : ℕ) (s : Estimator)
-    → Sound t h → Limits (h .k) self → 17 ≤ length output → Accepting t h (self .estimator) byte (verifier.refused n) s → Offering t h self byte output (refused n) self output
-refused-outcome t h self byte output n s so li wide (Accepting.malformed bad) = absurd (bad (so, li .estimator))
-refused-outcome t h self byte output n s so li wide (Accepting.not-observable so′ li′ never) = not-observable so li wide never
-refused-outcome t h self byte output n s so li wide (Accepting.incompatible so′ li′ ob none) =
-    incompatible so li wide ob (λ notion trace g. none trace (g .estimator))
+    → PendingWithin (h .k) self → 17 ≤ length output → Accepting t h (self .estimator) byte (verifier.refused n) s → Offering t h self byte output (refused n) self output
+refused-outcome t h self byte output n s pending wide (Accepting.malformed bad) = Offering.malformed (λ both. bad (both .0, both .1 .estimator))
+refused-outcome t h self byte output n s pending wide (Accepting.not-observable so li never) = not-observable so (limits-joined (h .k) self li pending) wide never
+refused-outcome t h self byte output n s pending wide (Accepting.incompatible so li ob none) =
+    incompatible so (limits-joined (h .k) self li pending) wide ob (λ notion trace g. none trace (g .estimator))
 
 -- the verdict by the notion
 pub chosen-tells : (notion : Notion) (t : List ℕ) (h : Header) (trace : List ℕ) (v : Verdicts) (s : Estimator) → verifier.Exact t h trace (stepsOf (v .weak)) (stepsOf (v .strong)) s

@@ -18,7 +18,7 @@ use Rattle.verifier.specs.Verdicts.{Steps, Tells}
 use Rattle.verifier.specs.Estimators as estimators
 use Rattle.enforcer.specs.SafePrefix.{Safe}
 use Rattle.enforcer.specs.Enforcers.{Limits, pendingOf, Padded, Grown}
-use Rattle.enforcer.specs.Inner.{waitOf, Ready, TookIn}
+use Rattle.enforcer.specs.Inner.{PendingWithin, waitOf, Ready, TookIn}
 use Rattle.enforcer.specs.declared.Enforcer.{Enforcer}
 use Rattle.enforcer.proofs.SafeLaws.{safe-laws, safe-wait, wait-safe}
 use Rattle.enforcer.proofs.Queueing.{queue-next}
@@ -122,7 +122,7 @@ module _ (notion : Notion) (p : Automaton) (secret K : ℕ) (acc : List ℕ) (se
             (took .shifted);
       }
 
--- an enforcer that is full releases its first event
+-- an enforcer that is full releases its first symbol
 pub ready-one : (K count : ℕ) (soon : List ℕ) → K < count → count ≤ K + 1 → (getD soon 0 0 ≡ 0 → ⊥) → Ready K count soon 1
 ready-one K count soon full few waits = record {
   some = omega arith;
@@ -135,9 +135,17 @@ ready-one K count soon full few waits = record {
     never (inl low) = omega arith
     never (inr z) = waits z
 
--- once the other limits hold, the pending events decide
-pub pending-decide : (t : List ℕ) (h : Header) (s : Enforcer) (b : Bool) → Sound t h → estimators.Limits (h .k) (s .estimator) → s .count ≤ h .k + 1
-    → Decided b ((i : ℕ) → i < s .count → getD (s .pending) i 0 ≤ 31) → Decided b (Sound t h × Limits (h .k) s)
-pending-decide t h s b sound li few d =
-    decided-as {A = (i : ℕ) → i < s .count → getD (s .pending) i 0 ≤ 31} {B = Sound t h × Limits (h .k) s} b
-    (λ all. (sound, record { estimator = li; few = few; small = all })) (λ both. both .1 .small) d
+-- once the number is within its limit, the pending symbols decide
+pub pending-decide : (K : ℕ) (s : Enforcer) (b : Bool) → s .count ≤ K + 1 → Decided b ((i : ℕ) → i < s .count → getD (s .pending) i 0 ≤ 31) → Decided b (PendingWithin K s)
+pending-decide K s b few d =
+    decided-as {A = (i : ℕ) → i < s .count → getD (s .pending) i 0 ≤ 31} {B = PendingWithin K s} b (λ all. record { few = few; small = all }) (λ both. both .small) d
+
+-- and with the estimator's limits those of the enforcer
+pub limits-joined : (K : ℕ) (s : Enforcer) → estimators.Limits K (s .estimator) → PendingWithin K s → Limits K s
+limits-joined K s li pending = record { estimator = li; few = pending .few; small = pending .small }
+
+pub limits-decide : (t : List ℕ) (h : Header) (s : Enforcer) (b : Bool) → Sound t h → estimators.Limits (h .k) (s .estimator) → Decided b (PendingWithin (h .k) s)
+    → Decided b (Sound t h × Limits (h .k) s)
+limits-decide t h s b sound li d =
+    decided-as {A = PendingWithin (h .k) s} {B = Sound t h × Limits (h .k) s} b
+    (λ pending. (sound, limits-joined (h .k) s li pending)) (λ both. record { few = both .1 .few; small = both .1 .small }) d

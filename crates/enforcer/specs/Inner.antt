@@ -11,19 +11,24 @@ use Rattle.enforcer.specs.declared.Enforcer.{Enforcer}
 use Rattle.enforcer.specs.declared.OfferAnswer.{OfferAnswer}
 use Rattle.enforcer.specs.declared.OfferAnswer.the-variants.{Refused, Released}
 
--- how many further events make a trace with this verdict safe
+-- the limits of the pending symbols alone
+pub record PendingWithin (K : ℕ) (s : Enforcer) : Type 0 where
+  pub few : s .count ≤ K + 1
+  pub small : (i : ℕ) → i < s .count → getD (s .pending) i 0 ≤ 31
+
+-- how many further symbols make a trace with this verdict safe
 abbrev pub waitOf : ℕ → Steps → ℕ
 waitOf K none = 0
 waitOf K (leak l) = K + 1 - l
 
--- how many of the events go, by the waits that are left. (An enforcer that is full, and whose first event still waits, did not grow from a fresh one)
+-- how many of the symbols go, by the waits that are left. (An enforcer that is full, and whose first symbol still waits, did not grow from a fresh one)
 pub record Ready (K count : ℕ) (soon : List ℕ) (f : ℕ) : Type 0 where
   pub some : f ≤ count + 1
   pub enough : count + 1 ≤ f + (K + 1)
   pub over : (count ≤ K) ⊎ (getD soon 0 0 ≡ 0) → (i : ℕ) → i < f → getD soon i 0 ≡ 0
   pub next : (count ≤ K) ⊎ (getD soon 0 0 ≡ 0) → f < count + 1 → getD soon f 0 ≡ 0 → ⊥
 
--- a queue after one more event with the wait w, of which the first f events go
+-- a queue after one more symbol with the wait w, of which the first f symbols go
 pub record Shifted (K count : ℕ) (pending waits : List ℕ) (w byte f count′ : ℕ) (pending′ waits′ : List ℕ) : Type 0 where
   pub balance : f + count′ ≡ count + 1
   pub rest : take count′ pending′ ≡ drop f (take count pending ++ byte ∷ [])

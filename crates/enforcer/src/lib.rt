@@ -14,7 +14,7 @@ ghost use Rattle.automaton.specs.Run.{Sound};
 ghost use Rattle.verifier.specs.Verdicts.{stepsOf};
 ghost use Rattle.enforcer.specs.Enforcers.{Limits, Padded};
 ghost use Rattle.enforcer.specs.Offerings.{begun, said, Starting, Offering};
-ghost use Rattle.enforcer.specs.Inner.{waitOf, Ready, Took};
+ghost use Rattle.enforcer.specs.Inner.{PendingWithin, waitOf, Ready, Took};
 
 // The estimator, the notion, and the pending symbols, the oldest first, each with the number of further ones that it waits for (01: Holder).
 pub struct Enforcer {
@@ -207,11 +207,19 @@ impl Enforcer {
         if !estimator.sound(table, header) {
             return false;
         }
+        self.pending_within(header.k)
+    }
+
+    // The pending symbols are within their limits.
+    fn pending_within(self, k: u8) -> bool
+        ensures { λ r. ⌜ Decided r (PendingWithin k self) ⌝ }
+    {
         let pending = self.pending;
         let count = self.count;
-        let k = header.k;
-        if k + 1 < count {
-            return false;
+        if k < count {
+            if k + 1 < count {
+                return false;
+            }
         }
         automaton::in_range(&pending, count)
     }
@@ -245,20 +253,27 @@ impl Enforcer {
         }
     }
 
-    // Offers one byte: a symbol that is accepted joins the pending ones, and the longest safe prefix is released to the front of the output.
+    // Offers one byte: a symbol that is accepted joins the pending ones, and the longest safe prefix is released to the front of the output. (The table,
+    // the header and the estimator are tested once, by the verifier; where the output is too small, here, since 9 comes before 10.)
     pub fn offer(self, table: &[u64], header: Header, byte: u8, output: &mut [u8]) -> Given
         ensures { λ r. ⌜ Offering (now (table .entry)) header self byte (now (output .entry)) (said (r .answer)) (r .enforcer) (now (output .exit)) ⌝ }
     {
-        if !self.sound(table, header) {
-            return Given {
-                enforcer: self,
-                answer: OfferAnswer::Refused(Refusal::Malformed),
-            };
-        }
         if output.len() < 17 {
+            if !self.sound(table, header) {
+                return Given {
+                    enforcer: self,
+                    answer: OfferAnswer::Refused(Refusal::Malformed),
+                };
+            }
             return Given {
                 enforcer: self,
                 answer: OfferAnswer::Refused(Refusal::OutputTooSmall),
+            };
+        }
+        if !self.pending_within(header.k) {
+            return Given {
+                enforcer: self,
+                answer: OfferAnswer::Refused(Refusal::Malformed),
             };
         }
         let estimator = self.estimator;

@@ -1,37 +1,64 @@
--- `verifier::weak_verdict` meets its contract. The outer invariant is `SoFar`, for each trace that is remembered. Assumes nothing.
+-- `verifier::weak_verdict` meets its contract, in the order of source document 000's Proposition 4: "noleak if ∀ k ∈ [0, K] : m(k) ∉ 2^S, leak_l where
+-- l = min{k ∈ [0, K] | m(k) ∈ 2^S} otherwise". It takes the steps k = l from 0 upward, and so does the loop. At each step l that it takes up it knows
+-- `NoLeakBelow`: for every m < l a compatible run with a position of count n − m that is not secret, so that no smaller step is a leak.
+--
+-- Where the two differ: the proposition reads m(l) off a K-delay trajectory estimator, a set of state sequences. The estimator here keeps for each step
+-- the states right after its event, judged by the events up to it (`Remembers.entries-are`), and `then` has the states that the later events can follow
+-- (`Follows`). They meet in `DelayedEstimate`, the states at the positions of count n − l of compatible runs: m(l) is that by Proposition 3
+-- (published/proofs/Estimators), and it is where unobservable transitions after that event lead, within `then` (`LookBack`: `possible-tested`).
+-- Assumes nothing.
 use mathlib.Core.Path.{_≡_}
 use mathlib.Core.List.{List}
 use mathlib.Core.Logic.{⊎-elim}
-use Prim.Native.Nat.{ℕ, _-_, _/_, _^_, _≤_}
+use Prim.Native.Nat.{ℕ, _+_, _-_, _/_, _^_, _≤_}
 use native.Mathlib.Omega.{arith}
 use borrow.Author.Needs.{needs}
 use lib.Bits.{bitAnd}
 use lib.Count.{trailingZeros}
-use lib.ListN.{length, getD, take}
+use lib.ListN.{length, getD}
 use Rattle.stateset.specs.Set.{In}
 use Rattle.stateset.proofs.Bits.{Taken, taken, in-test, bit-lt}
 use Rattle.automaton.specs.Run.{Automaton}
 use Rattle.automaton.specs.Notion.{ClearAt}
-use Rattle.automaton.specs.Reaching.{Arrives, Showing}
+use Rattle.automaton.specs.Reaching.{Showing}
 use Rattle.verifier.specs.declared.Notion.the-variants.{Weak}
-use Rattle.verifier.specs.Inner.{Looks, Remembers, Sampled}
+use Rattle.verifier.specs.Verdicts.{NoLeakBelow}
+use Rattle.verifier.specs.Inner.{Looks, Remembers}
 use Rattle.verifier.proofs.Passing.{Passed, pass-start, pass-turn, pass-end}
-use Rattle.verifier.proofs.LookBack.{SoFar, back-start, back-turn, back-none, back-leak, remembers-inside, weak-sure, weak-clear}
+use Rattle.verifier.proofs.LookBack.{ForEach, below-start, below-step, below-leak, below-last, Follows, follows-start, follows-step, remembers-inside, Tested, possible-tested, tested-sure, tested-clear}
 use Rattle.verifier.proofs.weak_verdict.Statement.{statement}
 use Rattle.verifier.proofs.weak_verdict.Tie as tie
 
+-- What the loops know
+
+-- 'states: what is left of the tested part of m(l), and all else of it is secret
 abbrev Inv-states : tie.InvT-states
 Inv-states table sets silent back states last symbols entries secret then l at possible todo₀ todo = Passed possible secret todo
 
 abbrev μ-states : tie.MeasureT-states
 μ-states table sets silent back states last symbols entries secret then l at possible todo₀ todo = todo
 
+-- 'steps: `then` has the states that the last l events can follow, and no step below l is a leak
 abbrev Inv-steps : tie.InvT-steps
 Inv-steps table sets silent back states last symbols entries secret then₀ l₀ then l = (l ≤ last) × (last ≤ 15)
-    × ((p : Automaton) (trace : List ℕ) → Looks p table sets entries silent back states → Remembers p trace last symbols entries → SoFar Weak p secret states trace l then)
+    × ForEach table sets silent back states last symbols entries (λ p trace. Follows p states trace l then)
+    × ForEach table sets silent back states last symbols entries (λ p trace. NoLeakBelow Weak p secret trace l)
 
 abbrev μ-steps : tie.MeasureT-steps
 μ-steps table sets silent back states last symbols entries secret then₀ l₀ then l = last - l
+
+-- Start, "k ∈ [0, ..": the loop takes up step 0, and there is no smaller one
+
+steps-holds : tie.Need-steps-holds Inv-states μ-states Inv-steps μ-steps
+steps-holds c =
+    let a = c .before .before .before .before .before .before in (
+      omega arith,
+      omega (arith, a .pre .1, a .pre .0 .limits .few, a .pre .0 .sound .back),
+      λ p trace g m. follows-start p _ trace,
+      λ p trace g m. below-start Weak p _ trace,
+    )
+
+-- One step, "m(l) ∈ 2^S" or not: the states of a part of m(l) are visited, and the first that is not secret ends the visit ('states)
 
 abbrev begin : tie.After-possible-states Inv-states μ-states Inv-steps μ-steps → tie.Start Inv-states μ-states Inv-steps μ-steps
 begin u = u .before .before .before .before .before .before .before .before
@@ -43,17 +70,19 @@ Good u p =
 abbrev Trace : tie.After-possible-states Inv-states μ-states Inv-steps μ-steps → Automaton → List ℕ → Type 0
 Trace u p trace = Remembers p trace (begin u .args .last) (begin u .args .estimator .symbols) (begin u .args .estimator .entries)
 
--- possible states l steps back
-sampled : (u : tie.After-possible-states Inv-states μ-states Inv-steps μ-steps) (p : Automaton) (trace : List ℕ) → Good u p → Trace u p trace
-    → Sampled (begin u .args .header .secret) (u .before .steps .then) (Arrives p (take (length trace - u .before .steps .l) trace)) (u .possible-states .result)
-sampled u p trace g m =
+-- what is visited is a part of m(l) that decides
+tested : (u : tie.After-possible-states Inv-states μ-states Inv-steps μ-steps) (p : Automaton) (trace : List ℕ) → Good u p → Trace u p trace
+    → Tested p (begin u .args .header .secret) trace (length trace - u .before .steps .l) (u .possible-states .result)
+tested u p trace g m =
     let s = u .before .steps in
-    u .possible-states .ensures p _ (g .start) (g .near .closed) (λ q i. g .near .inside (s .l) q (omega (arith, s .inv .0, s .inv .1)) i) (m .entries-are (s .l) (s .inv .0))
+    possible-tested p _ trace _ (s .l) _ _ _ (g .start) (s .inv .0) (remembers-inside p trace _ _ _ _ _ (s .inv .1) (g .near) m)
+    (u .possible-states .ensures p _ (g .start) (g .near .closed) (λ q i. g .near .inside (s .l) q (omega (arith, s .inv .0, s .inv .1)) i) (m .entries-are (s .l) (s .inv .0)))
+    (s .inv .2 p trace g m)
 
--- the states of the look back
-inside : (u : tie.After-possible-states Inv-states μ-states Inv-steps μ-steps) (p : Automaton) (trace : List ℕ) → Good u p → Trace u p trace
-    → (j q : ℕ) → length trace - begin u .args .last ≤ j → j ≤ length trace → Arrives p (take j trace) q → In q (begin u .args .states)
-inside u p trace g m = remembers-inside p trace _ _ _ _ _ (u .before .steps .inv .1) (g .near) m
+-- the state that a turn of the inner loop visits
+pick : (c : tie.In-states Inv-states μ-states Inv-steps μ-steps)
+    → Taken (c .before .states .todo) (trailingZeros 64 (c .before .states .todo)) (bitAnd (c .before .states .todo) (c .before .states .todo - 1))
+pick c = taken (c .before .states .todo) (omega arith) (c .before .states .inv .small)
 
 -- a digit that is not 0
 one : (q w : ℕ) → (bitAnd (w / 2 ^ q) 1 ≡ 0 → ⊥) → In q w
@@ -61,32 +90,74 @@ one q w n =
     let m : bitAnd (w / 2 ^ q) 1 ≡ 0 → ⊥ = n in
     omega (arith, in-test q w, bit-lt q w)
 
--- the state that a turn of the inner loop visits
-pick : (c : tie.In-states Inv-states μ-states Inv-steps μ-steps)
-    → Taken (c .before .states .todo) (trailingZeros 64 (c .before .states .todo)) (bitAnd (c .before .states .todo) (c .before .states .todo - 1))
-pick c = taken (c .before .states .todo) (omega arith) (c .before .states .inv .small)
+states-holds : tie.Need-states-holds Inv-states μ-states Inv-steps μ-steps
+states-holds c = pass-start _ _ (omega arith)
 
--- the state at which the inner loop was left excuses the system
+-- it is secret
+states-again : tie.Need-states-again Inv-states μ-states Inv-steps μ-steps
+states-again c =
+    let q = trailingZeros 64 (c .before .before .states .todo) in
+    pass-turn _ _ _ q _ (pick (c .before)) (one q (begin (c .before .before .before) .args .header .secret) (c .if1 .left)) (c .before .before .states .inv)
+
+-- "m(l) ∉ 2^S": the state at which the visit ended is not secret, and a run through it excuses the system
 clear : (c : tie.Else2 Inv-states μ-states Inv-steps μ-steps) (p : Automaton) (trace : List ℕ) → Good (c .before .before .before) p → Trace (c .before .before .before) p trace
     → ClearAt p (begin (c .before .before .before) .args .header .secret) trace (length trace - c .before .before .before .before .steps .l)
 clear c p trace g m =
     let u = c .before .before .before in
-    let a = begin u in
-    let s = u .before .steps in
     let w = c .before .before .states .todo in
-    let x = s .inv .2 p trace g m in
     ⊎-elim
     (λ w. absurd (omega arith))
     (λ v.
     let t = taken w (omega arith) (c .before .before .states .inv .small) in
-    weak-clear _ _ trace _ (s .l) _ _ _ (g .start) (s .inv .0) (inside u p trace g m) (sampled u p trace g m) (x .follows) (trailingZeros 64 w)
-    (c .before .before .states .inv .kept (trailingZeros 64 w) (t .inside)) (λ i. omega (arith, in-test (trailingZeros 64 w) (a .args .header .secret), v .1 .taken)))
+    tested-clear _ _ trace _ _ (tested u p trace g m) (trailingZeros 64 w) (c .before .before .states .inv .kept (trailingZeros 64 w) (t .inside))
+    (λ i. omega (arith, in-test (trailingZeros 64 w) (begin u .args .header .secret), v .1 .taken)))
     (c .before .states-test .came)
 
-steps-holds : tie.Need-steps-holds Inv-states μ-states Inv-steps μ-steps
-steps-holds c =
-    let a = c .before .before .before .before .before .before in
-    (omega arith, omega (arith, a .pre .1, a .pre .0 .limits .few, a .pre .0 .sound .back), λ p trace g m. back-start Weak _ _ _ trace)
+-- so that, with what was known below l, no step below l + 1 is a leak
+below-next : (c : tie.Else2 Inv-states μ-states Inv-steps μ-steps) (p : Automaton) (trace : List ℕ) → Good (c .before .before .before) p → Trace (c .before .before .before) p trace
+    → NoLeakBelow Weak p (begin (c .before .before .before) .args .header .secret) trace (c .before .before .before .before .steps .l + 1)
+below-next c p trace g m = below-step Weak p _ trace _ (c .before .before .before .before .steps .inv .3 p trace g m) (clear c p trace g m)
+
+-- the events that show the symbol before
+showing : (c : tie.After-events-with Inv-states μ-states Inv-steps μ-steps) (p : Automaton) → Good (c .before .before .before .before .before) p
+    → Showing p (getD (begin (c .before .before .before .before .before) .args .estimator .symbols) (c .before .before .before .before .before .before .steps .l) 0) (c .events-with .result)
+showing c p g = c .events-with .ensures p (g .symbols-small) (g .sets-are)
+
+-- and the loop takes up step l + 1
+steps-again : tie.Need-steps-again Inv-states μ-states Inv-steps μ-steps
+steps-again c =
+    let s = c .before .before .before .before .before .before .before .steps in (
+      omega arith,
+      s .inv .1,
+      λ p trace g m. follows-step p _ trace _ _ _ _ _ m (omega arith) (c .backward-reach .ensures p _ _ _ (g .table-is) (showing (c .before) p g) (g .back-are) (λ q i. i) (s .inv .2 p trace g m)),
+      below-next (c .before .before .before),
+    )
+
+-- First exit, "leak_l where l = min{..}": m(l) ∈ 2^S, every state that was visited is secret; and l is the least because no step below it is a leak
+
+returns : tie.Need-returns Inv-states μ-states Inv-steps μ-steps
+returns c =
+    let u = c .before .before .before in
+    let s = u .before .steps in
+    let g = begin u .pre .0 .looks in
+    record {
+      bounded = s .inv .0;
+      exact = λ trace m.
+          below-leak Weak _ _ trace _ _ (s .inv .0) (m .reached) (s .inv .3 _ trace g m)
+          (tested-sure _ _ trace _ _ (tested u _ trace g m) (λ q i. pass-end _ _ _ (c .if2 .taken) (c .before .before .states .inv) q i));
+    }
+
+-- Second exit, "noleak if ∀ k ∈ [0, K] : m(k) ∉ 2^S": step l is the last one, K or n, and no leak, so that no step below l + 1 is one
+
+returns-2 : tie.Need-returns-2 Inv-states μ-states Inv-steps μ-steps
+returns-2 c =
+    let g = begin (c .before .before .before .before) .pre .0 .looks in
+    record {
+      bounded = tt;
+      exact = λ trace m. below-last Weak _ _ trace _ _ (c .if3 .taken) (below-next (c .before) _ trace g m);
+    }
+
+-- What else is asked: numbers that fit, indices, what is called, and that the loops end
 
 cast-at : tie.Need-cast-at Inv-states μ-states Inv-steps μ-steps
 cast-at c = search needs
@@ -102,9 +173,6 @@ possible-states-requires :
     tie.Need-possible-states-requires Inv-states μ-states Inv-steps μ-steps
 possible-states-requires c κs = c .before .before .before .before .before .before .before .pre .0 .looks .near .closed .size
 
-states-holds : tie.Need-states-holds Inv-states μ-states Inv-steps μ-steps
-states-holds c = pass-start _ _ (omega arith)
-
 cast-if1 : tie.Need-cast-if1 Inv-states μ-states Inv-steps μ-steps
 cast-if1 c = omega (arith, pick c .small)
 
@@ -117,45 +185,11 @@ sub-todo c = omega arith
 states-less : tie.Need-states-less Inv-states μ-states Inv-steps μ-steps
 states-less c = pick (c .before) .less
 
-states-again : tie.Need-states-again Inv-states μ-states Inv-steps μ-steps
-states-again c =
-    let q = trailingZeros 64 (c .before .before .states .todo) in
-    pass-turn _ _ _ q _ (pick (c .before)) (one q (begin (c .before .before .before) .args .header .secret) (c .if1 .left)) (c .before .before .states .inv)
-
-returns : tie.Need-returns Inv-states μ-states Inv-steps μ-steps
-returns c =
-    let u = c .before .before .before in
-    let a = begin u in
-    let s = u .before .steps in
-    record {
-      bounded = s .inv .0;
-      exact = λ trace m.
-          let g = a .pre .0 .looks in
-          let x = s .inv .2 _ trace g m in
-          back-leak Weak _ _ _ trace _ _ _ (s .inv .0) (m .reached) x
-          (weak-sure _ _ trace _ (s .l) _ _ _ (g .start) (s .inv .0) (inside u _ trace g m) (sampled u _ trace g m) (x .follows)
-          (λ q i. pass-end _ _ _ (c .if2 .taken) (c .before .before .states .inv) q i));
-    }
-
-returns-2 : tie.Need-returns-2 Inv-states μ-states Inv-steps μ-steps
-returns-2 c =
-    let s = c .before .before .before .before .before .steps in
-    let g = begin (c .before .before .before .before) .pre .0 .looks in
-    record {
-      bounded = tt;
-      exact = λ trace m. back-none Weak _ _ _ trace _ _ _ (c .if3 .taken) (s .inv .2 _ trace g m) (clear (c .before) _ trace g m);
-    }
-
 array-read-events-with : tie.Need-array-read-events-with Inv-states μ-states Inv-steps μ-steps
 array-read-events-with c = omega arith
 
 events-with-requires : tie.Need-events-with-requires Inv-states μ-states Inv-steps μ-steps
 events-with-requires c κs = begin (c .before .before .before .before) .pre .0 .looks .sets-are .size
-
--- the events that show the symbol before
-showing : (c : tie.After-events-with Inv-states μ-states Inv-steps μ-steps) (p : Automaton) → Good (c .before .before .before .before .before) p
-    → Showing p (getD (begin (c .before .before .before .before .before) .args .estimator .symbols) (c .before .before .before .before .before .before .steps .l) 0) (c .events-with .result)
-showing c p g = c .events-with .ensures p (g .symbols-small) (g .sets-are)
 
 backward-reach-requires : tie.Need-backward-reach-requires Inv-states μ-states Inv-steps μ-steps
 backward-reach-requires c κs =
@@ -167,15 +201,6 @@ add-l c = omega arith
 
 steps-less : tie.Need-steps-less Inv-states μ-states Inv-steps μ-steps
 steps-less c = omega arith
-
-steps-again : tie.Need-steps-again Inv-states μ-states Inv-steps μ-steps
-steps-again c =
-    let s = c .before .before .before .before .before .before .before .steps in (
-      omega arith,
-      s .inv .1,
-      λ p trace g m. back-turn Weak _ _ _ trace _ _ _ _ _ _ m (omega arith) (s .inv .2 p trace g m) (clear (c .before .before .before) p trace g m)
-          (λ F. c .backward-reach .ensures p _ _ _ (g .table-is) (showing (c .before) p g) (g .back-are) (λ q i. i) F),
-    )
 
 pub weak-verdict-spec : {M : Type 1} → statement M
 weak-verdict-spec =

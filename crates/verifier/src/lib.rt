@@ -147,8 +147,8 @@ fn next_estimate(
     NextEstimate::States(after)
 }
 
-// The possible states, those in which runs can be and that are in `then`; or, where one of them is not secret, it among some of them. (Most often
-// one is right after the symbol, and nothing is closed.)
+// The possible states, those in which runs can be and that are in `then`: source 000's m(l), where `then` has the states that the last l symbols can
+// follow. One of them that is not secret is excuse enough: where one is right after the symbol, only such states are given, and nothing is closed.
 fn possible_states(silent: &[u64], states: u64, entry: u64, then: u64, secret: u64) -> u64
     requires { ⌜ length (now silent) ≡ 64 ⌝ }
     ensures { λ r. ⌜ ((p : Automaton) (trace : List ℕ) → p .initial ≤ 63 → Closed p states (now (silent .entry)) → Sub entry states
@@ -161,8 +161,9 @@ fn possible_states(silent: &[u64], states: u64, entry: u64, then: u64, secret: u
     automaton::unobservable_reach(silent, states, entry) & then
 }
 
-// The least step back at which every possible state is secret. (01: "every moment of count n − l is in a secret state". The possible states l steps
-// back: those in which runs can be there and from which the last l symbols can follow.)
+// The least step back at which every possible state is secret. (01: "every moment of count n − l is in a secret state".) As source 000's Proposition 4
+// takes it: l from 0 upward, and the verdict is the first l for which all of m(l) is secret. Whenever the loop takes up a step, no smaller one is a leak
+// (`NoLeakBelow`).
 fn weak_verdict(
     estimator: Estimator,
     table: &[u64],
@@ -180,11 +181,12 @@ fn weak_verdict(
     let entries = estimator.entries;
     let secret = header.secret;
     let mut then = states;
-    let mut l: u8 = 0;
+    let mut l: u8 = 0; // from 0 upward
     'steps: loop {
         let at = l as usize;
         let possible = possible_states(silent, states, entries[at], then, secret);
         let mut todo = possible;
+        // whether all of m(l) is secret: the first state that is not decides
         'states: while todo != 0 {
             let q = u64::trailing_zeros(todo);
             if secret >> q & 1 == 0 {
@@ -195,12 +197,12 @@ fn weak_verdict(
         if todo == 0 {
             return Verdict::Leak(l);
         }
-        if l == last {
+        if l == last { // K, or n where that is less
             return Verdict::NoLeak;
         }
         let shown = automaton::events_with(sets, symbols[at]);
         then = automaton::backward_reach(table, back, states, shown, then);
-        l += 1;
+        l += 1; // by one
     }
 }
 

@@ -38,11 +38,12 @@ Inv-states table sets silent back states last symbols entries secret then l at p
 abbrev μ-states : tie.MeasureT-states
 μ-states table sets silent back states last symbols entries secret then l at possible todo₀ todo = todo
 
--- 'steps: `then` has the states that the last l events can follow, and no step below l is a leak
+-- 'steps: no step below l is a leak, and `then` has the states that the last l events can follow
 abbrev Inv-steps : tie.InvT-steps
-Inv-steps table sets silent back states last symbols entries secret then₀ l₀ then l = (l ≤ last) × (last ≤ 15)
+Inv-steps table sets silent back states last symbols entries secret then₀ l₀ then l =
+    ForEach table sets silent back states last symbols entries (λ p trace. NoLeakBelow Weak p secret trace l)
     × ForEach table sets silent back states last symbols entries (λ p trace. Follows p states trace l then)
-    × ForEach table sets silent back states last symbols entries (λ p trace. NoLeakBelow Weak p secret trace l)
+    × (l ≤ last) × (last ≤ 15)
 
 abbrev μ-steps : tie.MeasureT-steps
 μ-steps table sets silent back states last symbols entries secret then₀ l₀ then l = last - l
@@ -52,10 +53,10 @@ abbrev μ-steps : tie.MeasureT-steps
 steps-holds : tie.Need-steps-holds Inv-states μ-states Inv-steps μ-steps
 steps-holds c =
     let a = c .before .before .before .before .before .before in (
+      λ p trace g m. below-start Weak p _ trace,
+      λ p trace g m. follows-start p _ trace,
       omega arith,
       omega (arith, a .pre .1, a .pre .0 .limits .few, a .pre .0 .sound .back),
-      λ p trace g m. follows-start p _ trace,
-      λ p trace g m. below-start Weak p _ trace,
     )
 
 -- One step, "m(l) ∈ 2^S" or not: the states of a part of m(l) are visited, and the first that is not secret ends the visit ('states)
@@ -75,9 +76,9 @@ tested : (u : tie.After-possible-states Inv-states μ-states Inv-steps μ-steps)
     → Tested p (begin u .args .header .secret) trace (length trace - u .before .steps .l) (u .possible-states .result)
 tested u p trace g m =
     let s = u .before .steps in
-    possible-tested p _ trace _ (s .l) _ _ _ (g .start) (s .inv .0) (remembers-inside p trace _ _ _ _ _ (s .inv .1) (g .near) m)
-    (u .possible-states .ensures p _ (g .start) (g .near .closed) (λ q i. g .near .inside (s .l) q (omega (arith, s .inv .0, s .inv .1)) i) (m .entries-are (s .l) (s .inv .0)))
-    (s .inv .2 p trace g m)
+    possible-tested p _ trace _ (s .l) _ _ _ (g .start) (s .inv .2) (remembers-inside p trace _ _ _ _ _ (s .inv .3) (g .near) m)
+    (u .possible-states .ensures p _ (g .start) (g .near .closed) (λ q i. g .near .inside (s .l) q (omega (arith, s .inv .2, s .inv .3)) i) (m .entries-are (s .l) (s .inv .2)))
+    (s .inv .1 p trace g m)
 
 -- the state that a turn of the inner loop visits
 pick : (c : tie.In-states Inv-states μ-states Inv-steps μ-steps)
@@ -116,7 +117,7 @@ clear c p trace g m =
 -- so that, with what was known below l, no step below l + 1 is a leak
 below-next : (c : tie.Else2 Inv-states μ-states Inv-steps μ-steps) (p : Automaton) (trace : List ℕ) → Good (c .before .before .before) p → Trace (c .before .before .before) p trace
     → NoLeakBelow Weak p (begin (c .before .before .before) .args .header .secret) trace (c .before .before .before .before .steps .l + 1)
-below-next c p trace g m = below-step Weak p _ trace _ (c .before .before .before .before .steps .inv .3 p trace g m) (clear c p trace g m)
+below-next c p trace g m = below-step Weak p _ trace _ (c .before .before .before .before .steps .inv .0 p trace g m) (clear c p trace g m)
 
 -- the events that show the symbol before
 showing : (c : tie.After-events-with Inv-states μ-states Inv-steps μ-steps) (p : Automaton) → Good (c .before .before .before .before .before) p
@@ -127,10 +128,10 @@ showing c p g = c .events-with .ensures p (g .symbols-small) (g .sets-are)
 steps-again : tie.Need-steps-again Inv-states μ-states Inv-steps μ-steps
 steps-again c =
     let s = c .before .before .before .before .before .before .before .steps in (
-      omega arith,
-      s .inv .1,
-      λ p trace g m. follows-step p _ trace _ _ _ _ _ m (omega arith) (c .backward-reach .ensures p _ _ _ (g .table-is) (showing (c .before) p g) (g .back-are) (λ q i. i) (s .inv .2 p trace g m)),
       below-next (c .before .before .before),
+      λ p trace g m. follows-step p _ trace _ _ _ _ _ m (omega arith) (c .backward-reach .ensures p _ _ _ (g .table-is) (showing (c .before) p g) (g .back-are) (λ q i. i) (s .inv .1 p trace g m)),
+      omega arith,
+      s .inv .3,
     )
 
 -- First exit, "leak_l where l = min{..}": m(l) ∈ 2^S, every state that was visited is secret; and l is the least because no step below it is a leak
@@ -141,9 +142,9 @@ returns c =
     let s = u .before .steps in
     let g = begin u .pre .0 .looks in
     record {
-      bounded = s .inv .0;
+      bounded = s .inv .2;
       exact = λ trace m.
-          below-leak Weak _ _ trace _ _ (s .inv .0) (m .reached) (s .inv .3 _ trace g m)
+          below-leak Weak _ _ trace _ _ (s .inv .2) (m .reached) (s .inv .0 _ trace g m)
           (tested-sure _ _ trace _ _ (tested u _ trace g m) (λ q i. pass-end _ _ _ (c .if2 .taken) (c .before .before .states .inv) q i));
     }
 

@@ -5,7 +5,7 @@
 -- Where the two differ: the proposition reads m(l) off a K-delay trajectory estimator, a set of state sequences. The estimator here keeps for each step
 -- the states right after its event, judged by the events up to it (`Remembers.entries-are`), and `then` has the states that the later events can follow
 -- (`Follows`). They meet in `DelayedEstimate`, the states at the positions of count n − l of compatible runs: m(l) is that by Proposition 3
--- (published/proofs/Estimators), and it is where unobservable transitions after that event lead, within `then` (`LookBack`: `possible-tested`).
+-- (published/proofs/Estimators), and it is where unobservable transitions after that event lead, within `then` (`LookBack`: `delayed-is`).
 -- Assumes nothing.
 use mathlib.Core.Path.{_≡_}
 use mathlib.Core.List.{List}
@@ -25,7 +25,7 @@ use Rattle.verifier.specs.declared.Notion.the-variants.{Weak}
 use Rattle.verifier.specs.Verdicts.{NoLeakBelow}
 use Rattle.verifier.specs.Inner.{Looks, Remembers}
 use Rattle.verifier.proofs.Passing.{Passed, pass-start, pass-turn, pass-end}
-use Rattle.verifier.proofs.LookBack.{ForEach, below-start, below-step, below-leak, below-last, Follows, follows-start, follows-step, remembers-inside, Tested, possible-tested, tested-sure, tested-clear}
+use Rattle.verifier.proofs.LookBack.{ForEach, below-start, below-step, below-leak, below-last, Follows, follows-start, follows-step, remembers-inside, delayed-is, Tested, possible-tested, tested-sure, tested-clear}
 use Rattle.verifier.proofs.weak_verdict.Statement.{statement}
 use Rattle.verifier.proofs.weak_verdict.Tie as tie
 
@@ -76,9 +76,9 @@ tested : (u : tie.After-possible-states Inv-states μ-states Inv-steps μ-steps)
     → Tested p (begin u .args .header .secret) trace (length trace - u .before .steps .l) (u .possible-states .result)
 tested u p trace g m =
     let s = u .before .steps in
-    possible-tested p _ trace _ (s .l) _ _ _ (g .start) (s .inv .2) (remembers-inside p trace _ _ _ _ _ (s .inv .3) (g .near) m)
+    possible-tested p _ trace (s .l) _ _
+    (delayed-is p trace _ (s .l) _ _ (g .start) (s .inv .2) (remembers-inside p trace _ _ _ _ _ (s .inv .3) (g .near) m) (s .inv .1 p trace g m))
     (u .possible-states .ensures p _ (g .start) (g .near .closed) (λ q i. g .near .inside (s .l) q (omega (arith, s .inv .2, s .inv .3)) i) (m .entries-are (s .l) (s .inv .2)))
-    (s .inv .1 p trace g m)
 
 -- the state that a turn of the inner loop visits
 pick : (c : tie.In-states Inv-states μ-states Inv-steps μ-steps)

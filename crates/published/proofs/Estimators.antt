@@ -8,19 +8,21 @@ use native.Mathlib.Omega.{arith}
 use native.Mathlib.Decide.{decLe, ℕ-discrete}
 use lib.ListN.{length, take, length-append}
 use lib.Seq.{take-length, length-take-le}
-use Rattle.automaton.specs.Run.{Automaton, Step, shows, shown, Compatible, Position, count, stateAt}
+use Rattle.automaton.specs.declared.Header.{Header}
+use Rattle.automaton.specs.Run.{Automaton, automatonOf, Step, shows, shown, Compatible, Position, count, stateAt}
 use Rattle.automaton.specs.Notion.{SureAt}
 use Rattle.automaton.specs.Reaching.{DelayedEstimate}
 use Rattle.automaton.proofs.Positions.{part-run, estimate-sure, sure-estimate}
 use Rattle.verifier.specs.declared.Notion.the-variants.{Weak}
 use Rattle.verifier.specs.Verdicts.{Steps, none, leak, LeakAt, Tells, Words, Exactly}
+use Rattle.verifier.specs.Replies.{Said}
 use Rattle.verifier.proofs.Exactness.{exactly}
-use Rattle.published.specs.Source.{Prefix, Trace, RightVerdict}
-use Rattle.published.specs.Estimators.{EstimateAt, estimatorAfter, Parts, StillAt, Within, Gamma}
+use Rattle.published.specs.Source.{Prefix, Trace, RightVerdict, SaysAfter}
+use Rattle.published.specs.Estimators.{EstimateAt, estimatorAfter, Parts, StillAt, Within, Gamma, SaysGamma}
 use Rattle.published.proofs.SourceLaws.{take-prefix, PositionAt, position-at, still-at, published}
 use Rattle.published.proofs.Corollary.{every-verdict}
-use Rattle.published.proofs.SoundVerdicts.{right-verdict}
-use Rattle.published.proofs.Trajectories.{lemma-1, lemma-2}
+use Rattle.published.proofs.SoundVerdicts.{right-verdict, definition-6}
+use Rattle.published.proofs.Trajectories.{trajectory-length, lemma-1, lemma-2}
 
 prefix-cons : (s s′ : Step) (b b′ : List Step) → s ≡ s′ → Prefix Step b b′ → Prefix Step (s ∷ b) (s′ ∷ b′)
 prefix-cons s s′ b b′ e x = record { rest = x .rest; joins = ap₂ (λ (y : Step) (l : List Step). y ∷ l) e (x .joins) }
@@ -120,6 +122,7 @@ module _ (p : Automaton) (K : ℕ) (μ : List ℕ) where
       record {
         trajectory = t .trajectory;
         belongs = t .belongs;
+        inside = omega (arith, trajectory-length p K μ (t .trajectory) (t .belongs));
         is = t .ends i h ∙ position-same p μ (x .run) (x .compatible) (x .position) (length μ - i) (sym (x .here)) (ℕ-discrete (length μ - i) (count p (x .position))) ∙ x .is;
       }
 
@@ -196,7 +199,8 @@ module _ (p : Automaton) (K : ℕ) (μ : List ℕ) where
     pub one-gamma : (γ : Steps) × ((w : Steps) → (γ ≡ w) ↔ Gamma (estimatorAfter p K μ) secret K w)
     one-gamma = let (v, tells) = every-verdict Weak p secret μ K in (v, verdict-gamma v tells)
 
-    -- Proposition 4: the verifier whose verdict after μ is Γ(δ_D(m_init, μ)) "is sound and complete w.r.t. G, P, S and the K-step weak opacity"
+    -- Proposition 4: the verifier whose verdict after μ is Γ(δ_D(m_init, μ)) "is sound and complete w.r.t. G, P, S and the K-step weak opacity". (The paper
+    -- goes from Proposition 3 to the leak sets; here m(k) is read as our delayed estimate, and 01's verdict, which is known to be right, as Γ's)
     pub proposition-4 : Trace p μ → (γ : Steps) → Gamma (estimatorAfter p K μ) secret K γ → RightVerdict Weak p secret K μ γ
     proposition-4 x γ gamma = go (every-verdict Weak p secret μ K)
       where
@@ -204,3 +208,23 @@ module _ (p : Automaton) (K : ℕ) (μ : List ℕ) where
         go (v, tells) =
             let e : v ≡ γ = verdict-gamma v tells γ .1 gamma in
             subst (RightVerdict Weak p secret K μ) e (right-verdict Weak p secret K μ v .0 (published p secret μ x Weak K v (exactly Weak p secret K μ v tells)))
+
+-- a trace has one right verdict
+one-right : (p : Automaton) (secret K : ℕ) (μ : List ℕ) (v w : Steps) → RightVerdict Weak p secret K μ v → RightVerdict Weak p secret K μ w → v ≡ w
+one-right p secret K μ v none x y = x .clear .1 (y .clear .0 refl)
+one-right p secret K μ v (leak l) x y = x .leaks l (y .domain l refl) .1 (y .leaks l (y .domain l refl) .0 refl)
+
+-- our verifier, offered the events of an observed trace one after another, says by the weak notion what Γ(δ_D(m_init, μ)) is
+pub verifier-gamma : (t : List ℕ) (h : Header) (μ : List ℕ) → Trace (automatonOf t h) μ → (r : Said) → SaysAfter t h μ r → SaysGamma t h μ r
+verifier-gamma t h μ x r says =
+    let p = automatonOf t h in
+    let right = definition-6 t h μ x r says in
+    let (γ, only) = one-gamma p (h .k) μ (h .secret) in
+    let gamma = only γ .0 refl in
+    let e : γ ≡ right .weak = one-right p (h .secret) (h .k) μ γ (right .weak) (proposition-4 p (h .k) μ (h .secret) x γ gamma) (right .weak-right) in
+    record {
+      weak = right .weak;
+      strong = right .strong;
+      said-is = right .said-is;
+      gamma = subst (Gamma (estimatorAfter p (h .k) μ) (h .secret) (h .k)) e gamma;
+    }

@@ -6,9 +6,11 @@ use mathlib.Core.List.{List, [], _∷_}
 use Prim.Native.Nat.{ℕ, suc, _+_, _-_, _≤_, _<_}
 use lib.ListN.{length, getD, take, replicate}
 use Rattle.stateset.specs.Set.{In}
-use Rattle.automaton.specs.Run.{Automaton, Step, Takes, endOf, shown, Compatible}
+use Rattle.automaton.specs.declared.Header.{Header}
+use Rattle.automaton.specs.Run.{Automaton, automatonOf, Step, Takes, endOf, shown, Compatible}
 use Rattle.automaton.specs.Reaching.{Arrives}
 use Rattle.verifier.specs.Verdicts.{Steps, none, leak}
+use Rattle.verifier.specs.Replies.{Said, verdicts}
 use Rattle.published.specs.Source.{Prefix, Still}
 
 -- "trajectory mapping": a set of trajectories, which are lists of states. The paper writes a trajectory oldest state first, (q_1, .., q_l). Here the newest
@@ -16,10 +18,11 @@ use Rattle.published.specs.Source.{Prefix, Still}
 abbrev pub Mapping : Type 1
 Mapping = List ℕ → Type 0
 
--- m(i), "the set of the (l − i)th" elements of the trajectories of m: some trajectory has q as its state i observations back
+-- m(i), "the set of the (l − i)th" elements of the trajectories of m: some trajectory has q as its state i observations back. Past its end it has none
 pub record EstimateAt (m : Mapping) (i q : ℕ) : Type 0 where
   pub trajectory : List ℕ
   pub belongs : m trajectory
+  pub inside : i < length trajectory
   pub is : getD trajectory i 0 ≡ q
 
 -- m ◂ m₂, "the shift operator", on trajectories of l = K + 1 states: (q_2, .., q_{l+1}) where (q_1, .., q_l) ∈ m and (q_l, q_{l+1}) ∈ m₂
@@ -53,7 +56,8 @@ abbrev pub estimatorAfter : Automaton → (K : ℕ) → List ℕ → Mapping
 estimatorAfter p K μ = mappingAfter p K (Initially p K) μ
 
 -- Lemmas 1 and 2 are about an execution sequence s = s′ · s_1 ⋯ s_n of ⟦μ⟧ with P(s_j) = σ_j. Here it is given by its parts: part 0 is s′, and part j is
--- s′ · s_1 ⋯ s_j, which shows the first j symbols of μ. (Where n > K the paper writes only the last K of the s_j and has the others in s′)
+-- s′ · s_1 ⋯ s_j, which shows the first j symbols of μ. (Where n > K the paper writes only the last K of the s_j and has the others in s′: that s′ has such
+-- parts too, since each execution sequence of ⟦μ⟧ has a prefix for each number of its symbols)
 pub record Parts (p : Automaton) (μ : List ℕ) (part : ℕ → List Step) : Type 0 where
   pub compatible : (j : ℕ) → j ≤ length μ → Compatible p (take j μ) (part j)
   pub begins : (j : ℕ) → j < length μ → Prefix Step (part j) (part (suc j))
@@ -89,3 +93,10 @@ Within m k secret = (q : ℕ) → EstimateAt m k q → In q secret
 abbrev pub Gamma : Mapping → (secret K : ℕ) → Steps → Type 0
 Gamma m secret K none = (k : ℕ) → k ≤ K → Within m k secret → ⊥
 Gamma m secret K (leak l) = (l ≤ K) × Within m l secret × ((k : ℕ) → k < l → Within m k secret → ⊥)
+
+-- our verifier's answer after the trace: a verdict by the weak notion, and it is Γ's
+pub record SaysGamma (t : List ℕ) (h : Header) (μ : List ℕ) (r : Said) : Type 0 where
+  pub weak : Steps
+  pub strong : Steps
+  pub said-is : r ≡ verdicts weak strong
+  pub gamma : Gamma (estimatorAfter (automatonOf t h) (h .k) μ) (h .secret) (h .k) weak

@@ -148,7 +148,8 @@ fn next_estimate(
 }
 
 // The possible states, those in which runs can be and that are in `then`: source 000's m(l), where `then` has the states that the last l symbols can
-// follow. One of them that is not secret is excuse enough: where one is right after the symbol, only such states are given, and nothing is closed.
+// follow. One that is not secret is excuse enough: where there is one right after the symbol, the states right after it are given alone, and nothing is
+// closed.
 fn possible_states(silent: &[u64], states: u64, entry: u64, then: u64, secret: u64) -> u64
     requires { ⌜ length (now silent) ≡ 64 ⌝ }
     ensures { λ r. ⌜ ((p : Automaton) (trace : List ℕ) → p .initial ≤ 63 → Closed p states (now (silent .entry)) → Sub entry states
@@ -161,9 +162,9 @@ fn possible_states(silent: &[u64], states: u64, entry: u64, then: u64, secret: u
     automaton::unobservable_reach(silent, states, entry) & then
 }
 
-// The least step back at which every possible state is secret. (01: "every moment of count n − l is in a secret state".) As source 000's Proposition 4
-// takes it: l from 0 upward, and the verdict is the first l for which all of m(l) is secret. Whenever the loop takes up a step, no smaller one is a leak
-// (`NoLeakBelow`).
+// The least step back at which every possible state is secret, none where there is no such step. (01: "every moment of count n − l is in a secret
+// state".) As source 000's Proposition 4 takes it: l from 0 upward, and leak l at the first l for which all of m(l), the possible states l steps back, are
+// secret. Whenever the loop takes up a step, no smaller one is a leak (`NoLeakBelow`).
 fn weak_verdict(
     estimator: Estimator,
     table: &[u64],
@@ -202,11 +203,12 @@ fn weak_verdict(
         }
         let shown = automaton::events_with(sets, symbols[at]);
         then = automaton::backward_reach(table, back, states, shown, then);
-        l += 1; // by one
+        l += 1; // no step below l is a leak
     }
 }
 
-// The least step back from which no run avoids the secret. (01: "every fitting run has a moment of count at least n − l in a secret state".)
+// The least step back from which no run avoids the secret. (01: "every fitting run has a moment of count at least n − l in a secret state".) In the
+// same order.
 fn strong_verdict(
     estimator: Estimator,
     table: &[u64],

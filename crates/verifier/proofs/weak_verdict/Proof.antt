@@ -1,11 +1,14 @@
 -- `verifier::weak_verdict` meets its contract, in the order of source document 000's Proposition 4: "noleak if ∀ k ∈ [0, K] : m(k) ∉ 2^S, leak_l where
--- l = min{k ∈ [0, K] | m(k) ∈ 2^S} otherwise". It takes the steps k = l from 0 upward, and so does the loop. At each step l that it takes up it knows
--- `NoLeakBelow`: for every m < l a compatible run with a position of count n − m that is not secret, so that no smaller step is a leak.
+-- l = min{k ∈ [0, K] | m(k) ∈ 2^S} otherwise". Its k is the loop's l, taken up from 0 upward. Whenever the loop takes up a step l, it knows `NoLeakBelow`:
+-- for every i < l a compatible run with a position of count n − i that is not secret, so that no smaller step is a leak.
 --
--- Where the two differ: the proposition reads m(l) off a K-delay trajectory estimator, a set of state sequences. The estimator here keeps for each step
--- the states right after its event, judged by the events up to it (`Remembers.entries-are`), and `then` has the states that the later events can follow
--- (`Follows`). They meet in `DelayedEstimate`, the states at the positions of count n − l of compatible runs: m(l) is that by Proposition 3
--- (published/proofs/Estimators), and it is where unobservable transitions after that event lead, within `then` (`LookBack`: `delayed-is`).
+-- Where the two differ, and how they meet:
+-- - The proposition reads m(l) off a K-delay trajectory estimator, a set of state sequences. Ours keeps for each step the states right after its event,
+--   judged by the events up to it (`Remembers.entries-are`), and `then` has the states that the later events can follow (`Follows`). They meet in
+--   `DelayedEstimate`, the states at the positions of count n − l of compatible runs: m(l) is that by Proposition 3 (published/proofs/Estimators:
+--   `estimator-delayed`), and it is where unobservable transitions after the step's event lead, within `then` (`LookBack`: `delayed-is`).
+-- - The proposition's k goes to K, the loop's l to `last`, which is K or n, whichever is less. For k past n, m(k) is m(n), since that estimator starts with
+--   its first state repeated (`estimator-delayed` too), so that no verdict is lost; from `last` to K: `Judging`: `tells-up`.
 -- Assumes nothing.
 use mathlib.Core.Path.{_≡_}
 use mathlib.Core.List.{List}
@@ -20,23 +23,16 @@ use Rattle.stateset.specs.Set.{In}
 use Rattle.stateset.proofs.Bits.{Taken, taken, in-test, bit-lt}
 use Rattle.automaton.specs.Run.{Automaton}
 use Rattle.automaton.specs.Notion.{ClearAt}
-use Rattle.automaton.specs.Reaching.{Showing}
+use Rattle.automaton.specs.Reaching.{DelayedEstimate, Showing}
 use Rattle.verifier.specs.declared.Notion.the-variants.{Weak}
 use Rattle.verifier.specs.Verdicts.{NoLeakBelow}
-use Rattle.verifier.specs.Inner.{Looks, Remembers}
+use Rattle.verifier.specs.Inner.{Looks, DecidedBy}
 use Rattle.verifier.proofs.Passing.{Passed, pass-start, pass-turn, pass-end}
-use Rattle.verifier.proofs.LookBack.{ForEach, below-start, below-step, below-leak, below-last, Follows, follows-start, follows-step, remembers-inside, delayed-is, Tested, possible-tested, tested-sure, tested-clear}
+use Rattle.verifier.proofs.LookBack.{ForEach, below-start, below-step, below-leak, below-last, Follows, follows-start, follows-step, remembers-inside, delayed-is, delayed-by, decided-sure, decided-clear}
 use Rattle.verifier.proofs.weak_verdict.Statement.{statement}
 use Rattle.verifier.proofs.weak_verdict.Tie as tie
 
 -- What the loops know
-
--- 'states: what is left of the tested part of m(l), and all else of it is secret
-abbrev Inv-states : tie.InvT-states
-Inv-states table sets silent back states last symbols entries secret then l at possible todo₀ todo = Passed possible secret todo
-
-abbrev μ-states : tie.MeasureT-states
-μ-states table sets silent back states last symbols entries secret then l at possible todo₀ todo = todo
 
 -- 'steps: no step below l is a leak, and `then` has the states that the last l events can follow
 abbrev Inv-steps : tie.InvT-steps
@@ -47,6 +43,13 @@ Inv-steps table sets silent back states last symbols entries secret then₀ l₀
 
 abbrev μ-steps : tie.MeasureT-steps
 μ-steps table sets silent back states last symbols entries secret then₀ l₀ then l = last - l
+
+-- 'states: what is left of the part of m(l) that is visited, and all else of it is secret
+abbrev Inv-states : tie.InvT-states
+Inv-states table sets silent back states last symbols entries secret then l at possible todo₀ todo = Passed possible secret todo
+
+abbrev μ-states : tie.MeasureT-states
+μ-states table sets silent back states last symbols entries secret then l at possible todo₀ todo = todo
 
 -- Start, "k ∈ [0, ..": the loop takes up step 0, and there is no smaller one
 
@@ -64,19 +67,23 @@ steps-holds c =
 abbrev begin : tie.After-possible-states Inv-states μ-states Inv-steps μ-steps → tie.Start Inv-states μ-states Inv-steps μ-steps
 begin u = u .before .before .before .before .before .before .before .before
 
+-- an automaton for which holds what was prepared for this call
 abbrev Good : tie.After-possible-states Inv-states μ-states Inv-steps μ-steps → Automaton → Type 0
 Good u p =
     Looks p (begin u .args .table .now) (begin u .args .sets .now) (begin u .args .estimator .entries) (begin u .args .silent .now) (begin u .args .back .now) (begin u .args .states)
 
-abbrev Trace : tie.After-possible-states Inv-states μ-states Inv-steps μ-steps → Automaton → List ℕ → Type 0
-Trace u p trace = Remembers p trace (begin u .args .last) (begin u .args .estimator .symbols) (begin u .args .estimator .entries)
+-- what holds for each of these and each trace that is remembered
+abbrev Each : tie.After-possible-states Inv-states μ-states Inv-steps μ-steps → (Automaton → List ℕ → Type 0) → Type 0
+Each u =
+    ForEach (begin u .args .table .now) (begin u .args .sets .now) (begin u .args .silent .now) (begin u .args .back .now) (begin u .args .states) (begin u .args .last)
+    (begin u .args .estimator .symbols) (begin u .args .estimator .entries)
 
 -- what is visited is a part of m(l) that decides
-tested : (u : tie.After-possible-states Inv-states μ-states Inv-steps μ-steps) (p : Automaton) (trace : List ℕ) → Good u p → Trace u p trace
-    → Tested p (begin u .args .header .secret) trace (length trace - u .before .steps .l) (u .possible-states .result)
+tested : (u : tie.After-possible-states Inv-states μ-states Inv-steps μ-steps)
+    → Each u (λ p trace. DecidedBy (begin u .args .header .secret) (DelayedEstimate p trace (length trace - u .before .steps .l)) (u .possible-states .result))
 tested u p trace g m =
     let s = u .before .steps in
-    possible-tested p _ trace (s .l) _ _
+    delayed-by p _ trace (s .l) _ _
     (delayed-is p trace _ (s .l) _ _ (g .start) (s .inv .2) (remembers-inside p trace _ _ _ _ _ (s .inv .3) (g .near) m) (s .inv .1 p trace g m))
     (u .possible-states .ensures p _ (g .start) (g .near .closed) (λ q i. g .near .inside (s .l) q (omega (arith, s .inv .2, s .inv .3)) i) (m .entries-are (s .l) (s .inv .2)))
 
@@ -101,8 +108,8 @@ states-again c =
     pass-turn _ _ _ q _ (pick (c .before)) (one q (begin (c .before .before .before) .args .header .secret) (c .if1 .left)) (c .before .before .states .inv)
 
 -- "m(l) ∉ 2^S": the state at which the visit ended is not secret, and a run through it excuses the system
-clear : (c : tie.Else2 Inv-states μ-states Inv-steps μ-steps) (p : Automaton) (trace : List ℕ) → Good (c .before .before .before) p → Trace (c .before .before .before) p trace
-    → ClearAt p (begin (c .before .before .before) .args .header .secret) trace (length trace - c .before .before .before .before .steps .l)
+clear : (c : tie.Else2 Inv-states μ-states Inv-steps μ-steps)
+    → Each (c .before .before .before) (λ p trace. ClearAt p (begin (c .before .before .before) .args .header .secret) trace (length trace - c .before .before .before .before .steps .l))
 clear c p trace g m =
     let u = c .before .before .before in
     let w = c .before .before .states .todo in
@@ -110,13 +117,13 @@ clear c p trace g m =
     (λ w. absurd (omega arith))
     (λ v.
     let t = taken w (omega arith) (c .before .before .states .inv .small) in
-    tested-clear _ _ trace _ _ (tested u p trace g m) (trailingZeros 64 w) (c .before .before .states .inv .kept (trailingZeros 64 w) (t .inside))
+    decided-clear _ _ trace _ _ (tested u p trace g m) (trailingZeros 64 w) (c .before .before .states .inv .kept (trailingZeros 64 w) (t .inside))
     (λ i. omega (arith, in-test (trailingZeros 64 w) (begin u .args .header .secret), v .1 .taken)))
     (c .before .states-test .came)
 
 -- so that, with what was known below l, no step below l + 1 is a leak
-below-next : (c : tie.Else2 Inv-states μ-states Inv-steps μ-steps) (p : Automaton) (trace : List ℕ) → Good (c .before .before .before) p → Trace (c .before .before .before) p trace
-    → NoLeakBelow Weak p (begin (c .before .before .before) .args .header .secret) trace (c .before .before .before .before .steps .l + 1)
+below-next : (c : tie.Else2 Inv-states μ-states Inv-steps μ-steps)
+    → Each (c .before .before .before) (λ p trace. NoLeakBelow Weak p (begin (c .before .before .before) .args .header .secret) trace (c .before .before .before .before .steps .l + 1))
 below-next c p trace g m = below-step Weak p _ trace _ (c .before .before .before .before .steps .inv .0 p trace g m) (clear c p trace g m)
 
 -- the events that show the symbol before
@@ -145,17 +152,18 @@ returns c =
       bounded = s .inv .2;
       exact = λ trace m.
           below-leak Weak _ _ trace _ _ (s .inv .2) (m .reached) (s .inv .0 _ trace g m)
-          (tested-sure _ _ trace _ _ (tested u _ trace g m) (λ q i. pass-end _ _ _ (c .if2 .taken) (c .before .before .states .inv) q i));
+          (decided-sure _ _ trace _ _ (tested u _ trace g m) (λ q i. pass-end _ _ _ (c .if2 .taken) (c .before .before .states .inv) q i));
     }
 
--- Second exit, "noleak if ∀ k ∈ [0, K] : m(k) ∉ 2^S": step l is the last one, K or n, and no leak, so that no step below l + 1 is one
+-- Second exit, "noleak if ∀ k ∈ [0, K] : m(k) ∉ 2^S": step l is the last one, K or n (and m(k) for k past n is m(n)), and no leak, so that no step below
+-- l + 1 is one
 
 returns-2 : tie.Need-returns-2 Inv-states μ-states Inv-steps μ-steps
 returns-2 c =
     let g = begin (c .before .before .before .before) .pre .0 .looks in
     record {
       bounded = tt;
-      exact = λ trace m. below-last Weak _ _ trace _ _ (c .if3 .taken) (below-next (c .before) _ trace g m);
+      exact = λ trace m. below-last Weak _ _ trace _ _ (omega arith) (below-next (c .before) _ trace g m);
     }
 
 -- What else is asked: numbers that fit, indices, what is called, and that the loops end

@@ -1,7 +1,7 @@
 -- By which numbers the layout refuses: 1, 3, 4, 5 and 12. For a number x that is none of them, or none of those of a part. Assumes nothing.
 use Prim.Native.Nat.{ℕ, zero, suc, _+_, _-_}
-use mathlib.Core.Path.{_≡_}
-use mathlib.Core.Bool.{not, _&&_}
+use mathlib.Core.Path.{_≡_, refl, ap, sym, _∙_}
+use mathlib.Core.Bool.{Bool, true, false, not, _&&_, _||_, false≢true}
 use mathlib.Core.List.{List}
 use native.Mathlib.Omega.{arith}
 use lib.Dec.{leb, ltb, eqb}
@@ -12,19 +12,20 @@ use Rattle.bitfields.proofs.Parsing.{Never, never-then, never-demand, never-fie
 use Rattle.encoding.specs.Transitions.{listed}
 use Rattle.encoding.specs.Encoding.{encoding, ending, fixed, front, symbols, symbolCount, preamble, transition, transitions}
 
--- x is none of the numbers by which a part other than the repeats refuses
-pub record Outside (x : ℕ) : Type 0 where
-  pub bits-end : 1 ≡ x → ⊥
-  pub state : 3 ≡ x → ⊥
-  pub event : 4 ≡ x → ⊥
-  pub trailing : 5 ≡ x → ⊥
+-- the numbers by which a part other than the repeats refuses, as one test
+abbrev refusing : ℕ → Bool
+refusing x = eqb x 1 || eqb x 3 || eqb x 4 || eqb x 5
 
-module _ (x : ℕ) (other : Outside x) (bits : List ℕ) where
+module _ (x : ℕ) (other : refusing x ≡ false) (bits : List ℕ) where
+  -- x is none of them
+  apart : (n : ℕ) → refusing n ≡ true → n ≡ x → ⊥
+  apart n is e = false≢true (sym other ∙ ap refusing (sym e) ∙ is)
+
   one-field : (w at : ℕ) → Never x (field w bits at)
-  one-field w at = never-field x w bits at (other .bits-end)
+  one-field w at = never-field x w bits at (apart 1 refl)
 
   some-flags : (n at : ℕ) → Never x (flags n bits at)
-  some-flags n at = never-flags x n bits at (other .bits-end)
+  some-flags n at = never-flags x n bits at (apart 1 refl)
 
   fixed-never : (at : ℕ) → Never x (fixed bits at)
   unfolding fixed
@@ -33,7 +34,7 @@ module _ (x : ℕ) (other : Outside x) (bits : List ℕ) where
       never-then x (field 5 bits n1) _ (one-field 5 n1) λ topevent n2.
       never-then x (field 4 bits n2) _ (one-field 4 n2) λ k n3.
       never-then x (field 6 bits n3) _ (one-field 6 n3) λ initial n4.
-      never-then x (demand (leb initial topstate) 3 bits n4) _ (never-demand x (leb initial topstate) 3 bits n4 (other .state)) λ u5 n5.
+      never-then x (demand (leb initial topstate) 3 bits n4) _ (never-demand x (leb initial topstate) 3 bits n4 (apart 3 refl)) λ u5 n5.
       never-then x (field 10 bits n5) _ (one-field 10 n5) λ count n6.
       never-then x (field 1 bits n6) _ (one-field 1 n6) λ symbols n7. tt
 
@@ -60,17 +61,17 @@ module _ (x : ℕ) (other : Outside x) (bits : List ℕ) where
   pub transition-never : (s e at : ℕ) → Never x (transition s e bits at)
   unfolding transition
   transition-never s e at =
-      let state : 3 ≡ x → ⊥ = other .state in
+      let state : 3 ≡ x → ⊥ = apart 3 refl in
       never-then x (field 6 bits at) _ (one-field 6 at) λ from n1.
       never-then x (demand (leb from s) 3 bits n1) _ (never-demand x (leb from s) 3 bits n1 state) λ u2 n2.
       never-then x (field 5 bits n2) _ (one-field 5 n2) λ event n3.
-      never-then x (demand (leb event e) 4 bits n3) _ (never-demand x (leb event e) 4 bits n3 (other .event)) λ u4 n4.
+      never-then x (demand (leb event e) 4 bits n3) _ (never-demand x (leb event e) 4 bits n3 (apart 4 refl)) λ u4 n4.
       never-then x (field 6 bits n4) _ (one-field 6 n4) λ to n5.
       never-then x (demand (leb to s) 3 bits n5) _ (never-demand x (leb to s) 3 bits n5 state) λ u6 n6. tt
 
   pub ending-never : (at : ℕ) → Never x (ending bits at)
   unfolding ending
-  ending-never at = never-demand x (ltb (length bits - at) 8 && eqb (numberAt bits at (length bits - at)) 0) 5 bits at (other .trailing)
+  ending-never at = never-demand x (ltb (length bits - at) 8 && eqb (numberAt bits at (length bits - at)) 0) 5 bits at (apart 5 refl)
 
   module _ (unrepeated : 12 ≡ x → ⊥) where
     transitions-never : (s e n at : ℕ) → Never x (transitions s e n bits at)
@@ -91,4 +92,4 @@ module _ (x : ℕ) (other : Outside x) (bits : List ℕ) where
 
 -- REFUSAL 2 NO LONGER OCCURS (02, S-2)
 pub never-two : (bits : List ℕ) → Never 2 (encoding bits 0)
-never-two bits = encoding-never 2 (record { bits-end = λ e. omega arith; state = λ e. omega arith; event = λ e. omega arith; trailing = λ e. omega arith }) bits (λ e. omega arith) 0
+never-two bits = encoding-never 2 refl bits (λ e. omega arith) 0

@@ -11,7 +11,7 @@ use Rattle.encoding.specs.Transitions.{Transition, listed}
 use Rattle.encoding.specs.Encoding.{Encoding, encoding, ending, Preamble, preamble, transition, transitions}
 use Rattle.encoding.specs.Repeats.{Again, Repeats}
 use Rattle.encoding.proofs.Ended.{transitions-repeated, transitions-stop}
-use Rattle.encoding.proofs.Refusing.{Outside, preamble-never, transition-never, ending-never}
+use Rattle.encoding.proofs.Refusing.{preamble-never, transition-never, ending-never}
 
 -- A REPEAT IS REFUSED WHERE IT STANDS, whatever follows: the encoding may be cut behind it or go astray
 pub repeat-refused : (bits : List ℕ) → Repeats bits → encoding bits 0 ≡ refused 12
@@ -21,9 +21,6 @@ repeat-refused bits r =
     let a = r .again in
     let x = transitions-repeated (f .topstate) (f .topevent) bits (r .start) (a .number) (a .earlier-read) (a .last-read) (a .repeat) in
     rw (r .preamble-read, transitions-stop (f .topstate) (f .topevent) bits (r .start) (a .number) x (f .count) (a .fewer))
-
-outside : Outside 12
-outside = record { bits-end = λ e. omega arith; state = λ e. omega arith; event = λ e. omega arith; trailing = λ e. omega arith }
 
 demanded : (b : Bool) (ts : List Transition) (bits : List ℕ) (at : ℕ) → _>>_ (demand (not b) 12) (give ts) bits at ≡ refused 12 → b ≡ true
 demanded true ts bits at r = refl
@@ -51,7 +48,7 @@ transitions-again s e (suc n) bits at r = go (transitions s e n bits at) refl (t
           repeat = a .repeat;
         }
     go (done earlier p) is before r =
-        on-refused 12 (transition s e bits p) _ (transition-never 12 outside bits s e p) r λ last next e2 r2.
+        on-refused 12 (transition s e bits p) _ (transition-never 12 refl bits s e p) r λ last next e2 r2.
         record {
           number = n;
           fewer = omega arith;
@@ -70,14 +67,14 @@ same-number {x = x} e = let n : x ≡ 12 = cc in ap refused n
 behind : (bits : List ℕ) (f : Preamble) (start : ℕ) → preamble bits 0 ≡ done f start
     → (p : Parsed (List Transition)) → transitions (f .front .fixed .topstate) (f .front .fixed .topevent) (f .front .fixed .count) bits start ≡ p
     → _≡_ {A = Parsed Encoding} (andThen p (λ ts next. _>>_ ending (give (record { front = f .front; symbols = f .symbols; transitions = ts })) bits next)) (refused 12) → Repeats bits
-behind bits f start e1 (done ts p) is r = on-refused 12 (ending bits p) _ (ending-never 12 outside bits p) r λ u next e2 r2. let z : _≡_ {A = ℕ} 0 1 = cc in absurd (omega arith)
+behind bits f start e1 (done ts p) is r = on-refused 12 (ending bits p) _ (ending-never 12 refl bits p) r λ u next e2 r2. let z : _≡_ {A = ℕ} 0 1 = cc in absurd (omega arith)
 behind bits f start e1 (refused x) is r =
     record { read = f; start = start; preamble-read = e1; again = transitions-again (f .front .fixed .topstate) (f .front .fixed .topevent) (f .front .fixed .count) bits start (is ∙ same-number r) }
 
 repeats : (bits : List ℕ) → encoding bits 0 ≡ refused 12 → Repeats bits
 unfolding encoding
 repeats bits r =
-    on-refused 12 (preamble bits 0) _ (preamble-never 12 outside bits 0) r λ f start e1 r1.
+    on-refused 12 (preamble bits 0) _ (preamble-never 12 refl bits 0) r λ f start e1 r1.
     behind bits f start e1 (transitions (f .front .fixed .topstate) (f .front .fixed .topevent) (f .front .fixed .count) bits start) refl r1
 
 -- 12 EXACTLY WHERE AN ENCODING REPEATS A TRANSITION

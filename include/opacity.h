@@ -35,7 +35,6 @@
  *                                      above 31, the notion above 1, or a saved state is outside
  *                                      its limits                                                    all
  *   10   OPACITY_OUTPUT_TOO_SMALL      the output has fewer than 17 bytes                            offer
- *   11   OPACITY_EMPTY_LOG             a log without events; no function here answers it
  *   12   OPACITY_REPEATED_TRANSITION   a transition is listed a second time                          decode
  *
  * Table: 2,048 words. Word 64 * event + state is the set of the states that the event may lead to; bit q, counted from the least significant, is
@@ -96,7 +95,6 @@
 #define OPACITY_INITIAL_LEAK 8
 #define OPACITY_MALFORMED 9
 #define OPACITY_OUTPUT_TOO_SMALL 10
-#define OPACITY_EMPTY_LOG 11
 #define OPACITY_REPEATED_TRANSITION 12
 
 #ifdef __cplusplus

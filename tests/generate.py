@@ -137,11 +137,6 @@ def cut(rng, automaton, offered):
     return log[: rng.randrange(len(log) + 1)]
 
 
-def nothing_offered(rng, automaton, offered):
-    """No byte follows."""
-    return with_length(encoded(automaton), b"")
-
-
 def symbol_bit(rng, automaton, offered):
     """The bit that says whether symbols follow says the opposite."""
     return with_length(encoded(automaton, listed=int(automaton.symbols is None)), offered)
@@ -253,7 +248,6 @@ def any_bytes(rng, automaton, offered):
 
 DAMAGES = (
     cut,
-    nothing_offered,
     symbol_bit,
     cut_symbols,
     wrong_count,
@@ -270,8 +264,22 @@ DAMAGES = (
 )
 
 
+def idle_log(rng):
+    """A log without event bytes. Of the automata with an unobservable event half start in a secret state that may be left unobserved, for any other."""
+    automaton = random_automaton(rng)
+    unobservable = [e for e in range(automaton.top_event + 1) if e not in automaton.observable]
+    if unobservable and rng.random() < 0.5:
+        first, tops = automaton.initial, (automaton.top_state, automaton.top_event)
+        leaving = first, rng.choice(unobservable), rng.randrange(automaton.top_state + 1)
+        transitions = list(dict.fromkeys([*automaton.transitions, leaving]))
+        automaton = Automaton(*tops, automaton.k, first, automaton.secret | {first}, automaton.observable, transitions, automaton.symbols)
+    return with_length(encoded(automaton), b"")
+
+
 def random_log(rng):
-    """The bytes of a log, and what the log program prints for them."""
+    """The bytes of a log, and what the log program prints for them. A tenth of them is idle."""
+    if rng.random() < 0.1:
+        return cut_to_size(idle_log(rng))
     automaton = random_automaton(rng)
     offered = random_offers(rng, automaton, rng.choice((1, 2, 3, 4, 5, 6, 6, 8, 12, 24, 40)))
     log = with_length(encoded(automaton), offered)

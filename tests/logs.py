@@ -4,7 +4,7 @@ from runs import Automaton, Listing
 
 TRUNCATED = 1
 STATE, EVENT, TRAILING, NOT_OBSERVABLE, INCOMPATIBLE, INITIAL_LEAK = range(3, 9)
-EMPTY_LOG, REPEATED = 11, 12
+REPEATED = 12
 
 
 class Refused(Exception):
@@ -96,11 +96,9 @@ def opened(log):
     length = 256 * log[0] + log[1]
     demand(2 + length <= len(log), TRUNCATED)
     automaton = decoded(log[2 : 2 + length])
-    offered = log[2 + length :]
-    demand(offered, EMPTY_LOG)
     listing = Listing(automaton)
     demand(listing.weak() is None, INITIAL_LEAK)
-    return listing, offered
+    return listing, log[2 + length :]
 
 
 def steps(verdict):
@@ -127,6 +125,8 @@ def output(log):
     except Refused as refused:
         return f"refused {refused.args[0]}\n"
     lines, released = [], 0
+    if not offered:
+        lines.append(f"0 - {steps(listing.weak())} {steps(listing.strong())} -")
     for byte in offered:
         line, released = offer_line(listing, released, byte)
         lines.append(line)

@@ -107,6 +107,23 @@ def near_repeats():
         yield with_length(encoded(Automaton(63, 31, 1, 22, {37}, {13, 12, 15}, transitions)), bytes((13, 12, 15)))
 
 
+def idle():
+    """Logs without event bytes, with encodings from 7 to 26 bytes and with the longest, so that the last read brings one byte, two or three.
+    The initial state is secret and can be left unobserved for a state that is not (strong leak 0), for one that is (refused), or not at all
+    (refused); or it is not secret, and an unobservable transition leads to a secret state (none). With K 0, 1 and 15."""
+    for others in range(9):
+        ring = [(q + 1, 1, q + 2) for q in range(others)]
+        for k in (0, 1, 15):
+            for secret, leaving in (({0}, [(0, 0, 1)]), ({0, 1}, [(0, 0, 1)]), ({0}, [(0, 1, 1)]), ({1}, [(0, 0, 1)])):
+                automaton = Automaton(others + 1, 1, k, 0, secret, {1}, leaving + ring)
+                yield with_length(encoded(automaton), b"")
+                yield with_length(encoded(with_symbols(automaton, [0, others])), b"")
+    observable = [transition for transition in many_transitions(random.Random("idle"), 1100) if transition[1] != 0]
+    longest = encoded(Automaton(63, 31, 15, 5, {5}, set(range(1, 32)), observable[:1022] + [(5, 0, 6)], range(32)))
+    assert len(longest) == 2210
+    yield with_length(longest, b"")
+
+
 def logs():
     """The logs of the sample."""
     for automaton, offered, _ in EXAMPLES:
@@ -122,6 +139,7 @@ def logs():
     yield from repeats()
     yield from far_repeats()
     yield from near_repeats()
+    yield from idle()
     for i in range(RANDOM):
         yield random_log(random.Random(f"{SEED} {i}"))[0]
 

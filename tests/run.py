@@ -29,6 +29,11 @@ def long_log(rng):
     return log, output(log)
 
 
+def has_no_event(log):
+    """Whether a log ends right behind its encoding."""
+    return 2 <= len(log) == 2 + 256 * log[0] + log[1]
+
+
 def printed(program, log):
     """What the program prints for a log, and its exit status."""
     done = subprocess.run([program], input=log, stdout=subprocess.PIPE, stderr=subprocess.PIPE, timeout=60, check=False)
@@ -63,25 +68,36 @@ def line_of(process, seconds=5):
     return line.decode("ascii", "replace")
 
 
+def live_lines(process, automaton, offered, lines):
+    """The bytes of a log one by one, with its lines. Says what is wrong, or nothing."""
+    for byte in with_length(encoded(automaton), b""):
+        process.stdin.write(bytes([byte]))
+        time.sleep(0.0005)
+    if lines[0].startswith("refused"):
+        return None if line_of(process) == lines[0] else "live feed: a refused log does not say so at once"
+    if not offered and line_of(process, 0.05):
+        return "live feed: a log is called idle before its end"
+    for byte, line in zip(offered, lines):
+        process.stdin.write(bytes([byte]))
+        got = line_of(process)
+        if got != line:
+            return f"live feed, byte {byte}: expected {line!r}, printed {got!r}"
+    process.stdin.close()
+    for line in lines[len(offered) :]:
+        if line_of(process) != line:
+            return "live feed: the last lines are not as expected"
+    return None
+
+
 def live_feed(program):
-    """A live feed of each example, byte by byte: a symbol's line comes before the next symbol. Says what is wrong, or nothing."""
+    """A live feed of each example, byte by byte: a symbol's line comes before the next symbol, and of a log that is refused for its encoding or its
+    opening the line comes before any symbol. Says what is wrong, or nothing."""
     for automaton, offered, expected in EXAMPLES:
-        lines = expected.splitlines(keepends=True)
-        if not offered or lines[0].startswith("refused"):
-            continue
         with subprocess.Popen([program], stdin=subprocess.PIPE, stdout=subprocess.PIPE, bufsize=0) as process:
-            for byte in with_length(encoded(automaton), b""):
-                process.stdin.write(bytes([byte]))
-                time.sleep(0.0005)
-            for byte, line in zip(offered, lines):
-                process.stdin.write(bytes([byte]))
-                got = line_of(process)
-                if got != line:
-                    process.kill()
-                    return f"live feed, byte {byte}: expected {line!r}, printed {got!r}"
-            process.stdin.close()
-            if line_of(process) != lines[-1]:
-                return "live feed: the last line is not as expected"
+            wrong = live_lines(process, automaton, offered, expected.splitlines(keepends=True))
+            process.kill()
+            if wrong:
+                return wrong
     return None
 
 
@@ -133,7 +149,7 @@ def main():
     if found:
         print(found)
         return 1
-    lines = 0
+    lines = idle = 0
     for i in range(-1, chosen.count):
         rng = random.Random(f"{chosen.seed} {i}")
         log, expected = long_log(rng) if i == -1 else random_log(rng)
@@ -142,7 +158,9 @@ def main():
             print(f"seed {chosen.seed}, log {i}: mismatch\n{found}")
             return 1
         lines += expected.count("\n")
-    print(f"seed {chosen.seed}: {chosen.count} random logs and a long one, {lines} lines, 0 mismatches; a live feed, failures and repeats as expected")
+        idle += has_no_event(log)
+    logs = f"{chosen.count} random logs, {idle} without events, and a long one"
+    print(f"seed {chosen.seed}: {logs}, {lines} lines, 0 mismatches; a live feed, failures and repeats as expected")
     return 0
 
 

@@ -4,6 +4,7 @@
 run as its list of transitions; and automata with symbols against automata without, whose events are the symbols.
 """
 
+import pathlib
 import random
 import sys
 
@@ -26,6 +27,13 @@ def test_examples():
         listing = Listing(automaton)
         assert (listing.weak(), listing.strong()) == (weak, strong)
         assert (listing.weak_safe(0), listing.strong_safe(0)) == (weak_safe, strong_safe)
+
+
+def test_programs():
+    """The stored runs of the log program, 01's listing and 02's idle log, written by hand from their words."""
+    for name in ("opacity_log", "idle_log"):
+        folder = pathlib.Path(__file__).resolve().parent.parent / "crates" / name
+        assert output((folder / "stdin").read_bytes()) == (folder / "stdout").read_text("ascii"), name
 
 
 def test_repeats():
@@ -218,6 +226,7 @@ def test_meaning(count, seed):
 
 if __name__ == "__main__":
     test_examples()
+    test_programs()
     test_repeats()
     test_symbols()
     test_saved()

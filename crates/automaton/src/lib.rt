@@ -36,7 +36,6 @@ pub enum Refusal {
     InitialLeak,
     Malformed,
     OutputTooSmall,
-    EmptyLog,
     RepeatedTransition,
 }
 
@@ -54,7 +53,6 @@ pub fn number(refusal: Refusal) -> u8
         Refusal::InitialLeak => 8,
         Refusal::Malformed => 9,
         Refusal::OutputTooSmall => 10,
-        Refusal::EmptyLog => 11,
         Refusal::RepeatedTransition => 12,
     }
 }

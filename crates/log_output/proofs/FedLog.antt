@@ -10,12 +10,13 @@ use lib.Seq.{sets, drop-append-le, take-length, drop-length, take-append-le, tak
 use Rattle.automaton.specs.Refusals.{numberOf}
 use Rattle.automaton.specs.declared.Header.{Header}
 use Rattle.automaton.specs.declared.Refusal.{Refusal}
-use Rattle.report.specs.Text.{refusedLog, endLine}
-use Rattle.report.specs.Writing.{roomFor, Written, no-room, written}
+use Rattle.report.specs.Text.{refusedLog}
+use Rattle.report.specs.Writing.{roomFor, roomAtEnd, Written, no-room, written}
 use Rattle.report.specs.declared.Line.{Line}
 use Rattle.monitor.specs.Stepping.{Within, Lines, done, placeOf}
 use Rattle.monitor.specs.Opening as opening
 use Rattle.monitor.specs.Opening.{refused, started, frontSize, Opening}
+use Rattle.monitor.specs.Ending.{lastLines}
 use Rattle.monitor.specs.Log.{Output}
 use Rattle.monitor.specs.declared.Monitor.{Monitor}
 use Rattle.monitor.specs.Running as running
@@ -230,7 +231,7 @@ last-of {r = r} {out = out} gone kept room not (emptied full l) =
 last-of gone kept room not (closed full) = absurd (not refl)
 
 print-last : {input out out′ : List ℕ} {at : ℕ} {line : Line} (gone text end : List ℕ) → gone ++ take at out ≡ text → at + 256 ≤ length out → Output input (text ++ end)
-    → Written (roomFor 0) out at end line out′ → HasPrinted input out′ (placeOf line 0)
+    → Written roomAtEnd out at end line out′ → HasPrinted input out′ (placeOf line 0)
 print-last gone text end kept room o (no-room full) = absurd (full (omega arith))
 print-last {input} {out} {at = at} gone text end kept room o (written space fit) =
     let all-of : gone ++ take (at + length end) (sets out at end) ≡ text ++ end =
@@ -243,8 +244,8 @@ pub read-log : {input t out out₁ out₂ : List ℕ} {h : Header} {m : Monitor}
 read-log {input} {t} {out} {out₁} {out₂} {h} {m} {n} {r} o x room ended e not =
     let l = last-of (x .gone) (x .kept) room not (e .roomy) in
     let all-lines = lines-output o (take-append-drop (x .taken) (drop n input)) (x .lines) (x .few) (why (r .status) r (x .taken) (drop n input) ended (x .left)) in
-    print-last (l .gone) (x .text) (endLine (e .last .monitor .accepted) (e .last .monitor .released) (e .last .monitor .enforcer .count)) (l .kept) (l .room)
-    (subst (λ (k : Monitor). Output input (x .text ++ endLine (k .accepted) (k .released) (k .enforcer .count))) (sym (l .monitor)) all-lines) (e .written not .put)
+    print-last (l .gone) (x .text) (lastLines (e .last .monitor)) (l .kept) (l .room)
+    (subst (λ (k : Monitor). Output input (x .text ++ lastLines k)) (sym (l .monitor)) all-lines) (e .written not .put)
 
 -- a log that has started, however the input was cut into reads: it was read on and ended, and the output took all
 fed-log : {first input t out out₁ out₂ out₃ : List ℕ} {h : Header} {m : Monitor} {n limit : ℕ} {p : Progress} {s : Rest} (f : Front first input) → Opening first (started n) t h m
@@ -279,8 +280,8 @@ full (free l) e c = λ h. let z : _≡_ {A = ℕ} 0 1 = cc in omega arith
 full (emptied less l) e c = less
 full (closed less) e c = less
 
-opened-event : {first t : List ℕ} {h : Header} {m : Monitor} {n : ℕ} → Opening first (started n) t h m → frontSize first < length first
-opened-event (opening.opened event decodes fresh) = event
+opened-whole : {first t : List ℕ} {h : Header} {m : Monitor} {n : ℕ} → Opening first (started n) t h m → frontSize first ≤ length first
+opened-whole (opening.opened there decodes fresh) = there
 
 module _ {first out : List ℕ} {size : ℕ} {out′ : List ℕ} {over : ℕ} (r : Ran first out size out′ over) (room : 256 ≤ length out) where
   -- the last line was put, or the output took no more
@@ -291,7 +292,7 @@ module _ {first out : List ℕ} {size : ℕ} {out′ : List ℕ} {over : ℕ} (r
     where
       go : (e .last .status ≡ Closed) ⊎ (e .last .status ≡ Closed → ⊥) → LeftBehind r
       go (inl is) = no-last (full (e .roomy) ended is) (e .closed is)
-      go (inr not) = whole e not (fed-log (record { later = r .fed .bytes; splits = refl; enough = inl (opened-event o) }) o room a (r .fed .feeding) ended e not)
+      go (inr not) = whole e not (fed-log (record { later = r .fed .bytes; splits = refl; enough = inl (opened-whole o) }) o room a (r .fed .feeding) ended e not)
 
   opened-behind : {n : ℕ} {m : Monitor} → Opening first (started n) (r .begun .table) (r .begun .header) m
       → Followed (r .begun .table) (r .begun .header) (begun m) (drop n first) out (r .begun .progress) (r .out₁)

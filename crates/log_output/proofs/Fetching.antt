@@ -63,9 +63,9 @@ is-there size left most (fetched.Bytes n) f h = omega (arith, f .1)
 is-there size left most fetched.End f h = tt
 is-there size left most fetched.Failed f h = tt
 
--- the first bytes have an event among them
-pub opens-by : (input : List ℕ) (n : ℕ) (b : Bool) → n ≤ length input → b ≡ true → Decided b (frontSize (take (n - 0) input) < length (take (n - 0) input))
-    → frontSize (take n input) < n
+-- the first bytes have the encoding whole
+pub opens-by : (input : List ℕ) (n : ℕ) (b : Bool) → n ≤ length input → b ≡ true → Decided b (frontSize (take (n - 0) input) ≤ length (take (n - 0) input))
+    → frontSize (take n input) ≤ n
 opens-by input n b h e d = let z : n - 0 ≡ n = omega arith in let f = rw z at (holds b e d) in omega (arith, length-take-le n input h)
 
 -- the part of the input from its start on

@@ -90,9 +90,9 @@ gatheredBy (fetched.Bytes n) have = gathered.Bytes (have + n)
 gatheredBy fetched.End have = gathered.All have
 gatheredBy fetched.Failed have = gathered.Failed
 
--- the first bytes of a log: enough to open it, as `has_event` tests them, or as many as there is space for; or all that the input had; or a read failed
+-- the first bytes of a log: enough to open it, as `has_encoding` tests them, or as many as there is space for; or all that the input had; or a read failed
 abbrev pub UpTo : (input : List ℕ) (size : ℕ) → Gathered → Type 0
-UpTo input size (gathered.Bytes n) = (n ≤ length input) × (n ≤ size) × ((frontSize (take n input) < n) ⊎ (n ≡ length input))
+UpTo input size (gathered.Bytes n) = (n ≤ length input) × (n ≤ size) × ((frontSize (take n input) ≤ n) ⊎ (n ≡ length input))
 UpTo input size (gathered.All n) = (n ≤ length input) × (n ≤ size)
 UpTo input size gathered.Failed = Unit {0}
 

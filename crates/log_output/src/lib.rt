@@ -228,7 +228,7 @@ fn start(log: &[u8], out: &mut [u8]) -> Monitored
     }
 }
 
-// The last line, unless the output takes no more: what could not be written out is not written once more.
+// The last lines, unless the output takes no more: what could not be written out is not written once more.
 fn write_end(progress: Progress, out: &mut [u8])
     ensures { λ _. ⌜ EndLine progress (now (out .entry)) (now (out .exit)) ⌝ }
 {
@@ -242,7 +242,7 @@ fn write_end(progress: Progress, out: &mut [u8])
     flush(out, next);
 }
 
-// The last line, and all that is not written out yet.
+// The last lines, and all that is not written out yet.
 fn finish(progress: Progress, out: &mut [u8])
     ensures { λ _. ⌜ Finished (progress .status) progress (now (out .entry)) (now (out .exit)) ⌝ }
 {
@@ -450,13 +450,13 @@ fn gathering(fetched: Fetched, have: usize, size: usize) -> Gathered
     }
 }
 
-// Reads until a log's length, its encoding and an event are there, or the input ends.
+// Reads until a log's length and its encoding are there, or the input ends.
 fn gather(input: &mut [u8], size: usize, piece: usize) -> Gathered
     ensures { λ r. ⌜ UpTo (now (input .exit)) size r ⌝ }
 {
     let mut have: usize = 0;
     while have < input.len() {
-        if monitor::has_event(&input[0..have]) {
+        if monitor::has_encoding(&input[0..have]) {
             return Gathered::Bytes(have);
         }
         let most = least(piece, size - have);
@@ -516,9 +516,16 @@ pub fn monitor_input(input: &mut [u8], out: &mut [u8], size: usize, piece: usize
     }
 }
 
-// A log on standard input, all of it: what the log program runs. The longest length and encoding take 65,537 bytes, and there is room for an event behind them.
+// A log on standard input, all of it: what the log program runs. The longest length and encoding take 65,537 bytes, and there is room for them.
 pub fn monitor_log(input: &mut [u8; 131072], out: &mut [u8; 65536]) -> usize
     ensures { λ r. ⌜ Monitors 18446744073709551615 (now (out .entry)) r (now (out .exit)) ⌝ }
 {
     monitor_input(input, out, usize::MAX, 131072)
+}
+
+// The log program.
+pub fn log_program() {
+    let mut input = [0u8; 131072];
+    let mut out = [0u8; 65536];
+    monitor_log(&mut input, &mut out);
 }

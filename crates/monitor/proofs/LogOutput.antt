@@ -6,8 +6,8 @@ use Prim.Native.Nat.{ℕ, _+_, _-_, _≤_, _<_}
 use native.Mathlib.Nat.{add-zero}
 use native.Mathlib.Omega.{arith}
 use native.Mathlib.Decide.{decLt}
-use lib.ListN.{length, getD, take, drop, length-append, length-drop, take-append-drop, List·getD-append}
-use lib.Seq.{sets, sets-eq, length-sets, slice, slice-empty, take-at, drop-at, take-all, take-nil, take-append-le, drop-append-le, length-take-le}
+use lib.ListN.{length, getD, take, drop, length-append, length-drop, length-take, take-append-drop, List·getD-append}
+use lib.Seq.{sets, sets-eq, length-sets, slice, slice-empty, take-at, drop-at, take-all, take-nil, take-append-le, drop-append-le, drop-length, length-take-le}
 use Rattle.automaton.specs.Run.{Automaton, automatonOf, Sound}
 use Rattle.automaton.specs.declared.Header.{Header}
 use Rattle.encoding.specs.Decoding.{Outcome, Decoding}
@@ -19,21 +19,23 @@ use Rattle.enforcer.specs.Enforcers as enforcers
 use Rattle.enforcer.specs.Offerings.{not-started, Starting}
 use Rattle.enforcer.specs.SafePrefix.{Safe}
 use Rattle.report.specs.declared.Line.the-variants.{Next}
-use Rattle.report.specs.Text.{endLine}
+use Rattle.report.specs.Text.{idleLine, endLine}
 use Rattle.report.specs.Writing.{Written, written}
 use Rattle.monitor.specs.Stepping.{Within, Lines, done}
 use Rattle.monitor.specs.Opening as opening
 use Rattle.monitor.specs.Opening.{frontSize, encodingOf, Fresh, Decodes, Opening}
 use Rattle.monitor.specs.Advancing as advancing
 use Rattle.monitor.specs.Advancing.{Said, Advancing}
+use Rattle.monitor.specs.Ending.{lastLines}
 use Rattle.monitor.specs.LogText.{Prints}
 use Rattle.monitor.specs.Log as log
-use Rattle.monitor.specs.Log.{eventsOf, InitialLeak, Refused, Output}
+use Rattle.monitor.specs.Log.{eventsOf, InitialLeak, Refused, Monitored, Output}
 use Rattle.monitor.specs.Running as running
 use Rattle.monitor.specs.Running.{Front, takenBy, writtenBy, Follows, all, stops, call, Runs}
 use Rattle.monitor.specs.declared.Monitor.{Monitor}
 use Rattle.monitor.proofs.Following.{lines-append, lines-count}
 use Rattle.encoding.proofs.Listing.{decoded-sound}
+use Rattle.monitor.proofs.Endings.{with-none, with-some}
 use Rattle.monitor.proofs.LogPromise.{log-promise}
 use Rattle.monitor.proofs.OneOutput.{one-output}
 
@@ -41,22 +43,21 @@ use Rattle.monitor.proofs.OneOutput.{one-output}
 decodes-as : {a b t : List ℕ} {h : Header} {o : Outcome} → encodingOf a ≡ encodingOf b → Decodes a h o t → Decodes b h o t
 decodes-as {a} {b} {t} {h} {o} e d = record { before = d .before; words = d .words; decoding = subst (λ (x : List ℕ). Decoding x (d .before) h o t) e (d .decoding) }
 
-opens-as : (a b : List ℕ) → frontSize a ≡ frontSize b → encodingOf a ≡ encodingOf b → frontSize a < length a → frontSize b < length b
+opens-as : (a b : List ℕ) → frontSize a ≡ frontSize b → encodingOf a ≡ encodingOf b → frontSize a ≤ length a → frontSize b ≤ length b
     → {says : opening.Said} {t : List ℕ} {h : Header} {m : Monitor} → Opening a says t h m → Opening b says t h m
 opens-as a b size same la lb (Opening.truncated short out) = absurd (omega arith)
 opens-as a b size same la lb (Opening.not-decoded le d out) = Opening.not-decoded (omega arith) (decodes-as same d) out
-opens-as a b size same la lb (Opening.empty-log e d out) = absurd (omega arith)
 opens-as a b size same la lb (Opening.initial-leak l d start out) = Opening.initial-leak lb (decodes-as same d) start out
 opens-as a b size same la lb {t = t} {h = h} {m = m} (Opening.opened l d fresh) =
     subst (λ (k : ℕ). Opening b (opening.started k) t h m) (sym size) (Opening.opened lb (decodes-as same d) fresh)
 
-size-kept : (first later : List ℕ) → frontSize first < length first → frontSize first ≡ frontSize (first ++ later)
+size-kept : (first later : List ℕ) → frontSize first ≤ length first → frontSize first ≡ frontSize (first ++ later)
 size-kept first later l =
     let high : getD (first ++ later) 0 0 ≡ getD first 0 0 = List·getD-append first later 0 0 (omega arith) in
     let low : getD (first ++ later) 1 0 ≡ getD first 1 0 = List·getD-append first later 0 1 (omega arith) in
     omega arith
 
-encoding-kept : (first later : List ℕ) → frontSize first < length first → encodingOf first ≡ encodingOf (first ++ later)
+encoding-kept : (first later : List ℕ) → frontSize first ≤ length first → encodingOf first ≡ encodingOf (first ++ later)
 encoding-kept first later l =
     sym (ap (λ (k : ℕ). take (k - 2) (drop 2 (first ++ later))) (sym (size-kept first later l))
     ∙ ap (take (frontSize first - 2)) (drop-append-le 2 first later (omega arith))
@@ -68,9 +69,9 @@ pub front-opens : {first input : List ℕ} → Front first input → {says : ope
 front-opens {first} {input} f {says} {t} {h} {m} =
     subst (λ (x : List ℕ). Opening first says t h m ↔ Opening x says t h m) (f .splits) (go (f .later) (f .enough))
   where
-    go : (later : List ℕ) → (frontSize first < length first) ⊎ (later ≡ []) → Opening first says t h m ↔ Opening (first ++ later) says t h m
+    go : (later : List ℕ) → (frontSize first ≤ length first) ⊎ (later ≡ []) → Opening first says t h m ↔ Opening (first ++ later) says t h m
     go later (inl l) =
-        let more : frontSize (first ++ later) < length (first ++ later) = omega (arith, size-kept first later l, length-append first later) in (
+        let more : frontSize (first ++ later) ≤ length (first ++ later) = omega (arith, size-kept first later l, length-append first later) in (
           (λ o. opens-as first (first ++ later) (size-kept first later l) (encoding-kept first later l) l more o),
           (λ o. opens-as (first ++ later) first (sym (size-kept first later l)) (sym (encoding-kept first later l)) more l o),
         )
@@ -104,8 +105,8 @@ slice-is (x ∷ l) out at (inr h) = slice-sets (x ∷ l) out at h
 line-is : {room at next : ℕ} {out text out′ : List ℕ} → Written room out at text (Next next) out′ → slice at next out′ ≡ text
 line-is {at = at} {out = out} {text = text} (written free fit) = slice-sets text out at (omega arith)
 
-no-lines : {t : List ℕ} {h : Header} {m e : Monitor} {text : List ℕ} → Lines t h m [] text e → text ≡ []
-no-lines done = refl
+no-lines : {t : List ℕ} {h : Header} {m e : Monitor} {text : List ℕ} → Lines t h m [] text e → (text ≡ []) × (e ≡ m)
+no-lines done = (refl, refl)
 
 -- what one call of `advance` does
 pub record Called (t : List ℕ) (h : Header) (m : Monitor) (events out : List ℕ) (at : ℕ) (says : Said) (e : Monitor) (out′ : List ℕ) : Type 0 where
@@ -132,7 +133,7 @@ called t h m events out at says e out′ w (Advancing.advanced {n = n} {text = t
     full zero some room (inl all-taken) d = absurd (omega arith)
     full zero some room (inr no-more) (no d) = omega arith
     full zero some room (inr no-more) (yes d) =
-        let none : text ≡ [] = no-lines (subst (λ (k : ℕ). Lines t h m (take k events) text e) zero lines) in
+        let none : text ≡ [] = no-lines (subst (λ (k : ℕ). Lines t h m (take k events) text e) zero lines) .0 in
         absurd (no-more record { room = omega (arith, ap length none, length-sets out at text); allowed = omega arith })
 
 -- the event bytes that were taken, and why no more of them were
@@ -195,28 +196,56 @@ secret-open t h s (Starting.initial-leak so tells out) = record { within = tells
 refuses : {input t : List ℕ} {h : Header} {m : Monitor} {n : ℕ} → Opening input (opening.refused n) t h m → Refused input n
 refuses (Opening.truncated short out) = log.truncated short
 refuses (Opening.not-decoded le d out) = log.not-decoded le d
-refuses (Opening.empty-log e d out) = log.empty-log e d
 refuses (Opening.initial-leak {t′ = t′} {h′ = h′} {e = s} l d start out) = log.initial-leak l d (secret-open t′ h′ s start)
 
--- the lines of all events that a log may have, and the last line
+-- whether a log has events: with none it is idle
+no-events : (input : List ℕ) → length input ≡ frontSize input → eventsOf input ≡ []
+no-events input e = ap (λ (k : ℕ). take 4294967295 (drop k input)) (sym e) ∙ ap (take 4294967295) (drop-length input) ∙ take-nil {A = ℕ} 4294967295
+
+some-taken : (n : ℕ) (l : List ℕ) → 0 < n → 0 < length l → 0 < length (take n l)
+some-taken n l some there = omega (arith, length-take n l)
+
+some-events : (input : List ℕ) → frontSize input < length input → 0 < length (eventsOf input)
+some-events input l = some-taken 4294967295 (drop (frontSize input) input) (omega arith) (omega (arith, length-drop (frontSize input) input))
+
+ends-there : (input : List ℕ) → (frontSize input < length input → ⊥) → frontSize input ≤ length input → length input ≡ frontSize input
+ends-there input none whole = omega (arith, none)
+
+-- the end of a fresh monitor is the output of an idle log
+fresh-idle : {input t : List ℕ} {h : Header} {m : Monitor} → Monitored input t h → Fresh t h m → length input ≡ frontSize input → Output input (lastLines m)
+fresh-idle {input} {t} {h} {m} monitored f e =
+    let pending : 0 ≡ m .enforcer .count = omega (arith, f .enforcer .queue .few) in
+    subst (Output input) ((λ i. idleLine (m .opening .weak) (m .opening .strong) ++ endLine (sym (f .accepted) i) (sym (f .released) i) (pending i)) ∙ with-none m (f .offered))
+    (log.idle (m .opening) monitored e (f .opening))
+
+-- the lines of all events that a log may have, and the last lines
 pub lines-output : {input t bytes rest text : List ℕ} {h : Header} {m e : Monitor} {n : ℕ} → Opening input (opening.started n) t h m → bytes ++ rest ≡ drop n input
     → Lines t h m bytes text e → e .offered ≤ 4294967295 → (rest ≡ []) ⊎ (e .offered ≡ 4294967295)
-    → Output input (text ++ endLine (e .accepted) (e .released) (e .enforcer .count))
+    → Output input (text ++ lastLines e)
 lines-output {input} {t} {bytes} {rest} {text} {h} {m} {e} (Opening.opened l d fresh) splits lines few stop =
     let counted : length bytes ≡ e .offered = omega (arith, lines-count lines, fresh .offered) in
     let all-of : bytes ≡ eventsOf input = fed-events splits (omega arith) (subst (λ (k : ℕ). (rest ≡ []) ⊎ (k ≡ 4294967295)) (sym counted) stop) in
-    let x = log-promise input (frontSize input) t h m bytes text e (Opening.opened l d fresh) lines in
-    let pending : length (x .trace) - e .released ≡ e .enforcer .count = omega (arith, x .pending) in
-    subst (Output input) (λ i. text ++ endLine (sym (x .accepted) i) (e .released) (pending i))
-    (log.ended record { event = l; decodes = d; closed = no-secret (automatonOf t h) (h .secret) (h .k) (m .enforcer) (fresh .enforcer) }
-    (subst (λ (bs : List ℕ). Prints t h [] 0 bs text (x .trace) (e .released)) all-of (x .prints)))
+    go record { whole = l; decodes = d; closed = no-secret (automatonOf t h) (h .secret) (h .k) (m .enforcer) (fresh .enforcer) } all-of counted (decLt (frontSize input) (length input))
+  where
+    go : Monitored input t h → bytes ≡ eventsOf input → length bytes ≡ e .offered → Dec (frontSize input < length input) → Output input (text ++ lastLines e)
+    go monitored is counted (yes some) =
+        let x = log-promise input (frontSize input) t h m bytes text e (Opening.opened l d fresh) lines in
+        let pending : length (x .trace) - e .released ≡ e .enforcer .count = omega (arith, x .pending) in
+        let positive : 0 < length bytes = subst (λ (k : List ℕ). 0 < length k) (sym is) (some-events input some) in
+        let last = (λ i. endLine (sym (x .accepted) i) (e .released) (pending i)) ∙ with-some e (subst (λ (k : ℕ). 0 < k) counted positive) in
+        subst (Output input) (ap (λ (l : List ℕ). text ++ l) last)
+        (log.ended monitored some (subst (λ (bs : List ℕ). Prints t h [] 0 bs text (x .trace) (e .released)) is (x .prints)))
+    go monitored is counted (no none) =
+        let all-front : length input ≡ frontSize input = ends-there input none (monitored .whole) in
+        let still = no-lines (subst (λ (bs : List ℕ). Lines t h m bs text e) (is ∙ no-events input all-front) lines) in
+        subst (Output input) (λ i. sym (still .0) i ++ lastLines (sym (still .1) i)) (fresh-idle monitored fresh all-front)
 
 -- a log that has started is within its limits, and no event byte is counted yet
 pub started-usable : {input t : List ℕ} {h : Header} {m : Monitor} {n : ℕ} → Opening input (opening.started n) t h m → Within t h m × (m .offered ≡ 0)
 started-usable {input} {t} {h} {m} (Opening.opened l d fresh) = (fresh-within t h m (decoded-sound (encodingOf input) (d .before) h t (d .decoding)) fresh, fresh .offered)
 
 monitors : {input t text : List ℕ} {h : Header} {m e : Monitor} {n : ℕ} → Opening input (opening.started n) t h m → Follows t h m (drop n input) text e
-    → Output input (text ++ endLine (e .accepted) (e .released) (e .enforcer .count))
+    → Output input (text ++ lastLines e)
 monitors o f =
     let s = started-usable o in
     let y = fed (s .0) (omega (arith, s .1)) f in

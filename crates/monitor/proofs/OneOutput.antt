@@ -12,11 +12,11 @@ use Rattle.verifier.specs.declared.Verdict.the-variants.{NoLeak, Leak}
 use Rattle.verifier.specs.Verdicts.{Steps, stepsOf}
 use Rattle.verifier.specs.Calls.{Right}
 use Rattle.enforcer.proofs.Unique.{one-longest}
-use Rattle.report.specs.Text.{decimal, line, acceptedLine, refusedLine, endLine}
+use Rattle.report.specs.Text.{decimal, line, acceptedLine, idleLine, refusedLine, endLine}
 use Rattle.automaton.specs.declared.Refusal.the-variants.{NotObservable, Incompatible}
 use Rattle.monitor.specs.Opening.{encodingOf, Decodes}
 use Rattle.monitor.specs.LogText.{Prints, none, not-observable, incompatible, accepted}
-use Rattle.monitor.specs.Log.{eventsOf, InitialLeak, Refused, truncated, not-decoded, empty-log, initial-leak, Monitored, Output, refused, ended}
+use Rattle.monitor.specs.Log.{eventsOf, InitialLeak, Refused, truncated, not-decoded, initial-leak, Monitored, Output, refused, idle, ended}
 
 -- the table after decoding, which found the table b
 abbrev left : Outcome → (b t : List ℕ) → List ℕ
@@ -38,30 +38,28 @@ not-accepted e = let z : _≡_ {A = ℕ} 0 1 = cc in absurd (omega arith)
 one-number : {n m : ℕ} → refuse n ≡ refuse m → n ≡ m
 one-number e = cc
 
+-- what holds of a log's automaton, however it was decoded
+pub one-automaton : (P : List ℕ → Header → Type 0) {input t t′ : List ℕ} {h h′ : Header} → Monitored input t h → Monitored input t′ h′ → P t h → P t′ h′
+one-automaton P {t = t} {h′ = h′} m m′ x =
+    let same = one-decodes (m .decodes) (m′ .decodes) in
+    subst (λ (y : List ℕ). P y h′) (same .table) (subst (P t) (same .header) x)
+
 -- a log has one refusal
 one-refusal : {input : List ℕ} {n m : ℕ} → Refused input n → Refused input m → n ≡ m
 one-refusal (truncated a) (truncated b) = refl
 one-refusal (truncated a) (not-decoded b d) = absurd (omega arith)
-one-refusal (truncated a) (empty-log b d) = absurd (omega arith)
 one-refusal (truncated a) (initial-leak b d s) = absurd (omega arith)
 one-refusal (not-decoded a d) (truncated b) = absurd (omega arith)
 one-refusal (not-decoded a d) (not-decoded b d′) = one-number (one-decodes d d′ .answer)
-one-refusal (not-decoded a d) (empty-log b d′) = absurd (not-accepted (one-decodes d d′ .answer))
 one-refusal (not-decoded a d) (initial-leak b d′ s) = absurd (not-accepted (one-decodes d d′ .answer))
-one-refusal (empty-log a d) (truncated b) = absurd (omega arith)
-one-refusal (empty-log a d) (not-decoded b d′) = absurd (not-accepted (one-decodes d′ d .answer))
-one-refusal (empty-log a d) (empty-log b d′) = refl
-one-refusal (empty-log a d) (initial-leak b d′ s) = absurd (omega arith)
 one-refusal (initial-leak a d s) (truncated b) = absurd (omega arith)
 one-refusal (initial-leak a d s) (not-decoded b d′) = absurd (not-accepted (one-decodes d′ d .answer))
-one-refusal (initial-leak a d s) (empty-log b d′) = absurd (omega arith)
 one-refusal (initial-leak a d s) (initial-leak b d′ s′) = refl
 
 -- and where it has one it is not monitored
-not-both : {input t : List ℕ} {h : Header} {n : ℕ} → Refused input n → Monitored input t h → ⊥
-not-both (truncated a) m = omega (arith, m .event)
+pub not-both : {input t : List ℕ} {h : Header} {n : ℕ} → Refused input n → Monitored input t h → ⊥
+not-both (truncated a) m = omega (arith, m .whole)
 not-both (not-decoded a d) m = not-accepted (one-decodes d (m .decodes) .answer)
-not-both (empty-log a d) m = omega (arith, m .event)
 not-both {h = h} (initial-leak {t = t′} {h = h′} a d s) m =
     let same = one-decodes d (m .decodes) in
     m .closed (subst (λ (x : List ℕ). InitialLeak x h) (same .table) (subst (λ (x : Header). InitialLeak t′ x) (same .header) s))
@@ -113,10 +111,19 @@ module _ (t : List ℕ) (h : Header) where
 pub one-output : (input : List ℕ) {a b : List ℕ} → Output input a → Output input b → a ≡ b
 one-output input (refused r x) (refused q y) =
     ap (λ (n : ℕ). line ((114 ∷ 101 ∷ 102 ∷ 117 ∷ 115 ∷ 101 ∷ 100 ∷ []) ∷ decimal n ∷ [])) (one-refusal x y)
-one-output input (refused r x) (ended m p) = absurd (not-both x m)
-one-output input (ended m p) (refused r x) = absurd (not-both x m)
-one-output input (ended {t = t} {h = h} m p) (ended {t = t′} {text = text′} {trace = trace′} {h = h′} {r = r′} m′ p′) =
-    let same = one-decodes (m′ .decodes) (m .decodes) in
-    let here = subst (λ (x : List ℕ). Prints x h [] 0 (eventsOf input) text′ trace′ r′) (same .table) (subst (λ (x : Header). Prints t′ x [] 0 (eventsOf input) text′ trace′ r′) (same .header) p′) in
+one-output input (refused r x) (idle v m e ri) = absurd (not-both x m)
+one-output input (refused r x) (ended m l p) = absurd (not-both x m)
+one-output input (idle v m e ri) (refused r x) = absurd (not-both x m)
+one-output input (idle {t = t} {h = h} v m e ri) (idle v′ m′ e′ ri′) =
+    let here = one-automaton (λ (x : List ℕ) (y : Header). Right x y [] (stepsOf (v′ .weak)) (stepsOf (v′ .strong))) m′ m ri′ in
+    let words = one-right t h [] (stepsOf (v .weak)) (stepsOf (v .strong)) (stepsOf (v′ .weak)) (stepsOf (v′ .strong)) ri here in
+    let weak = one-verdict (v .weak) (v′ .weak) (words .0) in
+    let strong = one-verdict (v .strong) (v′ .strong) (words .1) in
+    λ i. idleLine (weak i) (strong i) ++ endLine 0 0 0
+one-output input (idle v m e ri) (ended m′ l p) = absurd (omega arith)
+one-output input (ended m l p) (refused r x) = absurd (not-both x m)
+one-output input (ended m l p) (idle v m′ e ri) = absurd (omega arith)
+one-output input (ended {t = t} {h = h} m l p) (ended {text = text′} {trace = trace′} {r = r′} m′ l′ p′) =
+    let here = one-automaton (λ (x : List ℕ) (y : Header). Prints x y [] 0 (eventsOf input) text′ trace′ r′) m′ m p′ in
     let y = print-more t h [] 0 (eventsOf input) p here in
     λ i. y .text-is i ++ endLine (length (y .after-is i)) (y .released-is i) (length (y .after-is i) - y .released-is i)

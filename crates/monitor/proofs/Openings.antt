@@ -1,13 +1,16 @@
 -- How a log starts, from what decoding, the verifier and the enforcer answered. Assumes nothing.
 use mathlib.Core.Path.{_≡_, refl, sym, subst}
-use mathlib.Core.List.{List}
-use Prim.Native.Nat.{ℕ, _-_, _<_}
+use mathlib.Core.List.{List, []}
+use Prim.Native.Nat.{ℕ, _-_, _≤_, _<_}
 use native.Mathlib.Omega.{arith}
 use Rattle.automaton.specs.Run.{Sound}
 use Rattle.automaton.specs.declared.Header.{Header}
-use Rattle.verifier.specs.declared.Notion.the-variants.{Weak}
+use Rattle.verifier.specs.declared.Notion.the-variants.{Weak, Strong}
 use Rattle.verifier.specs.declared.Estimator.{Estimator}
+use Rattle.verifier.specs.declared.Verdicts.{Verdicts}
+use Rattle.verifier.specs.Verdicts.{stepsOf}
 use Rattle.verifier.specs.Replies as verifier
+use Rattle.verifier.proofs.Exactness.{exactly}
 use lib.ListN.{length, take, drop}
 use Rattle.encoding.specs.Decoding.{Outcome, accept, Decoding}
 use Rattle.enforcer.specs.declared.Enforcer.{Enforcer}
@@ -21,14 +24,27 @@ pub not-begun : (t : List ℕ) (h : Header) (events n : ℕ) (e : Enforcer) (t�
 not-begun t h events n e t′ h′ m so (Starting.malformed bad out) b = absurd (bad so)
 not-begun t h events n e t′ h′ m so (Starting.initial-leak so′ tells out) b = leaks (Starting.initial-leak so′ tells out) b
 
-abbrev freshOf : Estimator → Enforcer → Monitor
-freshOf s e = record { estimator = s; enforcer = e; offered = 0; accepted = 0; released = 0 }
+abbrev freshOf : Verdicts → Estimator → Enforcer → Monitor
+freshOf v s e = record { opening = v; estimator = s; enforcer = e; offered = 0; accepted = 0; released = 0 }
 
-pub is-begun : (t : List ℕ) (h : Header) (events : ℕ) (e : Enforcer) (says : verifier.Said) (s : Estimator) → Sound t h
-    → Starting t h Weak enforcer.started e → verifier.Opening t h says s → Begun t h events (started events) t h (freshOf s e)
-is-begun t h events e says s so (Starting.ready so′ tells grown) (verifier.Opening.malformed bad out) = absurd (bad so)
-is-begun t h events e says s so (Starting.ready so′ tells grown) (verifier.Opening.opened so″ li x) =
-    begun record { estimator = x .grown; enforcer = grown; offered = refl; accepted = refl; released = refl }
+pub is-begun : (t : List ℕ) (h : Header) (events : ℕ) (e : Enforcer) (v : Verdicts) (s : Estimator) → Starting t h Weak enforcer.started e
+    → verifier.Opening t h (verifier.verdicts (stepsOf (v .weak)) (stepsOf (v .strong))) s → Begun t h events (started events) t h (freshOf v s e)
+is-begun t h events e v s (Starting.ready so′ tells grown) (verifier.Opening.opened so li x) = begun record {
+  opening = record { weak = exactly Weak _ _ _ [] (stepsOf (v .weak)) (x .weak); strong = exactly Strong _ _ _ [] (stepsOf (v .strong)) (x .strong) };
+  estimator = x .grown;
+  enforcer = grown;
+  offered = refl;
+  accepted = refl;
+  released = refl;
+}
+
+-- a fresh verifier refuses no automaton
+pub verified : {t : List ℕ} {h : Header} {n : ℕ} {s : Estimator} → Sound t h → verifier.Opening t h (verifier.refused n) s → ⊥
+verified so (verifier.Opening.malformed bad out) = bad so
+
+-- a log without its encoding ends too early
+pub short : (log : List ℕ) → (frontSize log ≤ length log → ⊥) → length log < frontSize log
+short log none = omega (arith, none)
 
 -- the part of the log that was decoded
 pub decodes : (log : List ℕ) (size : ℕ) (before : List ℕ) (h : Header) (answer : Outcome) (t : List ℕ) → size ≡ frontSize log → length before ≡ 2048
@@ -39,11 +55,11 @@ decodes log size before h answer t e w d = record {
   decoding = subst (λ (k : ℕ). Decoding (take (k - 2) (drop 2 log)) before h answer t) e d;
 }
 
-pub opens : (log : List ℕ) (size : ℕ) (t : List ℕ) (h : Header) (says : Said) (t′ : List ℕ) (h′ : Header) (m : Monitor) → size ≡ frontSize log → size < length log
+pub opens : (log : List ℕ) (size : ℕ) (t : List ℕ) (h : Header) (says : Said) (t′ : List ℕ) (h′ : Header) (m : Monitor) → size ≡ frontSize log → size ≤ length log
     → Decodes log h accept t → Begun t h size says t′ h′ m → Opening log says t′ h′ m
 opens log size t h says t′ h′ m e l d (leaks start out) = Opening.initial-leak (omega arith) d start out
 opens log size t h says t′ h′ m e l d (begun fresh) = subst (λ (k : ℕ). Opening log (started k) t h m) (sym e) (opened (omega arith) d fresh)
 
--- the events of a log that has started are behind its front
-pub started-within : {log t : List ℕ} {h : Header} {m : Monitor} {n : ℕ} → Opening log (started n) t h m → n < length log
+-- the events of a log that has started, if there are any, are behind its front
+pub started-within : {log t : List ℕ} {h : Header} {m : Monitor} {n : ℕ} → Opening log (started n) t h m → n ≤ length log
 started-within (opened within d fresh) = within

@@ -10,8 +10,10 @@ use Rattle.automaton.specs.declared.Header.{Header}
 use Rattle.automaton.specs.declared.Refusal.{Refusal}
 use Rattle.encoding.specs.Decoding.{accept, refuse}
 use Rattle.verifier.specs.declared.Notion.the-variants.{Weak}
-use Rattle.verifier.specs.Verdicts.{LeakAt}
-use Rattle.report.specs.Text.{refusedLog, endLine}
+use Rattle.verifier.specs.declared.Verdicts.{Verdicts}
+use Rattle.verifier.specs.Verdicts.{stepsOf, LeakAt}
+use Rattle.verifier.specs.Calls.{Right}
+use Rattle.report.specs.Text.{idleLine, refusedLog, endLine}
 use Rattle.monitor.specs.Opening.{frontSize, Decodes}
 use Rattle.monitor.specs.LogText.{Prints}
 
@@ -23,21 +25,23 @@ eventsOf input = take 4294967295 (drop (frontSize input) input)
 abbrev pub InitialLeak : List ℕ → Header → Type 0
 InitialLeak t h = LeakAt Weak (automatonOf t h) (h .secret) (h .k) [] 0
 
--- a log that is refused, in 01's order: 1, those of the encoding (01: description), 11, 8
+-- a log that is refused, in this order: 1, those of the encoding (01: description), 8. (01's 11 is given no more: 02, S-4)
 pub data Refused (input : List ℕ) : ℕ → Type 0 where
   truncated : length input < frontSize input → Refused input 1
   not-decoded : {n : ℕ} {t : List ℕ} {h : Header} → frontSize input ≤ length input → Decodes input h (refuse n) t → Refused input n
-  empty-log : {t : List ℕ} {h : Header} → length input ≡ frontSize input → Decodes input h accept t → Refused input 11
-  initial-leak : {t : List ℕ} {h : Header} → frontSize input < length input → Decodes input h accept t → InitialLeak t h → Refused input 8
+  initial-leak : {t : List ℕ} {h : Header} → frontSize input ≤ length input → Decodes input h accept t → InitialLeak t h → Refused input 8
 
 -- a log that is not, and its automaton
 pub record Monitored (input t : List ℕ) (h : Header) : Type 0 where
-  pub event : frontSize input < length input
+  pub whole : frontSize input ≤ length input
   pub decodes : Decodes input h accept t
   pub closed : InitialLeak t h → ⊥
 
--- the output: the one line of a refused log; else a line for each event byte, in order, and last `end`, accepted, released and pending (01: freed, held)
+-- the output: the one line of a refused log; of an idle one, which has no event byte at all, the line of the opening verdicts (02, S-4: a chamber still in its
+-- opening) and `end 0 0 0`; else a line for each event byte, in order, and last `end`, accepted, released and pending (01: freed, held)
 pub data Output (input : List ℕ) : List ℕ → Type 0 where
   refused : (r : Refusal) → Refused input (numberOf r) → Output input (refusedLog r)
-  ended : {t text trace : List ℕ} {h : Header} {r : ℕ} → Monitored input t h → Prints t h [] 0 (eventsOf input) text trace r
+  idle : {t : List ℕ} {h : Header} (v : Verdicts) → Monitored input t h → length input ≡ frontSize input → Right t h [] (stepsOf (v .weak)) (stepsOf (v .strong))
+      → Output input (idleLine (v .weak) (v .strong) ++ endLine 0 0 0)
+  ended : {t text trace : List ℕ} {h : Header} {r : ℕ} → Monitored input t h → frontSize input < length input → Prints t h [] 0 (eventsOf input) text trace r
       → Output input (text ++ endLine (length trace) r (length trace - r))

@@ -7,6 +7,8 @@ use Rattle.automaton.specs.Run.{automatonOf}
 use Rattle.automaton.specs.Refusals.{numberOf}
 use Rattle.automaton.specs.declared.Header.{Header}
 use Rattle.verifier.specs.declared.Notion.the-variants.{Weak}
+use Rattle.verifier.specs.Verdicts.{stepsOf}
+use Rattle.verifier.specs.Calls.{Right}
 use Rattle.verifier.specs.Estimators as estimators
 use Rattle.encoding.specs.Decoding.{Outcome, accept, refuse, Decoding}
 use Rattle.enforcer.specs.declared.Enforcer.{Enforcer}
@@ -33,8 +35,9 @@ frontSize log = 2 + (getD log 0 0 * 256 + getD log 1 0)
 abbrev pub encodingOf : List ℕ → List ℕ
 encodingOf log = take (frontSize log - 2) (drop 2 log)
 
--- a fresh monitor: a fresh estimator, an enforcer that a weak start has handed back, and no event so far
+-- a fresh monitor: the verdicts of the empty trace, a fresh estimator, an enforcer that a weak start has handed back, and no event so far
 pub record Fresh (t : List ℕ) (h : Header) (m : Monitor) : Type 0 where
+  pub opening : Right t h [] (stepsOf (m .opening .weak)) (stepsOf (m .opening .strong))
   pub estimator : estimators.Grown (automatonOf t h) (h .k) [] (m .estimator)
   pub enforcer : enforcers.Grown Weak (automatonOf t h) (h .secret) (h .k) [] (m .enforcer)
   pub offered : m .offered ≡ 0
@@ -54,15 +57,14 @@ pub record NoMonitor (h : Header) (m : Monitor) : Type 0 where
   pub enforcer : Unusable (m .enforcer)
   pub counts : Balanced m → ⊥
 
--- the start of a log, in the order of its refusals: 1, those of the encoding, 11, 8
+-- the start of a log, in the order of its refusals: 1, those of the encoding, 8. What stands behind the encoding does not matter
 pub data Opening (log : List ℕ) : Said → (table : List ℕ) → Header → Monitor → Type 0 where
   truncated : {t : List ℕ} {h : Header} {m : Monitor} → length log < frontSize log → NoMonitor h m → Opening log (refused 1) t h m
   not-decoded : {n : ℕ} {t t′ : List ℕ} {h h′ : Header} {m : Monitor} → frontSize log ≤ length log → Decodes log h′ (refuse n) t′ → NoMonitor h m
       → Opening log (refused n) t h m
-  empty-log : {t t′ : List ℕ} {h h′ : Header} {m : Monitor} → length log ≡ frontSize log → Decodes log h′ accept t′ → NoMonitor h m → Opening log (refused 11) t h m
-  initial-leak : {t t′ : List ℕ} {h h′ : Header} {m : Monitor} {e : Enforcer} → frontSize log < length log → Decodes log h′ accept t′
+  initial-leak : {t t′ : List ℕ} {h h′ : Header} {m : Monitor} {e : Enforcer} → frontSize log ≤ length log → Decodes log h′ accept t′
       → Starting t′ h′ Weak (not-started 8) e → NoMonitor h m → Opening log (refused 8) t h m
-  opened : {t : List ℕ} {h : Header} {m : Monitor} → frontSize log < length log → Decodes log h accept t → Fresh t h m → Opening log (started (frontSize log)) t h m
+  opened : {t : List ℕ} {h : Header} {m : Monitor} → frontSize log ≤ length log → Decodes log h accept t → Fresh t h m → Opening log (started (frontSize log)) t h m
 
 -- a start on an automaton, inside `open`
 pub data Begun (t : List ℕ) (h : Header) (events : ℕ) : Said → List ℕ → Header → Monitor → Type 0 where

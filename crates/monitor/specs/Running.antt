@@ -10,19 +10,20 @@ use Rattle.automaton.specs.Refusals.{numberOf}
 use Rattle.automaton.specs.declared.Header.{Header}
 use Rattle.automaton.specs.declared.Refusal.{Refusal}
 use Rattle.report.specs.declared.Line.the-variants.{Next}
-use Rattle.report.specs.Text.{refusedLog, endLine}
-use Rattle.report.specs.Writing.{roomFor, Written}
+use Rattle.report.specs.Text.{refusedLog}
+use Rattle.report.specs.Writing.{roomFor, roomAtEnd, Written}
 use Rattle.monitor.specs.Opening as opening
 use Rattle.monitor.specs.Opening.{frontSize, Opening}
 use Rattle.monitor.specs.Advancing as advancing
 use Rattle.monitor.specs.Advancing.{Said, Advancing}
+use Rattle.monitor.specs.Ending.{lastLines}
 use Rattle.monitor.specs.declared.Monitor.{Monitor}
 
--- the first bytes of an input by which it may be opened: its length, its encoding and an event, as `has_event` tests them, or all of it
+-- the first bytes of an input by which it may be opened: its length and its encoding, as `has_encoding` tests them, or all of it
 pub record Front (first input : List ℕ) : Type 0 where
   pub later : List ℕ
   pub splits : first ++ later ≡ input
-  pub enough : (frontSize first < length first) ⊎ (later ≡ [])
+  pub enough : (frontSize first ≤ length first) ⊎ (later ≡ [])
 
 -- how many event bytes a call of `advance` took
 abbrev pub takenBy : Said → ℕ
@@ -51,4 +52,4 @@ pub data Runs (input : List ℕ) : List ℕ → Type 0 where
       → Opening first (opening.refused (numberOf r)) t h m → Written (roomFor 0) out at (refusedLog r) (Next next) out′ → Runs input (slice at next out′)
   ended : {first t text out out′ : List ℕ} {h : Header} {m e : Monitor} {n at next : ℕ} → Front first input
       → Opening first (opening.started n) t h m → Follows t h m (drop n input) text e
-      → Written (roomFor 0) out at (endLine (e .accepted) (e .released) (e .enforcer .count)) (Next next) out′ → Runs input (text ++ slice at next out′)
+      → Written roomAtEnd out at (lastLines e) (Next next) out′ → Runs input (text ++ slice at next out′)

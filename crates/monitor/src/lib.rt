@@ -8,24 +8,27 @@ use report::Line;
 use verifier::Answer;
 use verifier::Estimator;
 use verifier::Notion;
+use verifier::Verdict;
 use verifier::Verdicts;
 ghost use mathlib.Core.Path.{_≡_};
-ghost use Prim.Native.Nat.{_+_, _*_, _<_};
+ghost use Prim.Native.Nat.{_+_, _*_, _≤_};
 ghost use lib.ListN.{length};
 ghost use Rattle.stateset.specs.Set.{Decided};
 ghost use Rattle.automaton.specs.Run.{Sound};
 ghost use Rattle.verifier.specs.Replies as verifier;
 ghost use Rattle.verifier.specs.Replies.{Accepting};
 ghost use Rattle.verifier.specs.Verdicts.{stepsOf};
-ghost use Rattle.report.specs.Writing.{roomFor, Written};
-ghost use Rattle.report.specs.Text.{acceptedLine, refusedLine, endLine};
+ghost use Rattle.report.specs.Writing.{roomAtEnd, Written};
+ghost use Rattle.report.specs.Text.{acceptedLine, refusedLine};
 ghost use Rattle.monitor.specs.Stepping.{Balanced, Within, Countable, offeredOnce, acceptedOnce, placeOf, Printed, Stepped};
 ghost use Rattle.monitor.specs.Opening.{frontSize, NoMonitor, Opening, Begun, said as opened};
 ghost use Rattle.monitor.specs.declared.OpenAnswer.the-variants as answer;
 ghost use Rattle.monitor.specs.Advancing.{Advancing, Ready, said as advanced};
+ghost use Rattle.monitor.specs.Ending.{lastLines};
 
-// The verifier's and the enforcer's state, and how many event bytes were offered, events accepted, and events released.
+// The opening verdicts, the verifier's and the enforcer's state, and how many event bytes were offered, events accepted, and events released.
 pub struct Monitor {
+    pub opening: Verdicts,
     pub estimator: Estimator,
     pub enforcer: Enforcer,
     pub offered: u32,
@@ -128,11 +131,13 @@ impl Monitor {
         requires { ⌜ Ready self (now out) at ⌝ }
         ensures { λ r. ⌜ (r .monitor ≡ offeredOnce self) × Printed (now (out .entry)) at (refusedLine byte refusal) (r .next) (now (out .exit)) ⌝ }
     {
+        let opening = self.opening;
         let estimator = self.estimator;
         let enforcer = self.enforcer;
         let line = report::refused(out, at, byte, refusal);
         Entry {
             monitor: Monitor {
+                opening: opening,
                 estimator: estimator,
                 enforcer: enforcer,
                 offered: self.offered + 1,
@@ -158,10 +163,12 @@ impl Monitor {
         ensures { λ r. ⌜ (r .monitor ≡ acceptedOnce self estimator enforcer (length (now (released .entry))))
             × Printed (now (out .entry)) at (acceptedLine (self .accepted + 1) byte (verdicts .weak) (verdicts .strong) (now (released .entry))) (r .next) (now (out .exit)) ⌝ }
     {
+        let opening = self.opening;
         let accepted = self.accepted + 1;
         let line = report::accepted(out, at, accepted, byte, verdicts, released);
         Entry {
             monitor: Monitor {
+                opening: opening,
                 estimator: estimator,
                 enforcer: enforcer,
                 offered: self.offered + 1,
@@ -254,12 +261,16 @@ impl Monitor {
 }
 
 impl Monitor {
-    // The last line of a log: how many events were accepted, released and are pending.
+    // The last line of a log: how many events were accepted, released and are pending. Where no event byte was offered, the opening verdicts come before it.
     pub fn end(self, out: &mut [u8], at: usize) -> Line
-        ensures { λ r. ⌜ Written (roomFor 0) (now (out .entry)) at (endLine (self .accepted) (self .released) (self .enforcer .count)) r (now (out .exit)) ⌝ }
+        ensures { λ r. ⌜ Written roomAtEnd (now (out .entry)) at (lastLines self) r (now (out .exit)) ⌝ }
     {
         let enforcer = self.enforcer;
         let pending = enforcer.count as u32;
+        if self.offered == 0 {
+            let opening = self.opening;
+            return report::idle(out, at, opening, self.accepted, self.released, pending);
+        }
         report::ended(out, at, self.accepted, self.released, pending)
     }
 }
@@ -271,17 +282,17 @@ fn front_size(high: u8, low: u8) -> usize
     2 + ((high as usize) * 256 + low as usize)
 }
 
-// Whether the bytes have a log's length and encoding whole, and an event behind them.
-pub fn has_event(log: &[u8]) -> bool
-    ensures { λ r. ⌜ Decided r (frontSize (now (log .entry)) < length (now (log .entry))) ⌝ }
+// Whether the bytes have a log's length and its encoding whole.
+pub fn has_encoding(log: &[u8]) -> bool
+    ensures { λ r. ⌜ Decided r (frontSize (now (log .entry)) ≤ length (now (log .entry))) ⌝ }
 {
     if log.len() < 2 {
         return false;
     }
-    if front_size(log[0], log[1]) < log.len() {
-        return true;
+    if log.len() < front_size(log[0], log[1]) {
+        return false;
     }
-    false
+    true
 }
 
 // What a refused log hands back: header, estimator and enforcer are outside their limits, and the monitor takes no byte.
@@ -310,6 +321,10 @@ fn refused(refusal: Refusal) -> Opened
             symbols: [0u8; 32],
         },
         monitor: Monitor {
+            opening: Verdicts {
+                weak: Verdict::NoLeak,
+                strong: Verdict::NoLeak,
+            },
             estimator: estimator,
             enforcer: enforcer,
             offered: 0,
@@ -320,7 +335,7 @@ fn refused(refusal: Refusal) -> Opened
     }
 }
 
-// A fresh verifier and a weak enforcer, for events that start at a place.
+// A weak enforcer and a fresh verifier, for events that start at a place.
 fn start(table: [u64; 2048], header: Header, events: usize) -> Opened
     requires { ⌜ Sound table header ⌝ }
     ensures { λ r. ⌜ Begun table header events (opened (r .answer)) (r .table) (r .header) (r .monitor) ⌝ }
@@ -331,12 +346,17 @@ fn start(table: [u64; 2048], header: Header, events: usize) -> Opened
         StartAnswer::Refused(refusal) => refused(refusal),
         StartAnswer::Started => {
             let reply = Estimator::fresh(&table, header);
+            let verified = reply.answer;
+            let Answer::Accepted(opening) = verified else {
+                return refused(Refusal::Malformed);
+            };
             let estimator = reply.estimator;
             let enforcer = begun.enforcer;
             Opened {
                 table: table,
                 header: header,
                 monitor: Monitor {
+                    opening: opening,
                     estimator: estimator,
                     enforcer: enforcer,
                     offered: 0,
@@ -349,28 +369,20 @@ fn start(table: [u64; 2048], header: Header, events: usize) -> Opened
     }
 }
 
-// Opens a log by its first bytes: all of its length and its encoding, and at least one event, unless the log ends before that.
+// Opens a log by its first bytes: all of its length and its encoding, unless the log ends before that.
 pub fn open(log: &[u8]) -> Opened
     ensures { λ r. ⌜ Opening (now (log .entry)) (opened (r .answer)) (r .table) (r .header) (r .monitor) ⌝ }
 {
-    if log.len() < 2 {
+    if !has_encoding(log) {
         return refused(Refusal::Truncated);
     }
     let size = front_size(log[0], log[1]);
-    if log.len() < size {
-        return refused(Refusal::Truncated);
-    }
     let mut table = [0u64; 2048];
     let decoded = encoding::decode(&log[2..size], &mut table);
     let header = decoded.header;
     let answer = decoded.answer;
     match answer {
         encoding::Answer::Refused(refusal) => refused(refusal),
-        encoding::Answer::Accepted => {
-            if log.len() == size {
-                return refused(Refusal::EmptyLog);
-            }
-            start(table, header, size)
-        }
+        encoding::Answer::Accepted => start(table, header, size),
     }
 }

@@ -58,6 +58,10 @@ symbols (e ∷ es) = joined 44 (map decimal (e ∷ es))
 abbrev pub acceptedLine : ℕ → ℕ → Verdict → Verdict → List ℕ → List ℕ
 acceptedLine place symbol weak strong released = line (decimal place ∷ decimal symbol ∷ steps weak ∷ steps strong ∷ symbols released ∷ [])
 
+-- a log without event bytes (02: a chamber still in its opening): `0`, `-`, the opening verdicts, `-`
+abbrev pub idleLine : Verdict → Verdict → List ℕ
+idleLine weak strong = line (decimal 0 ∷ (45 ∷ []) ∷ steps weak ∷ steps strong ∷ (45 ∷ []) ∷ [])
+
 -- a refused event: `!`, the byte, the number of the refusal
 abbrev pub refusedLine : ℕ → Refusal → List ℕ
 refusedLine byte refusal = line ((33 ∷ []) ∷ decimal byte ∷ decimal (numberOf refusal) ∷ [])

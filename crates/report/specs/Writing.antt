@@ -11,6 +11,10 @@ use Rattle.report.specs.declared.Line.the-variants.{Next, NoRoom}
 abbrev pub roomFor : ℕ → ℕ
 roomFor released = 64 + 11 * released
 
+-- for the last lines of a log: the line of an idle log and the last one, or the last one alone
+abbrev pub roomAtEnd : ℕ
+roomAtEnd = roomFor 0 + roomFor 0
+
 -- a line: where it is written, its bytes all stand inside the output, from `at` on, all other bytes stay, and the next line goes behind it
 pub data Written (room : ℕ) (before : List ℕ) (at : ℕ) (text : List ℕ) : Line → List ℕ → Type 0 where
   no-room : (at + room ≤ length before → ⊥) → Written room before at text NoRoom before

@@ -3,13 +3,13 @@ use automaton::Refusal;
 use verifier::Verdict;
 use verifier::Verdicts;
 ghost use mathlib.Core.Path.{_≡_};
-ghost use mathlib.Core.List.{[], _∷_, map};
+ghost use mathlib.Core.List.{[], _∷_, _++_, map};
 ghost use Prim.Native.Nat.{_+_, _*_, _%_, _≤_, _<_};
 ghost use lib.ListN.{length};
 ghost use Rattle.stateset.specs.Set.{Decided};
 ghost use Rattle.automaton.specs.Refusals.{numberOf};
-ghost use Rattle.report.specs.Text.{decimal, led, steps, symbols, acceptedLine, refusedLine, endLine, refusedLog};
-ghost use Rattle.report.specs.Writing.{roomFor, Written, Wrote};
+ghost use Rattle.report.specs.Text.{decimal, led, steps, symbols, acceptedLine, idleLine, refusedLine, endLine, refusedLog};
+ghost use Rattle.report.specs.Writing.{roomFor, roomAtEnd, Written, Wrote};
 
 // Room for any line that names at most 17 released events.
 pub const LINE: usize = 256;
@@ -96,6 +96,17 @@ fn verdict_field(out: &mut [u8], at: usize, verdict: Verdict) -> usize
     }
 }
 
+// A space and the weak verdict, a space and the strong one: for an event's line and for the line of an idle log.
+fn verdict_fields(out: &mut [u8], at: usize, verdicts: Verdicts) -> usize
+    requires { ⌜ at + 22 ≤ length (now out) ⌝ }
+    ensures { λ r. ⌜ Wrote 22 (now (out .entry)) at ((32 ∷ steps (verdicts .weak)) ++ (32 ∷ steps (verdicts .strong))) (now (out .exit)) r ⌝ }
+{
+    let weak = verdicts.weak;
+    let strong = verdicts.strong;
+    let next = verdict_field(out, at, weak);
+    verdict_field(out, next, strong)
+}
+
 // Each symbol with a comma in front of it.
 fn more_symbols(out: &mut [u8], at: usize, released: &[u8]) -> usize
     requires { ⌜ at + 11 * length (now released) ≤ length (now out) ⌝ }
@@ -141,14 +152,22 @@ fn put_accepted(
     requires { ⌜ at + roomFor (length (now released)) ≤ length (now out) ⌝ }
     ensures { λ r. ⌜ Wrote (roomFor (length (now (released .entry)))) (now (out .entry)) at (acceptedLine place symbol (verdicts .weak) (verdicts .strong) (now (released .entry))) (now (out .exit)) r ⌝ }
 {
-    let weak = verdicts.weak;
-    let strong = verdicts.strong;
     let a = number(out, at, place);
     let b = field(out, a, 32, wide(symbol));
-    let c = verdict_field(out, b, weak);
-    let d = verdict_field(out, c, strong);
-    let e = symbols_field(out, d, released);
-    put(out, e, 10)
+    let c = verdict_fields(out, b, verdicts);
+    let d = symbols_field(out, c, released);
+    put(out, d, 10)
+}
+
+fn put_idle(out: &mut [u8], at: usize, opening: Verdicts) -> usize
+    requires { ⌜ at + roomFor 0 ≤ length (now out) ⌝ }
+    ensures { λ r. ⌜ Wrote (roomFor 0) (now (out .entry)) at (idleLine (opening .weak) (opening .strong)) (now (out .exit)) r ⌝ }
+{
+    let a = number(out, at, 0);
+    let b = dash(out, a);
+    let c = verdict_fields(out, b, opening);
+    let d = dash(out, c);
+    put(out, d, 10)
 }
 
 fn put_refused(out: &mut [u8], at: usize, byte: u8, refusal: Refusal) -> usize
@@ -170,6 +189,21 @@ fn put_end(out: &mut [u8], at: usize, accepted: u32, released: u32, pending: u32
     let c = field(out, b, 32, released);
     let d = field(out, c, 32, pending);
     put(out, d, 10)
+}
+
+fn put_idle_end(
+    out: &mut [u8],
+    at: usize,
+    opening: Verdicts,
+    accepted: u32,
+    released: u32,
+    pending: u32,
+) -> usize
+    requires { ⌜ at + roomAtEnd ≤ length (now out) ⌝ }
+    ensures { λ r. ⌜ Wrote roomAtEnd (now (out .entry)) at (idleLine (opening .weak) (opening .strong) ++ endLine accepted released pending) (now (out .exit)) r ⌝ }
+{
+    let next = put_idle(out, at, opening);
+    put_end(out, next, accepted, released, pending)
 }
 
 fn put_refused_log(out: &mut [u8], at: usize, refusal: Refusal) -> usize
@@ -196,6 +230,16 @@ fn has_room(out: &[u8], at: usize, released: usize) -> bool
         return false;
     }
     true
+}
+
+// There is room at a place for the last lines.
+fn has_room_at_end(out: &[u8], at: usize) -> bool
+    ensures { λ r. ⌜ Decided r (at + roomAtEnd ≤ length (now (out .entry))) ⌝ }
+{
+    if has_room(out, at, 0) {
+        return has_room(out, at + 64, 0);
+    }
+    false
 }
 
 // The line of an accepted event: its place, its symbol, the verdicts and the symbols that it released.
@@ -227,10 +271,27 @@ pub fn refused(out: &mut [u8], at: usize, byte: u8, refusal: Refusal) -> Line
 
 // The last line.
 pub fn ended(out: &mut [u8], at: usize, accepted: u32, released: u32, pending: u32) -> Line
-    ensures { λ r. ⌜ Written (roomFor 0) (now (out .entry)) at (endLine accepted released pending) r (now (out .exit)) ⌝ }
+    ensures { λ r. ⌜ Written roomAtEnd (now (out .entry)) at (endLine accepted released pending) r (now (out .exit)) ⌝ }
 {
-    if has_room(out, at, 0) {
+    if has_room_at_end(out, at) {
         return Line::Next(put_end(out, at, accepted, released, pending));
+    }
+    Line::NoRoom
+}
+
+// The lines of a log without event bytes: the opening verdicts, and the last line.
+pub fn idle(
+    out: &mut [u8],
+    at: usize,
+    opening: Verdicts,
+    accepted: u32,
+    released: u32,
+    pending: u32,
+) -> Line
+    ensures { λ r. ⌜ Written roomAtEnd (now (out .entry)) at (idleLine (opening .weak) (opening .strong) ++ endLine accepted released pending) r (now (out .exit)) ⌝ }
+{
+    if has_room_at_end(out, at) {
+        return Line::Next(put_idle_end(out, at, opening, accepted, released, pending));
     }
     Line::NoRoom
 }

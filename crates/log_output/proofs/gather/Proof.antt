@@ -18,23 +18,23 @@ abbrev μ-loop : tie.MeasureT-loop
 loop-holds : tie.Need-loop-holds Inv-loop μ-loop
 loop-holds c = search needs
 
-sub-has-event : tie.Need-sub-has-event Inv-loop μ-loop
-sub-has-event c = search needs
+sub-has-encoding : tie.Need-sub-has-encoding Inv-loop μ-loop
+sub-has-encoding c = search needs
 
-part-has-event-start : tie.Need-part-has-event-start Inv-loop μ-loop
-part-has-event-start c = search needs
+part-has-encoding-start : tie.Need-part-has-encoding-start Inv-loop μ-loop
+part-has-encoding-start c = search needs
 
-part-has-event-end : tie.Need-part-has-event-end Inv-loop μ-loop
-part-has-event-end c = search needs
+part-has-encoding-end : tie.Need-part-has-encoding-end Inv-loop μ-loop
+part-has-encoding-end c = search needs
 
-has-event-requires : tie.Need-has-event-requires Inv-loop μ-loop
-has-event-requires c κs = search needs
+has-encoding-requires : tie.Need-has-encoding-requires Inv-loop μ-loop
+has-encoding-requires c κs = search needs
 
 same-length : tie.Need-same-length Inv-loop μ-loop
 same-length c = search needs
 
 returns : tie.Need-returns Inv-loop μ-loop
-returns c = (search needs, search needs, inl (opens-by _ _ _ (search needs) (c .if1 .taken) (c .before .has-event .ensures)))
+returns c = (search needs, search needs, inl (opens-by _ _ _ (search needs) (c .if1 .taken) (c .before .has-encoding .ensures)))
 
 sub-least : tie.Need-sub-least Inv-loop μ-loop
 sub-least c = search needs
@@ -105,10 +105,10 @@ gather-spec =
     Inv-loop
     μ-loop
     loop-holds
-    sub-has-event
-    part-has-event-start
-    part-has-event-end
-    has-event-requires
+    sub-has-encoding
+    part-has-encoding-start
+    part-has-encoding-end
+    has-encoding-requires
     same-length
     returns
     sub-least

@@ -1,27 +1,31 @@
 use borrow.Author.Needs.{needs}
+use mathlib.Core.Path.{refl}
+use native.Mathlib.Omega.{arith}
 use Rattle.stateset.proofs.Decides.{holds, fails}
 use Rattle.report.specs.Writing.{no-room}
-use Rattle.report.proofs.Laws.{entered}
+use Rattle.report.proofs.Laws.{same, entered}
 use Rattle.report.proofs.ended.Statement.{statement}
 use Rattle.report.proofs.ended.Tie as tie
 
-has-room-requires : tie.Need-has-room-requires
-has-room-requires c κs = search needs
+has-room-at-end-requires : tie.Need-has-room-at-end-requires
+has-room-at-end-requires c κs = search needs
 
 put-end-requires : tie.Need-put-end-requires
-put-end-requires c κs = holds _ (c .before .if1 .taken) (c .before .before .has-room .ensures)
+put-end-requires c κs = let room = holds _ (c .before .if1 .taken) (c .before .before .has-room-at-end .ensures) in omega arith
 
 same-length : tie.Need-same-length
 same-length c = search needs
 
 returns : tie.Need-returns
-returns c = entered (holds _ (c .before .before .before .before .if1 .taken) (c .before .before .before .before .before .has-room .ensures)) (c .before .before .put-end .ensures)
+returns c = entered (holds _ (c .before .before .before .before .if1 .taken) (c .before .before .before .before .before .has-room-at-end .ensures)) (same refl (omega arith) (c .before .before .put-end .ensures))
 
 same-length-2 : tie.Need-same-length-2
 same-length-2 c = search needs
 
 returns-2 : tie.Need-returns-2
-returns-2 c = no-room (fails _ (c .if1 .left) (c .before .has-room .ensures))
+returns-2 c = no-room (fails _ (c .if1 .left) (c .before .has-room-at-end .ensures))
 
 pub ended-spec : {M : Type 1} → statement M
-ended-spec = tie.close (tie.spec has-room-requires put-end-requires same-length returns same-length-2 returns-2)
+ended-spec =
+    tie.close
+    (tie.spec has-room-at-end-requires put-end-requires same-length returns same-length-2 returns-2)

@@ -4,7 +4,7 @@ use native.Mathlib.Omega.{arith}
 use mathlib.Core.Path.{ap, _∙_}
 use mathlib.Core.List.{[], _∷_, _++_}
 use Rattle.report.specs.Text.{decimal, steps, symbols}
-use Rattle.report.proofs.Laws.{then, same, lined}
+use Rattle.report.proofs.Laws.{then, same, verdicts-lined}
 use Rattle.report.proofs.put_accepted.Statement.{statement}
 use Rattle.report.proofs.put_accepted.Tie as tie
 
@@ -17,11 +17,8 @@ wide-requires c κs = search needs
 field-requires : tie.Need-field-requires
 field-requires c κs = search needs
 
-verdict-field-requires : tie.Need-verdict-field-requires
-verdict-field-requires c κs = search needs
-
-verdict-field-requires-2 : tie.Need-verdict-field-requires-2
-verdict-field-requires-2 c κs = search needs
+verdict-fields-requires : tie.Need-verdict-fields-requires
+verdict-fields-requires c κs = search needs
 
 symbols-field-requires : tie.Need-symbols-field-requires
 symbols-field-requires c κs = search needs
@@ -34,10 +31,10 @@ same-length c = search needs
 
 returns : tie.Need-returns
 returns c =
-    let a = c .before .before .before .before .before .before .before .before .before .before .before .before .before .before .before .before .before .before .before .before .before .before .before .before .before .before .before .args in
-    same (ap (λ (k : ℕ). decimal (a .place) ++ ((32 ∷ decimal k) ++ ((32 ∷ steps (a .verdicts .weak)) ++ ((32 ∷ steps (a .verdicts .strong)) ++ ((32 ∷ symbols (a .released .now)) ++ (10 ∷ [])))))) (c .before .before .before .before .before .before .before .before .before .before .before .before .before .before .before .before .before .before .before .wide .ensures)
-    ∙ lined (decimal (a .place)) (decimal (a .symbol) ∷ steps (a .verdicts .weak) ∷ steps (a .verdicts .strong) ∷ symbols (a .released .now) ∷ [])) (omega arith)
-    (then (c .before .before .before .before .before .before .before .before .before .before .before .before .before .before .before .before .before .before .before .before .before .before .before .number .ensures) (then (c .before .before .before .before .before .before .before .before .before .before .before .before .before .before .before .before .before .before .field .ensures) (then (c .before .before .before .before .before .before .before .before .before .before .before .before .before .before .verdict-field .ensures) (then (c .before .before .before .before .before .before .before .before .before .before .verdict-field2 .ensures) (then (c .before .before .before .before .before .before .symbols-field .ensures) (c .before .before .put .ensures))))))
+    let a = c .before .before .before .before .before .before .before .before .before .before .before .before .before .before .before .before .before .before .before .before .before .before .before .args in
+    same (ap (λ (k : ℕ). decimal (a .place) ++ ((32 ∷ decimal k) ++ (((32 ∷ steps (a .verdicts .weak)) ++ (32 ∷ steps (a .verdicts .strong))) ++ ((32 ∷ symbols (a .released .now)) ++ (10 ∷ []))))) (c .before .before .before .before .before .before .before .before .before .before .before .before .before .before .before .wide .ensures)
+    ∙ verdicts-lined (decimal (a .place)) (decimal (a .symbol)) (steps (a .verdicts .weak)) (steps (a .verdicts .strong)) (symbols (a .released .now))) (omega arith)
+    (then (c .before .before .before .before .before .before .before .before .before .before .before .before .before .before .before .before .before .before .before .number .ensures) (then (c .before .before .before .before .before .before .before .before .before .before .before .before .before .before .field .ensures) (then (c .before .before .before .before .before .before .before .before .before .before .verdict-fields .ensures) (then (c .before .before .before .before .before .before .symbols-field .ensures) (c .before .before .put .ensures)))))
 
 pub put-accepted-spec : {M : Type 1} → statement M
 put-accepted-spec =
@@ -46,8 +43,7 @@ put-accepted-spec =
     number-requires
     wide-requires
     field-requires
-    verdict-field-requires
-    verdict-field-requires-2
+    verdict-fields-requires
     symbols-field-requires
     put-requires
     same-length

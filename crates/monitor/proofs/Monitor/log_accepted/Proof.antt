@@ -11,14 +11,14 @@ add-accepted c = search needs
 accepted-requires : tie.Need-accepted-requires
 accepted-requires c κs = search needs
 
-add-t13 : tie.Need-add-t13
-add-t13 c = search needs
+add-t14 : tie.Need-add-t14
+add-t14 c = search needs
 
-cast-t15 : tie.Need-cast-t15
-cast-t15 c = search needs
+cast-t16 : tie.Need-cast-t16
+cast-t16 c = search needs
 
-add-t16 : tie.Need-add-t16
-add-t16 c = search needs
+add-t17 : tie.Need-add-t17
+add-t17 c = let fits = c .before .before .before .before .before .before .before .before .before .before .pre .1 .released in search needs
 
 place-requires : tie.Need-place-requires
 place-requires c κs = search needs
@@ -27,7 +27,7 @@ same-length : tie.Need-same-length
 same-length c = search needs
 
 returns : tie.Need-returns
-returns c = (refl, rw (c .place .ensures) (printed (omega (arith, c .before .before .before .before .before .before .before .before .before .before .pre .0 .room, c .before .before .before .before .before .before .before .before .before .before .pre .1 .few)) (c .before .before .before .before .before .accepted .ensures)))
+returns c = (refl, rw (c .place .ensures) (printed (omega (arith, c .before .before .before .before .before .before .before .before .before .before .before .pre .0 .room, c .before .before .before .before .before .before .before .before .before .before .before .pre .1 .few)) (c .before .before .before .before .before .accepted .ensures)))
 
 pub log-accepted-spec : {M : Type 1} → statement M
 log-accepted-spec =
@@ -35,9 +35,9 @@ log-accepted-spec =
     (tie.spec
     add-accepted
     accepted-requires
-    add-t13
-    cast-t15
-    add-t16
+    add-t14
+    cast-t16
+    add-t17
     place-requires
     same-length
     returns)

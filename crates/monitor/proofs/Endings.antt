@@ -1,0 +1,22 @@
+-- The last lines of a log, by how many event bytes were offered. Assumes nothing.
+use mathlib.Core.Path.{_≡_, refl, sym, ap}
+use mathlib.Core.List.{List, [], _++_}
+use Prim.Native.Nat.{ℕ, zero, suc, _<_}
+use native.Mathlib.Omega.{arith}
+use Rattle.verifier.specs.declared.Verdicts.{Verdicts}
+use Rattle.report.specs.Text.{idleLine, endLine}
+use Rattle.monitor.specs.Ending.{idleLines, lastLines}
+use Rattle.monitor.specs.declared.Monitor.{Monitor}
+
+not-idle : (n : ℕ) (v : Verdicts) → 0 < n → idleLines n v ≡ []
+not-idle zero v l = absurd (omega arith)
+not-idle (suc n) v l = refl
+
+-- none
+pub with-none : (m : Monitor) → m .offered ≡ 0
+    → idleLine (m .opening .weak) (m .opening .strong) ++ endLine (m .accepted) (m .released) (m .enforcer .count) ≡ lastLines m
+with-none m e = ap (λ (n : ℕ). idleLines n (m .opening) ++ endLine (m .accepted) (m .released) (m .enforcer .count)) (sym e)
+
+-- some
+pub with-some : (m : Monitor) → 0 < m .offered → endLine (m .accepted) (m .released) (m .enforcer .count) ≡ lastLines m
+with-some m l = ap (λ (line : List ℕ). line ++ endLine (m .accepted) (m .released) (m .enforcer .count)) (sym (not-idle (m .offered) (m .opening) l))

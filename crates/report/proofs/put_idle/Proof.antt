@@ -1,0 +1,36 @@
+use borrow.Author.Needs.{needs}
+use native.Mathlib.Omega.{arith}
+use mathlib.Core.List.{[], _∷_}
+use Rattle.report.specs.Text.{decimal, steps}
+use Rattle.report.proofs.Laws.{then, same, verdicts-lined}
+use Rattle.report.proofs.put_idle.Statement.{statement}
+use Rattle.report.proofs.put_idle.Tie as tie
+
+number-requires : tie.Need-number-requires
+number-requires c κs = search needs
+
+dash-requires : tie.Need-dash-requires
+dash-requires c κs = search needs
+
+verdict-fields-requires : tie.Need-verdict-fields-requires
+verdict-fields-requires c κs = search needs
+
+dash-requires-2 : tie.Need-dash-requires-2
+dash-requires-2 c κs = search needs
+
+put-requires : tie.Need-put-requires
+put-requires c κs = search needs
+
+same-length : tie.Need-same-length
+same-length c = search needs
+
+returns : tie.Need-returns
+returns c =
+    let a = c .before .before .before .before .before .before .before .before .before .before .before .before .before .before .before .before .before .before .before .before .before .args in
+    same (verdicts-lined (decimal 0) (45 ∷ []) (steps (a .opening .weak)) (steps (a .opening .strong)) (45 ∷ [])) (omega arith)
+    (then (c .before .before .before .before .before .before .before .before .before .before .before .before .before .before .before .before .before .before .number .ensures) (then (c .before .before .before .before .before .before .before .before .before .before .before .before .before .before .dash .ensures) (then (c .before .before .before .before .before .before .before .before .before .before .verdict-fields .ensures) (then (c .before .before .before .before .before .before .dash2 .ensures) (c .before .before .put .ensures)))))
+
+pub put-idle-spec : {M : Type 1} → statement M
+put-idle-spec =
+    tie.close
+    (tie.spec number-requires dash-requires verdict-fields-requires dash-requires-2 put-requires same-length returns)

@@ -277,8 +277,8 @@ def idle_log(rng):
 
 
 def random_log(rng):
-    """The bytes of a log, and what the log program prints for them. A tenth of them is idle."""
-    if rng.random() < 0.1:
+    """The bytes of a log, and what the log program prints for them. One of eight is idle."""
+    if rng.random() < 0.125:
         return cut_to_size(idle_log(rng))
     automaton = random_automaton(rng)
     offered = random_offers(rng, automaton, rng.choice((1, 2, 3, 4, 5, 6, 6, 8, 12, 24, 40)))

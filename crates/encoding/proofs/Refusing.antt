@@ -1,16 +1,18 @@
 -- By which numbers the layout refuses: 1, 3, 4, 5 and 12. For a number x that is none of them, or none of those of a part. Assumes nothing.
 use Prim.Native.Nat.{ℕ, zero, suc, _+_, _-_}
-use mathlib.Core.Path.{_≡_, refl, ap, sym, _∙_}
+use mathlib.Core.Path.{_≡_, refl, ap, sym, subst, _∙_}
 use mathlib.Core.Bool.{Bool, true, false, not, _&&_, _||_, false≢true}
 use mathlib.Core.List.{List}
 use native.Mathlib.Omega.{arith}
 use lib.Dec.{leb, ltb, eqb}
 use lib.ListN.{length}
-use Rattle.bitfields.specs.Bits.{numberAt}
-use Rattle.bitfields.specs.Parser.{demand, field, flags}
+use Rattle.automaton.specs.declared.Header.{Header}
+use Rattle.bitfields.specs.Bits.{bitsOf, numberAt}
+use Rattle.bitfields.specs.Parser.{Parsed, demand, field, flags}
 use Rattle.bitfields.proofs.Parsing.{Never, never-then, never-demand, never-field, never-flags}
 use Rattle.encoding.specs.Transitions.{listed}
-use Rattle.encoding.specs.Encoding.{encoding, ending, fixed, front, symbols, symbolCount, preamble, transition, transitions}
+use Rattle.encoding.specs.Decoding.{Decoding, refuse}
+use Rattle.encoding.specs.Encoding.{Encoding, encoding, ending, fixed, front, symbols, symbolCount, preamble, transition, transitions}
 
 -- the numbers by which a part other than the repeats refuses, as one test
 abbrev refusing : ℕ → Bool
@@ -89,6 +91,12 @@ module _ (x : ℕ) (other : refusing x ≡ false) (bits : List ℕ) where
         let f = d .front .fixed in
         never-then x (transitions (f .topstate) (f .topevent) (f .count) bits n1) _ (transitions-never (f .topstate) (f .topevent) (f .count) n1) λ ts n2.
         never-then x (ending bits n2) _ (ending-never n2) λ u n3. tt
+
+-- and so does decoding, which also refuses by 9
+pub decoding-never : (x : ℕ) → refusing x ≡ false → (12 ≡ x → ⊥) → (9 ≡ x → ⊥) → {bytes table : List ℕ} {h : Header} {n : ℕ} {after : List ℕ}
+    → Decoding bytes table h (refuse n) after → n ≡ x → ⊥
+decoding-never x other unrepeated sized (Decoding.malformed bad) = sized
+decoding-never x other unrepeated sized {bytes = bytes} (Decoding.refused size n e) = subst (λ (p : Parsed Encoding). Never x p) e (encoding-never x other (bitsOf bytes) unrepeated 0)
 
 -- REFUSAL 2 NO LONGER OCCURS (02, S-2)
 pub never-two : (bits : List ℕ) → Never 2 (encoding bits 0)

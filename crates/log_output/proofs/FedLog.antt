@@ -32,7 +32,7 @@ use Rattle.log_output.specs.declared.Rest.{Rest}
 use Rattle.log_output.specs.Progressing.{Usable, Roomy, free, emptied, closed, Stopped, Followed}
 use Rattle.log_output.specs.Whole.{RefusalLine, EndLine, begun, Begins, not-opened, opened, Finished, HasPrinted}
 use Rattle.log_output.specs.Feeding as fed
-use Rattle.log_output.specs.Feeding.{withStatus, WrittenOut, Turning, unwritten, brought-some, Feeding, Ran, LeftBehind, one-line, whole, not-read, not-written, no-last}
+use Rattle.log_output.specs.Feeding.{withStatus, Turning, unwritten, brought-some, Feeding, Ran, LeftBehind, one-line, whole, not-read, not-written, no-last}
 use Rattle.log_output.proofs.Keeping.{ended-not, failed-not, closed-not}
 use Rattle.log_output.proofs.Fetching.{feeding-over}
 

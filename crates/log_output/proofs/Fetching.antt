@@ -1,6 +1,6 @@
 -- Laws of reading on: one read, and read after read. Assumes nothing.
 use mathlib.Core.Path.{_≡_, refl, sym, ap, subst, _∙_}
-use mathlib.Core.List.{List, [], _++_, append-assoc, append-nil}
+use mathlib.Core.List.{List, [], _++_, append-assoc}
 use mathlib.Core.Logic.{_⊎_, inl, inr}
 use Prim.Native.Nat.{ℕ, _+_, _-_, _≤_, _<_}
 use native.Mathlib.Omega.{arith}
@@ -16,18 +16,16 @@ use Rattle.stateset.specs.Set.{Decided}
 use Rattle.stateset.proofs.Decides.{holds}
 use Rattle.monitor.specs.Opening.{frontSize}
 use Rattle.automaton.specs.declared.Header.{Header}
-use Rattle.log_output.specs.declared.Status.{Status}
-use Rattle.log_output.specs.declared.Status.the-variants.{Going, Ended, Failed, Closed}
+use Rattle.log_output.specs.declared.Status.the-variants.{Going, Failed}
 use Rattle.log_output.specs.declared.Progress.{Progress}
 use Rattle.log_output.specs.declared.Fetched.{Fetched}
 use Rattle.log_output.specs.declared.Fetched.the-variants as fetched
-use Rattle.log_output.specs.declared.Gathered.{Gathered}
 use Rattle.log_output.specs.declared.Gathered.the-variants as gathered
 use Rattle.log_output.specs.declared.Reading.{Reading}
 use Rattle.log_output.specs.declared.Rest.{Rest}
 use Rattle.log_output.specs.Progressing.{Usable, Followed}
-use Rattle.log_output.specs.Feeding.{FoundBy, Found, There, Brought, gatheredBy, withStatus, WrittenOut, emptied, closed, TakenIn, followed-all, no-more, not-fetched, Turning, unwritten, ended, failed, brought-some, Feeding, stopped, last, more, Fed, Limit, Ran, Monitors, ran}
-use Rattle.log_output.proofs.Keeping.{ended-not, failed-not, closed-not}
+use Rattle.log_output.specs.Feeding.{FoundBy, Found, There, Brought, gatheredBy, WrittenOut, TakenIn, followed-all, no-more, not-fetched, Turning, unwritten, ended, failed, brought-some, Feeding, stopped, last, more, Fed, Limit, Ran, Monitors, ran}
+use Rattle.log_output.proofs.Keeping.{ended-not, failed-not}
 
 pub some-least : {r a b : ℕ} → (r ≡ a) ⊎ (r ≡ b) → 0 < a → 0 < b → 0 < r
 some-least (inl e) ha hb = omega arith

@@ -1,22 +1,22 @@
--- The output of an idle log is one of two (02, S-4). Assumes nothing.
+-- The output of an idle log is one of two, and no log is refused by 11 (02, S-4). Assumes nothing.
 use mathlib.Core.Path.{_≡_, refl, ap, subst}
 use mathlib.Core.List.{List, [], _∷_, _++_}
 use mathlib.Core.Logic.{_⊎_, inl, inr}
 use Prim.Native.Nat.{ℕ}
 use native.Mathlib.Omega.{arith}
 use lib.ListN.{length}
-use Rattle.automaton.specs.Run.{Automaton, automatonOf}
+use Rattle.automaton.specs.Run.{automatonOf}
 use Rattle.automaton.specs.declared.Header.{Header}
 use Rattle.verifier.specs.declared.Notion.{Notion}
 use Rattle.verifier.specs.declared.Notion.the-variants.{Weak, Strong}
 use Rattle.verifier.specs.declared.Verdict.{Verdict}
 use Rattle.verifier.specs.declared.Verdict.the-variants.{NoLeak, Leak}
-use Rattle.verifier.specs.declared.Verdicts.{Verdicts}
 use Rattle.verifier.specs.Verdicts.{stepsOf, LeakAt, Words}
 use Rattle.verifier.specs.Calls.{Right}
+use Rattle.encoding.proofs.Refusing.{decoding-never}
 use Rattle.report.specs.Text.{digits, decimal, idleLine, endLine}
 use Rattle.monitor.specs.Opening.{frontSize}
-use Rattle.monitor.specs.Log.{Monitored, Output, refused, idle, ended}
+use Rattle.monitor.specs.Log.{Refused, truncated, not-decoded, initial-leak, Monitored, Output, refused, idle, ended}
 use Rattle.monitor.proofs.OneOutput.{one-automaton, not-both}
 
 -- the opening leaks, under a notion
@@ -56,3 +56,9 @@ idle-none = refl
 pub idle-leak : idleLine NoLeak (Leak 0) ++ endLine 0 0 0 ≡ 48 ∷ 32 ∷ 45 ∷ 32 ∷ 45 ∷ 32 ∷ 48 ∷ 32 ∷ 45 ∷ 10 ∷ 101 ∷ 110 ∷ 100 ∷ 32 ∷ 48 ∷ 32 ∷ 48 ∷ 32 ∷ 48 ∷ 10 ∷ []
 unfolding decimal digits
 idle-leak = refl
+
+-- REFUSAL 11 IS GIVEN NO MORE
+pub never-eleven : {input : List ℕ} {n : ℕ} → Refused input n → n ≡ 11 → ⊥
+never-eleven (truncated short) e = omega arith
+never-eleven (not-decoded le d) e = decoding-never 11 refl (λ z. omega arith) (λ z. omega arith) (d .decoding) e
+never-eleven (initial-leak le d leak) e = omega arith

@@ -8,7 +8,7 @@ import pathlib
 import random
 import sys
 
-from examples import ENCODINGS, EXAMPLES, ONE_SYMBOL, P_ENCODING, P_SYMBOLS
+from examples import ENCODINGS, EXAMPLES, ONE_SYMBOL, P_ENCODING, P_SYMBOLS, T
 from generate import many_transitions, random_log, with_length, with_repeat, with_symbols, with_transitions
 from logs import encoded, output
 from runs import Automaton
@@ -144,12 +144,19 @@ def logs():
         yield random_log(random.Random(f"{SEED} {i}"))[0]
 
 
+def behind_size(log, more=0):
+    """A log behind its length, which may say more than there is: then the input ends before."""
+    size = len(log) + more
+    return bytes((size // 256, size % 256)) + log
+
+
 def sample():
-    """The files: each log behind its length, and what all of them print."""
+    """The files: each log behind its length, and what all of them print. The last is idle, and the input ends there."""
     listed = list(logs())
+    last = with_length(encoded(T), b"")
     return {
-        "stdin": b"".join(bytes((len(log) // 256, len(log) % 256)) + log for log in listed),
-        "stdout": "".join(output(log) for log in listed).encode("ascii"),
+        "stdin": b"".join(behind_size(log) for log in listed) + behind_size(last, 100),
+        "stdout": "".join(output(log) for log in [*listed, last]).encode("ascii"),
     }
 
 

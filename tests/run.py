@@ -9,6 +9,8 @@ import argparse
 import os
 import random
 import select
+import socket
+import struct
 import subprocess
 import sys
 import time
@@ -96,8 +98,24 @@ def live_feed(program):
     return None
 
 
+def reset_feed(program, data):
+    """What the program prints, says on standard error and ends with, where a feed breaks off behind some bytes."""
+    with socket.create_server(("127.0.0.1", 0)) as server:
+        feed = socket.create_connection(server.getsockname())
+        end, _ = server.accept()
+    with subprocess.Popen([program], stdin=end, stdout=subprocess.PIPE, stderr=subprocess.PIPE) as process:
+        end.close()
+        feed.sendall(data)
+        time.sleep(0.2)  # what is not read when the feed is reset is lost
+        feed.setsockopt(socket.SOL_SOCKET, socket.SO_LINGER, struct.pack("ii", 1, 0))
+        feed.close()
+        out, error = process.communicate(timeout=60)
+        return out, error, process.returncode
+
+
 def failures(program):
-    """A read that fails, and writes that do: each has its words, and there is no last line. Says what is wrong, or nothing."""
+    """A read that fails, the first one or one behind the encoding or an event, and writes that do: each has its words, and there is no last line. Says
+    what is wrong, or nothing."""
     automaton, offered, _ = EXAMPLES[0]
     log = with_length(encoded(automaton), bytes(offered))
     folder = os.open("/", os.O_RDONLY)
@@ -105,6 +123,10 @@ def failures(program):
     os.close(folder)
     if (done.stdout, done.stderr, done.returncode) != (b"", b"read failed\n", 0):
         return f"a folder as input: {done}"
+    front = with_length(encoded(automaton), b"")
+    for data, expected in ((front, b""), (front + b"\x00", b"! 0 6\n")):
+        if reset_feed(program, data) != (expected, b"read failed\n", 0):
+            return f"a feed that breaks off behind {data.hex(' ')}: {reset_feed(program, data)}"
     for name, data in (("a log", log), ("a refused log", log[:5])):
         with open("/dev/full", "wb") as full:
             done = subprocess.run([program], input=data, stdout=full, stderr=subprocess.PIPE, timeout=60, check=False)

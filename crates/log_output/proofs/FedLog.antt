@@ -30,7 +30,7 @@ use Rattle.log_output.specs.declared.Progress.{Progress}
 use Rattle.log_output.specs.declared.Reading.{Reading}
 use Rattle.log_output.specs.declared.Rest.{Rest}
 use Rattle.log_output.specs.Progressing.{Usable, Roomy, free, emptied, closed, Stopped, Followed}
-use Rattle.log_output.specs.Whole.{RefusalLine, EndLine, begun, Begins, not-opened, opened, Finished, HasPrinted}
+use Rattle.log_output.specs.Whole.{RefusalLine, EndLines, begun, Begins, not-opened, opened, Finished, HasPrinted}
 use Rattle.log_output.specs.Feeding as fed
 use Rattle.log_output.specs.Feeding.{withStatus, Turning, unwritten, brought-some, Feeding, Ran, LeftBehind, one-line, whole, not-read, not-written, no-last}
 use Rattle.log_output.proofs.Keeping.{ended-not, failed-not, closed-not}
@@ -240,7 +240,7 @@ print-last {input} {out} {at = at} gone text end kept room o (written space fit)
 
 -- a log that was read to its end: what it has printed, with what was written out before, is the output of its input
 pub read-log : {input t out out₁ out₂ : List ℕ} {h : Header} {m : Monitor} {n : ℕ} {r : Progress} → Opening input (started n) t h m → Handed t h (begun m) out (drop n input) r out₁
-    → 256 ≤ length out₁ → r .status ≡ Ended → (e : EndLine r out₁ out₂) → (not : e .last .status ≡ Closed → ⊥) → HasPrinted input out₂ (placeOf (e .written not .line) 0)
+    → 256 ≤ length out₁ → r .status ≡ Ended → (e : EndLines r out₁ out₂) → (not : e .last .status ≡ Closed → ⊥) → HasPrinted input out₂ (placeOf (e .written not .line) 0)
 read-log {input} {t} {out} {out₁} {out₂} {h} {m} {n} {r} o x room ended e not =
     let l = last-of (x .gone) (x .kept) room not (e .roomy) in
     let all-lines = lines-output o (take-append-drop (x .taken) (drop n input)) (x .lines) (x .few) (why (r .status) r (x .taken) (drop n input) ended (x .left)) in
@@ -250,7 +250,7 @@ read-log {input} {t} {out} {out₁} {out₂} {h} {m} {n} {r} o x room ended e no
 -- a log that has started, however the input was cut into reads: it was read on and ended, and the output took all
 fed-log : {first input t out out₁ out₂ out₃ : List ℕ} {h : Header} {m : Monitor} {n limit : ℕ} {p : Progress} {s : Rest} (f : Front first input) → Opening first (started n) t h m
     → 256 ≤ length out → Followed t h (begun m) (drop n first) out p out₁ → Feeding t h limit p out₁ (f .later) s out₂ → s .progress .status ≡ Ended
-    → (e : EndLine (s .progress) out₂ out₃) → (not : e .last .status ≡ Closed → ⊥) → HasPrinted input out₃ (placeOf (e .written not .line) 0)
+    → (e : EndLines (s .progress) out₂ out₃) → (not : e .last .status ≡ Closed → ⊥) → HasPrinted input out₃ (placeOf (e .written not .line) 0)
 fed-log {first} {input} {t} {out} {out₁} {out₂} {out₃} {h} {m} {n} {limit} {p} {s} f o room a feeding ended e not =
     let events : drop n first ++ f .later ≡ drop n input = sym (drop-append-le n first (f .later) (omega (arith, started-within o))) ∙ ap (drop n) (f .splits) in
     let x = begun-handed t h o room a feeding in
@@ -287,7 +287,7 @@ module _ {first out : List ℕ} {size : ℕ} {out′ : List ℕ} {over : ℕ} (r
   -- the last line was put, or the output took no more
   ended-behind : {n : ℕ} {m : Monitor} → Opening first (started n) (r .begun .table) (r .begun .header) m
       → Followed (r .begun .table) (r .begun .header) (begun m) (drop n first) out (r .begun .progress) (r .out₁) → r .rest .progress .status ≡ Ended
-      → EndLine (r .rest .progress) (r .out₂) out′ → LeftBehind r
+      → EndLines (r .rest .progress) (r .out₂) out′ → LeftBehind r
   ended-behind o a ended e = go (closed? (e .last .status))
     where
       go : (e .last .status ≡ Closed) ⊎ (e .last .status ≡ Closed → ⊥) → LeftBehind r

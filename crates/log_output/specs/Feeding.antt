@@ -22,7 +22,7 @@ use Rattle.log_output.specs.declared.Reading.{Reading}
 use Rattle.log_output.specs.declared.Rest.{Rest}
 use Rattle.log_output.specs.declared.Monitored.{Monitored}
 use Rattle.log_output.specs.Progressing.{Usable, Followed}
-use Rattle.log_output.specs.Whole.{RefusalLine, EndLine, Begins, Finished, HasPrinted}
+use Rattle.log_output.specs.Whole.{RefusalLine, EndLines, Begins, Finished, HasPrinted}
 
 -- what a read finds, by what the system answered: a negative number is a failure, 0 the end of the input, and else so many bytes of those that were lent
 abbrev pub FoundBy : ℤ → ℕ → Fetched → Type 0
@@ -121,7 +121,7 @@ pub data LeftBehind {first out : List ℕ} {size : ℕ} {out′ : List ℕ} {ove
   one-line : {n : Refusal} (l : RefusalLine n out (r .out₁)) → out′ ≡ r .out₁ → ((input : List ℕ) → Front first input → HasPrinted input (r .out₁) (placeOf (l .line) 0))
       → LeftBehind r
   -- it was read to its end: up to the end of the last line, with what was written out before, stands the output of the first bytes and those handed on
-  whole : (e : EndLine (r .rest .progress) (r .out₂) out′) (not : e .last .status ≡ Closed → ⊥)
+  whole : (e : EndLines (r .rest .progress) (r .out₂) out′) (not : e .last .status ≡ Closed → ⊥)
       → HasPrinted (first ++ r .fed .bytes) out′ (placeOf (e .written not .line) 0) → LeftBehind r
   -- a read failed; the lines so far could not be written out; or there is no room for the last line, and they could not be written out: no last line
   not-read : r .rest .progress .status ≡ Failed → out′ ≡ r .out₂ → LeftBehind r

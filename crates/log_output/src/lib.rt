@@ -14,7 +14,7 @@ ghost use Rattle.stateset.specs.Set.{Decided};
 ghost use Rattle.monitor.specs.Stepping.{placeOf};
 ghost use Rattle.log_output.specs.declared.Status.the-variants as case;
 ghost use Rattle.log_output.specs.Progressing.{Usable, Roomy, Parted, Followed};
-ghost use Rattle.log_output.specs.Whole.{RefusalLine, EndLine, Begins, Finished};
+ghost use Rattle.log_output.specs.Whole.{RefusalLine, EndLines, Begins, Finished};
 ghost use Rattle.log_output.specs.Feeding.{Found, There, Brought, gatheredBy, UpTo, WrittenOut, TakenIn, Turning, Fed, Ran, Monitors};
 
 pub enum Status {
@@ -230,7 +230,7 @@ fn start(log: &[u8], out: &mut [u8]) -> Monitored
 
 // The last lines, unless the output takes no more: what could not be written out is not written once more.
 fn write_end(progress: Progress, out: &mut [u8])
-    ensures { λ _. ⌜ EndLine progress (now (out .entry)) (now (out .exit)) ⌝ }
+    ensures { λ _. ⌜ EndLines progress (now (out .entry)) (now (out .exit)) ⌝ }
 {
     let last = with_room(progress, out);
     let status = last.status;

@@ -5,17 +5,17 @@ use Prim.Native.Nat.{ℕ, zero, suc, _<_}
 use native.Mathlib.Omega.{arith}
 use Rattle.verifier.specs.declared.Verdicts.{Verdicts}
 use Rattle.report.specs.Text.{idleLine, endLine}
-use Rattle.monitor.specs.Ending.{idleLines, lastLines}
+use Rattle.monitor.specs.Ending.{beforeLast, lastLines}
 use Rattle.monitor.specs.declared.Monitor.{Monitor}
 
-not-idle : (n : ℕ) (v : Verdicts) → 0 < n → idleLines n v ≡ []
+not-idle : (n : ℕ) (v : Verdicts) → 0 < n → beforeLast n v ≡ []
 not-idle zero v l = absurd (omega arith)
 not-idle (suc n) v l = refl
 
 -- none
 pub with-none : (m : Monitor) → m .offered ≡ 0
     → idleLine (m .opening .weak) (m .opening .strong) ++ endLine (m .accepted) (m .released) (m .enforcer .count) ≡ lastLines m
-with-none m e = ap (λ (n : ℕ). idleLines n (m .opening) ++ endLine (m .accepted) (m .released) (m .enforcer .count)) (sym e)
+with-none m e = ap (λ (n : ℕ). beforeLast n (m .opening) ++ endLine (m .accepted) (m .released) (m .enforcer .count)) (sym e)
 
 -- some
 pub with-some : (m : Monitor) → 0 < m .offered → endLine (m .accepted) (m .released) (m .enforcer .count) ≡ lastLines m

@@ -16,12 +16,8 @@ use Rattle.verifier.specs.Calls.{Right}
 use Rattle.encoding.proofs.Refusing.{decoding-never}
 use Rattle.report.specs.Text.{digits, decimal, idleLine, endLine}
 use Rattle.monitor.specs.Opening.{frontSize}
-use Rattle.monitor.specs.Log.{Refused, truncated, not-decoded, initial-leak, Monitored, Output, refused, idle, ended}
+use Rattle.monitor.specs.Log.{OpeningLeak, Refused, truncated, not-decoded, initial-leak, Monitored, Output, refused, idle, ended}
 use Rattle.monitor.proofs.OneOutput.{one-automaton, not-both}
-
--- the opening leaks, under a notion
-abbrev OpeningLeak : Notion → List ℕ → Header → Type 0
-OpeningLeak notion t h = LeakAt notion (automatonOf t h) (h .secret) (h .k) [] 0
 
 -- a verdict of the opening is none or leak 0: there is no event to look back to
 opening-verdict : (notion : Notion) (t : List ℕ) (h : Header) (v : Verdict) → Words notion (automatonOf t h) (h .secret) (h .k) [] (stepsOf v)
@@ -32,11 +28,11 @@ opening-verdict notion t h (Leak l) w =
     inr (ap Leak first, subst (LeakAt notion (automatonOf t h) (h .secret) (h .k) []) first (w .0))
 
 -- AN IDLE LOG that is not refused prints `0 - - - -` or `0 - - 0 -`, and `end 0 0 0`: the second exactly where the opening leaks under strong
-pub idle-lines : {input t text : List ℕ} {h : Header} → Monitored input t h → length input ≡ frontSize input → Output input text
+pub idle-outputs : {input t text : List ℕ} {h : Header} → Monitored input t h → length input ≡ frontSize input → Output input text
     → ((text ≡ idleLine NoLeak NoLeak ++ endLine 0 0 0) × (OpeningLeak Strong t h → ⊥)) ⊎ ((text ≡ idleLine NoLeak (Leak 0) ++ endLine 0 0 0) × OpeningLeak Strong t h)
-idle-lines m e (refused r x) = absurd (not-both x m)
-idle-lines m e (ended m′ l p) = absurd (omega arith)
-idle-lines {t = t} {h = h} m e (idle v m′ e′ ri) =
+idle-outputs m e (refused r x) = absurd (not-both x m)
+idle-outputs m e (ended m′ l p) = absurd (omega arith)
+idle-outputs {t = t} {h = h} m e (idle v m′ e′ ri) =
     let right = one-automaton (λ (x : List ℕ) (y : Header). Right x y [] (stepsOf (v .weak)) (stepsOf (v .strong))) m′ m ri in
     by-cases (opening-verdict Weak t h (v .weak) (right .weak (stepsOf (v .weak)) .0 refl)) (opening-verdict Strong t h (v .strong) (right .strong (stepsOf (v .strong)) .0 refl))
   where

@@ -29,7 +29,7 @@ use Rattle.monitor.specs.Advancing.{Said, Advancing}
 use Rattle.monitor.specs.Ending.{lastLines}
 use Rattle.monitor.specs.LogText.{Prints}
 use Rattle.monitor.specs.Log as log
-use Rattle.monitor.specs.Log.{eventsOf, InitialLeak, Refused, Monitored, Output}
+use Rattle.monitor.specs.Log.{eventsOf, OpeningLeak, Refused, Monitored, Output}
 use Rattle.monitor.specs.Running as running
 use Rattle.monitor.specs.Running.{Front, takenBy, writtenBy, Follows, all, stops, call, Runs}
 use Rattle.monitor.specs.declared.Monitor.{Monitor}
@@ -190,7 +190,7 @@ no-secret p secret K s g leak =
     let safe : Safe Weak p secret K [] 0 = subst (λ (l : List ℕ). Safe Weak p secret K l 0) (take-nil {A = ℕ} (0 - s .count)) (g .queue .longest .safe) in
     safe 0 (omega arith) (omega arith) (leak .sure)
 
-secret-open : (t : List ℕ) (h : Header) (s : Enforcer) → Starting t h Weak (not-started 8) s → InitialLeak t h
+secret-open : (t : List ℕ) (h : Header) (s : Enforcer) → Starting t h Weak (not-started 8) s → OpeningLeak Weak t h
 secret-open t h s (Starting.initial-leak so tells out) = record { within = tells .within; reached = tells .reached; sure = tells .sure }
 
 refuses : {input t : List ℕ} {h : Header} {m : Monitor} {n : ℕ} → Opening input (opening.refused n) t h m → Refused input n

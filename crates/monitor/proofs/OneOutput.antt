@@ -7,6 +7,7 @@ use lib.ListN.{length, take, drop}
 use Rattle.automaton.specs.declared.Header.{Header}
 use Rattle.encoding.specs.Decoding.{Outcome, accept, refuse, Decoding}
 use Rattle.encoding.proofs.Only.{Same, one-decoding}
+use Rattle.verifier.specs.declared.Notion.the-variants.{Weak}
 use Rattle.verifier.specs.declared.Verdict.{Verdict}
 use Rattle.verifier.specs.declared.Verdict.the-variants.{NoLeak, Leak}
 use Rattle.verifier.specs.Verdicts.{Steps, stepsOf}
@@ -16,7 +17,7 @@ use Rattle.report.specs.Text.{decimal, line, acceptedLine, idleLine, refusedLin
 use Rattle.automaton.specs.declared.Refusal.the-variants.{NotObservable, Incompatible}
 use Rattle.monitor.specs.Opening.{encodingOf, Decodes}
 use Rattle.monitor.specs.LogText.{Prints, none, not-observable, incompatible, accepted}
-use Rattle.monitor.specs.Log.{eventsOf, InitialLeak, Refused, truncated, not-decoded, initial-leak, Monitored, Output, refused, idle, ended}
+use Rattle.monitor.specs.Log.{eventsOf, OpeningLeak, Refused, truncated, not-decoded, initial-leak, Monitored, Output, refused, idle, ended}
 
 -- the table after decoding, which found the table b
 abbrev left : Outcome → (b t : List ℕ) → List ℕ
@@ -62,7 +63,7 @@ not-both (truncated a) m = omega (arith, m .whole)
 not-both (not-decoded a d) m = not-accepted (one-decodes d (m .decodes) .answer)
 not-both {h = h} (initial-leak {t = t′} {h = h′} a d s) m =
     let same = one-decodes d (m .decodes) in
-    m .closed (subst (λ (x : List ℕ). InitialLeak x h) (same .table) (subst (λ (x : Header). InitialLeak t′ x) (same .header) s))
+    m .closed (subst (λ (x : List ℕ). OpeningLeak Weak x h) (same .table) (subst (OpeningLeak Weak t′) (same .header) s))
 
 -- steps are printed from one verdict
 one-verdict : (v w : Verdict) → stepsOf v ≡ stepsOf w → v ≡ w

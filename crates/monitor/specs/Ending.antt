@@ -5,11 +5,11 @@ use Rattle.verifier.specs.declared.Verdicts.{Verdicts}
 use Rattle.report.specs.Text.{idleLine, endLine}
 use Rattle.monitor.specs.declared.Monitor.{Monitor}
 
--- the line of an idle log, where no event byte was offered: with one it is none, refused or not
-abbrev pub idleLines : (offered : ℕ) → Verdicts → List ℕ
-idleLines zero opening = idleLine (opening .weak) (opening .strong)
-idleLines (suc n) opening = []
+-- where no event byte was offered, the line of an idle log; else nothing, also where every byte was refused
+abbrev pub beforeLast : (offered : ℕ) → Verdicts → List ℕ
+beforeLast zero opening = idleLine (opening .weak) (opening .strong)
+beforeLast (suc n) opening = []
 
 -- and the last line, behind it
 abbrev pub lastLines : Monitor → List ℕ
-lastLines m = idleLines (m .offered) (m .opening) ++ endLine (m .accepted) (m .released) (m .enforcer .count)
+lastLines m = beforeLast (m .offered) (m .opening) ++ endLine (m .accepted) (m .released) (m .enforcer .count)

@@ -9,6 +9,7 @@ use Rattle.automaton.specs.Refusals.{numberOf}
 use Rattle.automaton.specs.declared.Header.{Header}
 use Rattle.automaton.specs.declared.Refusal.{Refusal}
 use Rattle.encoding.specs.Decoding.{accept, refuse}
+use Rattle.verifier.specs.declared.Notion.{Notion}
 use Rattle.verifier.specs.declared.Notion.the-variants.{Weak}
 use Rattle.verifier.specs.declared.Verdicts.{Verdicts}
 use Rattle.verifier.specs.Verdicts.{stepsOf, LeakAt}
@@ -21,21 +22,21 @@ use Rattle.monitor.specs.LogText.{Prints}
 abbrev pub eventsOf : List ℕ → List ℕ
 eventsOf input = take 4294967295 (drop (frontSize input) input)
 
--- 01's Open secret: the empty list gives leak 0
-abbrev pub InitialLeak : List ℕ → Header → Type 0
-InitialLeak t h = LeakAt Weak (automatonOf t h) (h .secret) (h .k) [] 0
+-- the empty list gives leak 0, under a notion; under weak it is 01's Open secret
+abbrev pub OpeningLeak : Notion → List ℕ → Header → Type 0
+OpeningLeak notion t h = LeakAt notion (automatonOf t h) (h .secret) (h .k) [] 0
 
 -- a log that is refused, in this order: 1, those of the encoding (01: description), 8. (01's 11 is given no more: 02, S-4)
 pub data Refused (input : List ℕ) : ℕ → Type 0 where
   truncated : length input < frontSize input → Refused input 1
   not-decoded : {n : ℕ} {t : List ℕ} {h : Header} → frontSize input ≤ length input → Decodes input h (refuse n) t → Refused input n
-  initial-leak : {t : List ℕ} {h : Header} → frontSize input ≤ length input → Decodes input h accept t → InitialLeak t h → Refused input 8
+  initial-leak : {t : List ℕ} {h : Header} → frontSize input ≤ length input → Decodes input h accept t → OpeningLeak Weak t h → Refused input 8
 
 -- a log that is not, and its automaton
 pub record Monitored (input t : List ℕ) (h : Header) : Type 0 where
   pub whole : frontSize input ≤ length input
   pub decodes : Decodes input h accept t
-  pub closed : InitialLeak t h → ⊥
+  pub closed : OpeningLeak Weak t h → ⊥
 
 -- the output: the one line of a refused log; of an idle one, which has no event byte at all, the line of the opening verdicts (02, S-4: a chamber still in its
 -- opening) and `end 0 0 0`; else a line for each event byte, in order, and last `end`, accepted, released and pending (01: freed, held)

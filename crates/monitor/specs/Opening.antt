@@ -7,6 +7,7 @@ use Rattle.automaton.specs.Run.{automatonOf}
 use Rattle.automaton.specs.Refusals.{numberOf}
 use Rattle.automaton.specs.declared.Header.{Header}
 use Rattle.verifier.specs.declared.Notion.the-variants.{Weak}
+use Rattle.verifier.specs.declared.Verdict.the-variants.{NoLeak}
 use Rattle.verifier.specs.Verdicts.{stepsOf}
 use Rattle.verifier.specs.Calls.{Right}
 use Rattle.verifier.specs.Estimators as estimators
@@ -56,6 +57,9 @@ pub record NoMonitor (h : Header) (m : Monitor) : Type 0 where
   pub estimator : (K : ℕ) → K ≤ 15 → estimators.Limits K (m .estimator) → ⊥
   pub enforcer : Unusable (m .enforcer)
   pub counts : Balanced m → ⊥
+  -- it has had all event bytes that a log may have, so that its end is not that of an idle log; and it has no leak to tell
+  pub spent : m .offered ≡ 4294967295
+  pub opening : m .opening ≡ record { weak = NoLeak; strong = NoLeak }
 
 -- the start of a log, in the order of its refusals: 1, those of the encoding, 8. What stands behind the encoding does not matter
 pub data Opening (log : List ℕ) : Said → (table : List ℕ) → Header → Monitor → Type 0 where

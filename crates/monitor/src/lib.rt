@@ -327,7 +327,7 @@ fn refused(refusal: Refusal) -> Opened
             },
             estimator: estimator,
             enforcer: enforcer,
-            offered: 0,
+            offered: u32::MAX,
             accepted: 0,
             released: 0,
         },

@@ -11,7 +11,7 @@ ghost use Rattle.automaton.specs.Refusals.{numberOf};
 ghost use Rattle.report.specs.Text.{decimal, led, steps, symbols, acceptedLine, idleLine, refusedLine, endLine, refusedLog};
 ghost use Rattle.report.specs.Writing.{roomFor, roomAtEnd, Written, Wrote};
 
-// Room for any line that names at most 17 released events.
+// Room for any line that names at most 17 released events, and for the last lines.
 pub const LINE: usize = 256;
 
 // Where the next line goes; or nothing was written, since there is no room for the line.
@@ -97,12 +97,10 @@ fn verdict_field(out: &mut [u8], at: usize, verdict: Verdict) -> usize
 }
 
 // A space and the weak verdict, a space and the strong one: for an event's line and for the line of an idle log.
-fn verdict_fields(out: &mut [u8], at: usize, verdicts: Verdicts) -> usize
+fn verdict_fields(out: &mut [u8], at: usize, weak: Verdict, strong: Verdict) -> usize
     requires { ⌜ at + 22 ≤ length (now out) ⌝ }
-    ensures { λ r. ⌜ Wrote 22 (now (out .entry)) at ((32 ∷ steps (verdicts .weak)) ++ (32 ∷ steps (verdicts .strong))) (now (out .exit)) r ⌝ }
+    ensures { λ r. ⌜ Wrote 22 (now (out .entry)) at ((32 ∷ steps weak) ++ (32 ∷ steps strong)) (now (out .exit)) r ⌝ }
 {
-    let weak = verdicts.weak;
-    let strong = verdicts.strong;
     let next = verdict_field(out, at, weak);
     verdict_field(out, next, strong)
 }
@@ -152,9 +150,11 @@ fn put_accepted(
     requires { ⌜ at + roomFor (length (now released)) ≤ length (now out) ⌝ }
     ensures { λ r. ⌜ Wrote (roomFor (length (now (released .entry)))) (now (out .entry)) at (acceptedLine place symbol (verdicts .weak) (verdicts .strong) (now (released .entry))) (now (out .exit)) r ⌝ }
 {
+    let weak = verdicts.weak;
+    let strong = verdicts.strong;
     let a = number(out, at, place);
     let b = field(out, a, 32, wide(symbol));
-    let c = verdict_fields(out, b, verdicts);
+    let c = verdict_fields(out, b, weak, strong);
     let d = symbols_field(out, c, released);
     put(out, d, 10)
 }
@@ -163,9 +163,11 @@ fn put_idle(out: &mut [u8], at: usize, opening: Verdicts) -> usize
     requires { ⌜ at + roomFor 0 ≤ length (now out) ⌝ }
     ensures { λ r. ⌜ Wrote (roomFor 0) (now (out .entry)) at (idleLine (opening .weak) (opening .strong)) (now (out .exit)) r ⌝ }
 {
+    let weak = opening.weak;
+    let strong = opening.strong;
     let a = number(out, at, 0);
     let b = dash(out, a);
-    let c = verdict_fields(out, b, opening);
+    let c = verdict_fields(out, b, weak, strong);
     let d = dash(out, c);
     put(out, d, 10)
 }
@@ -232,7 +234,7 @@ fn has_room(out: &[u8], at: usize, released: usize) -> bool
     true
 }
 
-// There is room at a place for the last lines.
+// There is room at a place for the last lines: for one of them, 64 bytes, and for one behind it.
 fn has_room_at_end(out: &[u8], at: usize) -> bool
     ensures { λ r. ⌜ Decided r (at + roomAtEnd ≤ length (now (out .entry))) ⌝ }
 {
@@ -269,7 +271,7 @@ pub fn refused(out: &mut [u8], at: usize, byte: u8, refusal: Refusal) -> Line
     Line::NoRoom
 }
 
-// The last line.
+// The last line. (Room for two lines is asked for, as `idle` does, so that a log's end asks for the same whichever it writes.)
 pub fn ended(out: &mut [u8], at: usize, accepted: u32, released: u32, pending: u32) -> Line
     ensures { λ r. ⌜ Written roomAtEnd (now (out .entry)) at (endLine accepted released pending) r (now (out .exit)) ⌝ }
 {

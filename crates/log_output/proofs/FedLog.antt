@@ -14,8 +14,7 @@ use Rattle.report.specs.Text.{refusedLog}
 use Rattle.report.specs.Writing.{roomFor, roomAtEnd, Written, no-room, written}
 use Rattle.report.specs.declared.Line.{Line}
 use Rattle.monitor.specs.Stepping.{Within, Lines, done, placeOf}
-use Rattle.monitor.specs.Opening as opening
-use Rattle.monitor.specs.Opening.{refused, started, frontSize, Opening}
+use Rattle.monitor.specs.Opening.{refused, started, Opening}
 use Rattle.monitor.specs.Ending.{lastLines}
 use Rattle.monitor.specs.Log.{Output}
 use Rattle.monitor.specs.declared.Monitor.{Monitor}
@@ -252,7 +251,7 @@ fed-log : {first input t out out₁ out₂ out₃ : List ℕ} {h : Header} {m : 
     → 256 ≤ length out → Followed t h (begun m) (drop n first) out p out₁ → Feeding t h limit p out₁ (f .later) s out₂ → s .progress .status ≡ Ended
     → (e : EndLines (s .progress) out₂ out₃) → (not : e .last .status ≡ Closed → ⊥) → HasPrinted input out₃ (placeOf (e .written not .line) 0)
 fed-log {first} {input} {t} {out} {out₁} {out₂} {out₃} {h} {m} {n} {limit} {p} {s} f o room a feeding ended e not =
-    let events : drop n first ++ f .later ≡ drop n input = sym (drop-append-le n first (f .later) (omega (arith, started-within o))) ∙ ap (drop n) (f .splits) in
+    let events : drop n first ++ f .later ≡ drop n input = sym (drop-append-le n first (f .later) (started-within o .1)) ∙ ap (drop n) (f .splits) in
     let x = begun-handed t h o room a feeding in
     read-log {out = out} (front-opens f .0 o) (subst (λ (l : List ℕ). Handed t h (begun m) out l (s .progress) out₂) events x) (omega (arith, x .size)) ended e not
 
@@ -280,9 +279,6 @@ full (free l) e c = λ h. let z : _≡_ {A = ℕ} 0 1 = cc in omega arith
 full (emptied less l) e c = less
 full (closed less) e c = less
 
-opened-whole : {first t : List ℕ} {h : Header} {m : Monitor} {n : ℕ} → Opening first (started n) t h m → frontSize first ≤ length first
-opened-whole (opening.opened there decodes fresh) = there
-
 module _ {first out : List ℕ} {size : ℕ} {out′ : List ℕ} {over : ℕ} (r : Ran first out size out′ over) (room : 256 ≤ length out) where
   -- the last line was put, or the output took no more
   ended-behind : {n : ℕ} {m : Monitor} → Opening first (started n) (r .begun .table) (r .begun .header) m
@@ -292,7 +288,7 @@ module _ {first out : List ℕ} {size : ℕ} {out′ : List ℕ} {over : ℕ} (r
     where
       go : (e .last .status ≡ Closed) ⊎ (e .last .status ≡ Closed → ⊥) → LeftBehind r
       go (inl is) = no-last (full (e .roomy) ended is) (e .closed is)
-      go (inr not) = whole e not (fed-log (record { later = r .fed .bytes; splits = refl; enough = inl (opened-whole o) }) o room a (r .fed .feeding) ended e not)
+      go (inr not) = whole e not (fed-log (record { later = r .fed .bytes; splits = refl; enough = inl (subst (λ (k : ℕ). k ≤ length first) (started-within o .0) (started-within o .1)) }) o room a (r .fed .feeding) ended e not)
 
   opened-behind : {n : ℕ} {m : Monitor} → Opening first (started n) (r .begun .table) (r .begun .header) m
       → Followed (r .begun .table) (r .begun .header) (begun m) (drop n first) out (r .begun .progress) (r .out₁)

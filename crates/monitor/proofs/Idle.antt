@@ -1,7 +1,7 @@
--- The output of an idle log is one of two, and no log is refused by 11 (02, S-4). Assumes nothing.
-use mathlib.Core.Path.{_≡_, refl, ap, subst}
+-- The output of an idle log is one of two, by its automaton; and no log is refused by 11 (02, S-4). Assumes nothing.
+use mathlib.Core.Path.{_≡_, refl, sym, ap, subst}
 use mathlib.Core.List.{List, [], _∷_, _++_}
-use mathlib.Core.Logic.{_⊎_, inl, inr}
+use mathlib.Core.Logic.{_⊎_, inl, inr, _↔_}
 use Prim.Native.Nat.{ℕ}
 use native.Mathlib.Omega.{arith}
 use lib.ListN.{length}
@@ -11,38 +11,71 @@ use Rattle.verifier.specs.declared.Notion.{Notion}
 use Rattle.verifier.specs.declared.Notion.the-variants.{Weak, Strong}
 use Rattle.verifier.specs.declared.Verdict.{Verdict}
 use Rattle.verifier.specs.declared.Verdict.the-variants.{NoLeak, Leak}
-use Rattle.verifier.specs.Verdicts.{stepsOf, LeakAt, Words}
+use Rattle.verifier.specs.declared.Verdicts.{Verdicts}
+use Rattle.verifier.specs.Verdicts.{none, leak, stepsOf, LeakAt, Words}
 use Rattle.verifier.specs.Calls.{Right}
+use Rattle.verifier.proofs.Exactness.{words-exactly}
 use Rattle.encoding.proofs.Refusing.{decoding-never}
 use Rattle.report.specs.Text.{digits, decimal, idleLine, endLine}
 use Rattle.monitor.specs.Opening.{frontSize}
 use Rattle.monitor.specs.Log.{OpeningLeak, Refused, truncated, not-decoded, initial-leak, Monitored, Output, refused, idle, ended}
 use Rattle.monitor.proofs.OneOutput.{one-automaton, not-both}
 
--- a verdict of the opening is none or leak 0: there is no event to look back to
-opening-verdict : (notion : Notion) (t : List ℕ) (h : Header) (v : Verdict) → Words notion (automatonOf t h) (h .secret) (h .k) [] (stepsOf v)
-    → ((v ≡ NoLeak) × (OpeningLeak notion t h → ⊥)) ⊎ ((v ≡ Leak 0) × OpeningLeak notion t h)
-opening-verdict notion t h NoLeak w = inl (refl, w 0)
-opening-verdict notion t h (Leak l) w =
-    let first : l ≡ 0 = omega (arith, w .0 .reached) in
-    inr (ap Leak first, subst (LeakAt notion (automatonOf t h) (h .secret) (h .k) []) first (w .0))
+module _ (t : List ℕ) (h : Header) (notion : Notion) where
+  -- there is no event to look back to, so that every leak is leak 0
+  at-zero : (l : ℕ) → LeakAt notion (automatonOf t h) (h .secret) (h .k) [] l → l ≡ 0
+  at-zero l x = omega (arith, x .reached)
 
--- AN IDLE LOG that is not refused prints `0 - - - -` or `0 - - 0 -`, and `end 0 0 0`: the second exactly where the opening leaks under strong
-pub idle-outputs : {input t text : List ℕ} {h : Header} → Monitored input t h → length input ≡ frontSize input → Output input text
-    → ((text ≡ idleLine NoLeak NoLeak ++ endLine 0 0 0) × (OpeningLeak Strong t h → ⊥)) ⊎ ((text ≡ idleLine NoLeak (Leak 0) ++ endLine 0 0 0) × OpeningLeak Strong t h)
-idle-outputs m e (refused r x) = absurd (not-both x m)
-idle-outputs m e (ended m′ l p) = absurd (omega arith)
-idle-outputs {t = t} {h = h} m e (idle v m′ e′ ri) =
-    let right = one-automaton (λ (x : List ℕ) (y : Header). Right x y [] (stepsOf (v .weak)) (stepsOf (v .strong))) m′ m ri in
-    by-cases (opening-verdict Weak t h (v .weak) (right .weak (stepsOf (v .weak)) .0 refl)) (opening-verdict Strong t h (v .strong) (right .strong (stepsOf (v .strong)) .0 refl))
+  none-words : (OpeningLeak notion t h → ⊥) → Words notion (automatonOf t h) (h .secret) (h .k) [] none
+  none-words never l x = never (subst (LeakAt notion (automatonOf t h) (h .secret) (h .k) []) (at-zero l x) x)
+
+  leak-words : OpeningLeak notion t h → Words notion (automatonOf t h) (h .secret) (h .k) [] (leak 0)
+  leak-words x = (x, λ m below y. omega arith)
+
+  -- the verdict of the opening: none, or leak 0
+  opening-verdict : (v : Verdict) → Words notion (automatonOf t h) (h .secret) (h .k) [] (stepsOf v)
+      → ((v ≡ NoLeak) × (OpeningLeak notion t h → ⊥)) ⊎ ((v ≡ Leak 0) × OpeningLeak notion t h)
+  opening-verdict NoLeak w = inl (refl, w 0)
+  opening-verdict (Leak l) w =
+      let first = at-zero l (w .0) in
+      inr (ap Leak first, subst (LeakAt notion (automatonOf t h) (h .secret) (h .k) []) first (w .0))
+
+-- what an idle log that is not refused prints: `0 - - - -` or `0 - - 0 -`, by whether the opening leaks under strong, and `end 0 0 0`
+pub data Idle (t : List ℕ) (h : Header) : List ℕ → Type 0 where
+  clear : (OpeningLeak Strong t h → ⊥) → Idle t h (idleLine NoLeak NoLeak ++ endLine 0 0 0)
+  leaks : OpeningLeak Strong t h → Idle t h (idleLine NoLeak (Leak 0) ++ endLine 0 0 0)
+
+-- whose weak verdict is none, since it is not refused by 8
+idle-text : (t : List ℕ) (h : Header) (v : Verdicts) → (OpeningLeak Weak t h → ⊥) → Right t h [] (stepsOf (v .weak)) (stepsOf (v .strong))
+    → Idle t h (idleLine (v .weak) (v .strong) ++ endLine 0 0 0)
+idle-text t h v closed right =
+    by (opening-verdict t h Weak (v .weak) (right .weak (stepsOf (v .weak)) .0 refl)) (opening-verdict t h Strong (v .strong) (right .strong (stepsOf (v .strong)) .0 refl))
   where
-    by-cases : ((v .weak ≡ NoLeak) × (OpeningLeak Weak t h → ⊥)) ⊎ ((v .weak ≡ Leak 0) × OpeningLeak Weak t h)
-        → ((v .strong ≡ NoLeak) × (OpeningLeak Strong t h → ⊥)) ⊎ ((v .strong ≡ Leak 0) × OpeningLeak Strong t h)
-        → ((idleLine (v .weak) (v .strong) ++ endLine 0 0 0 ≡ idleLine NoLeak NoLeak ++ endLine 0 0 0) × (OpeningLeak Strong t h → ⊥))
-        ⊎ ((idleLine (v .weak) (v .strong) ++ endLine 0 0 0 ≡ idleLine NoLeak (Leak 0) ++ endLine 0 0 0) × OpeningLeak Strong t h)
-    by-cases (inr x) y = absurd (m .closed (x .1))
-    by-cases (inl x) (inl y) = inl ((λ i. idleLine (x .0 i) (y .0 i) ++ endLine 0 0 0), y .1)
-    by-cases (inl x) (inr y) = inr ((λ i. idleLine (x .0 i) (y .0 i) ++ endLine 0 0 0), y .1)
+    by : ((v .weak ≡ NoLeak) × (OpeningLeak Weak t h → ⊥)) ⊎ ((v .weak ≡ Leak 0) × OpeningLeak Weak t h)
+        → ((v .strong ≡ NoLeak) × (OpeningLeak Strong t h → ⊥)) ⊎ ((v .strong ≡ Leak 0) × OpeningLeak Strong t h) → Idle t h (idleLine (v .weak) (v .strong) ++ endLine 0 0 0)
+    by (inr x) y = absurd (closed (x .1))
+    by (inl x) (inl y) = subst (Idle t h) (λ i. idleLine (sym (x .0) i) (sym (y .0) i) ++ endLine 0 0 0) (clear (y .1))
+    by (inl x) (inr y) = subst (Idle t h) (λ i. idleLine (sym (x .0) i) (sym (y .0) i) ++ endLine 0 0 0) (leaks (y .1))
+
+text-idle : {input t text : List ℕ} {h : Header} → Monitored input t h → length input ≡ frontSize input → Idle t h text → Output input text
+text-idle {t = t} {h = h} m e (clear never) = idle (record { weak = NoLeak; strong = NoLeak }) m e record {
+  weak = words-exactly Weak _ _ _ [] none (none-words t h Weak (m .closed));
+  strong = words-exactly Strong _ _ _ [] none (none-words t h Strong never);
+}
+text-idle {t = t} {h = h} m e (leaks x) = idle (record { weak = NoLeak; strong = Leak 0 }) m e record {
+  weak = words-exactly Weak _ _ _ [] none (none-words t h Weak (m .closed));
+  strong = words-exactly Strong _ _ _ [] (leak 0) (leak-words t h Strong x);
+}
+
+-- THE OUTPUT OF AN IDLE LOG that is not refused
+pub idle-exactly : {input t : List ℕ} {h : Header} → Monitored input t h → length input ≡ frontSize input → (text : List ℕ) → Output input text ↔ Idle t h text
+idle-exactly {input} {t} {h} m e text = (go, text-idle m e)
+  where
+    go : {text : List ℕ} → Output input text → Idle t h text
+    go (refused r x) = absurd (not-both x m)
+    go (ended m′ l p) = absurd (omega arith)
+    go (idle v m′ e′ right) =
+        idle-text t h v (m .closed) (one-automaton (λ (x : List ℕ) (y : Header). Right x y [] (stepsOf (v .weak)) (stepsOf (v .strong))) (m′ .decodes) (m .decodes) right)
 
 -- their bytes
 pub idle-none : idleLine NoLeak NoLeak ++ endLine 0 0 0 ≡ 48 ∷ 32 ∷ 45 ∷ 32 ∷ 45 ∷ 32 ∷ 45 ∷ 32 ∷ 45 ∷ 10 ∷ 101 ∷ 110 ∷ 100 ∷ 32 ∷ 48 ∷ 32 ∷ 48 ∷ 32 ∷ 48 ∷ 10 ∷ []
@@ -57,4 +90,4 @@ idle-leak = refl
 pub never-eleven : {input : List ℕ} {n : ℕ} → Refused input n → n ≡ 11 → ⊥
 never-eleven (truncated short) e = omega arith
 never-eleven (not-decoded le d) e = decoding-never 11 refl (λ z. omega arith) (λ z. omega arith) (d .decoding) e
-never-eleven (initial-leak le d leak) e = omega arith
+never-eleven (initial-leak le d opens) e = omega arith

@@ -40,9 +40,9 @@ one-number : {n m : ℕ} → refuse n ≡ refuse m → n ≡ m
 one-number e = cc
 
 -- what holds of a log's automaton, however it was decoded
-pub one-automaton : (P : List ℕ → Header → Type 0) {input t t′ : List ℕ} {h h′ : Header} → Monitored input t h → Monitored input t′ h′ → P t h → P t′ h′
-one-automaton P {t = t} {h′ = h′} m m′ x =
-    let same = one-decodes (m .decodes) (m′ .decodes) in
+pub one-automaton : (P : List ℕ → Header → Type 0) {log t t′ : List ℕ} {h h′ : Header} → Decodes log h accept t → Decodes log h′ accept t′ → P t h → P t′ h′
+one-automaton P {t = t} {h′ = h′} d d′ x =
+    let same = one-decodes d d′ in
     subst (λ (y : List ℕ). P y h′) (same .table) (subst (P t) (same .header) x)
 
 -- a log has one refusal
@@ -61,9 +61,7 @@ one-refusal (initial-leak a d s) (initial-leak b d′ s′) = refl
 pub not-both : {input t : List ℕ} {h : Header} {n : ℕ} → Refused input n → Monitored input t h → ⊥
 not-both (truncated a) m = omega (arith, m .whole)
 not-both (not-decoded a d) m = not-accepted (one-decodes d (m .decodes) .answer)
-not-both {h = h} (initial-leak {t = t′} {h = h′} a d s) m =
-    let same = one-decodes d (m .decodes) in
-    m .closed (subst (λ (x : List ℕ). OpeningLeak Weak x h) (same .table) (subst (OpeningLeak Weak t′) (same .header) s))
+not-both (initial-leak a d s) m = m .closed (one-automaton (OpeningLeak Weak) d (m .decodes) s)
 
 -- steps are printed from one verdict
 one-verdict : (v w : Verdict) → stepsOf v ≡ stepsOf w → v ≡ w
@@ -116,7 +114,7 @@ one-output input (refused r x) (idle v m e ri) = absurd (not-both x m)
 one-output input (refused r x) (ended m l p) = absurd (not-both x m)
 one-output input (idle v m e ri) (refused r x) = absurd (not-both x m)
 one-output input (idle {t = t} {h = h} v m e ri) (idle v′ m′ e′ ri′) =
-    let here = one-automaton (λ (x : List ℕ) (y : Header). Right x y [] (stepsOf (v′ .weak)) (stepsOf (v′ .strong))) m′ m ri′ in
+    let here = one-automaton (λ (x : List ℕ) (y : Header). Right x y [] (stepsOf (v′ .weak)) (stepsOf (v′ .strong))) (m′ .decodes) (m .decodes) ri′ in
     let words = one-right t h [] (stepsOf (v .weak)) (stepsOf (v .strong)) (stepsOf (v′ .weak)) (stepsOf (v′ .strong)) ri here in
     let weak = one-verdict (v .weak) (v′ .weak) (words .0) in
     let strong = one-verdict (v .strong) (v′ .strong) (words .1) in
@@ -125,6 +123,6 @@ one-output input (idle v m e ri) (ended m′ l p) = absurd (omega arith)
 one-output input (ended m l p) (refused r x) = absurd (not-both x m)
 one-output input (ended m l p) (idle v m′ e ri) = absurd (omega arith)
 one-output input (ended {t = t} {h = h} m l p) (ended {text = text′} {trace = trace′} {r = r′} m′ l′ p′) =
-    let here = one-automaton (λ (x : List ℕ) (y : Header). Prints x y [] 0 (eventsOf input) text′ trace′ r′) m′ m p′ in
+    let here = one-automaton (λ (x : List ℕ) (y : Header). Prints x y [] 0 (eventsOf input) text′ trace′ r′) (m′ .decodes) (m .decodes) p′ in
     let y = print-more t h [] 0 (eventsOf input) p here in
     λ i. y .text-is i ++ endLine (length (y .after-is i)) (y .released-is i) (length (y .after-is i) - y .released-is i)

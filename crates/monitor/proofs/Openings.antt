@@ -60,6 +60,6 @@ pub opens : (log : List ℕ) (size : ℕ) (t : List ℕ) (h : Header) (says : Sa
 opens log size t h says t′ h′ m e l d (leaks start out) = Opening.initial-leak (omega arith) d start out
 opens log size t h says t′ h′ m e l d (begun fresh) = subst (λ (k : ℕ). Opening log (started k) t h m) (sym e) (opened (omega arith) d fresh)
 
--- the events of a log that has started, if there are any, are behind its front
-pub started-within : {log t : List ℕ} {h : Header} {m : Monitor} {n : ℕ} → Opening log (started n) t h m → n ≤ length log
-started-within (opened within d fresh) = within
+-- the events of a log that has started, if there are any, are behind its front, which is whole
+pub started-within : {log t : List ℕ} {h : Header} {m : Monitor} {n : ℕ} → Opening log (started n) t h m → (n ≡ frontSize log) × (n ≤ length log)
+started-within (opened within d fresh) = (refl, within)

@@ -6,8 +6,9 @@ use Prim.Native.Nat.{ℕ}
 use native.Mathlib.Omega.{arith}
 use lib.ListN.{length-append}
 use Rattle.stateset.specs.Set.{In}
+use Rattle.stateset.proofs.Counting.{counts-as}
 use Rattle.automaton.specs.Run.{Automaton, Step, shows, Possible, Impossible}
-use Rattle.automaton.specs.Reaching.{Landed, Enters}
+use Rattle.automaton.specs.Reaching.{Landed, Enters, Arrives, EstimateSize}
 use Rattle.automaton.specs.Notion.{SureAt, SureFrom, ClearAt, ClearFrom}
 use Rattle.automaton.specs.Symbols.{Agree}
 
@@ -44,6 +45,15 @@ module _ (p q : Automaton) (a b : List ℕ) (g : Agree p q a b) where
         ends = sym (g .states (x .run) (record { before = x .run; after = []; splits = append-nil (x .run) })) ∙ x .ends;
       }
 
+  -- and with the unobservable transitions after it
+  pub arrives-agree : (r : ℕ) → Arrives p a r → Arrives q b r
+  arrives-agree r x =
+      record {
+        run = x .run;
+        compatible = g .to (x .run) (x .compatible);
+        ends = sym (g .states (x .run) (record { before = x .run; after = []; splits = append-nil (x .run) })) ∙ x .ends;
+      }
+
   module _ (secret : ℕ) (j : ℕ) where
     pub sureAt-agree : SureAt p secret a j → SureAt q secret b j
     sureAt-agree x run f m c = subst (λ (s : ℕ). In s secret) (g .states run m) (x run (g .from run f) m (g .counts run m ∙ c))
@@ -74,3 +84,7 @@ module _ (p q : Automaton) (a b : List ℕ) (g : Agree p q a b) where
           compatible = g .to (x .run) (x .compatible);
           outside = λ m late i. x .outside m (omega (arith, g .counts (x .run) m)) (subst (λ (s : ℕ). In s secret) (sym (g .states (x .run) m)) i);
         }
+
+-- how many states are possible
+pub size-agree : (p q : Automaton) (a b : List ℕ) → Agree p q a b → (n : ℕ) → EstimateSize p a n → EstimateSize q b n
+size-agree p q a b g n x = counts-as (arrives-agree p q a b g) (arrives-agree q p b a (agree-back p q a b g)) x

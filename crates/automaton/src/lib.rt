@@ -368,7 +368,8 @@ fn preimage_by(table: &[u64], events: u64, few: usize, set: u64) -> u64
 // The unobservable reach of an entry set: the states in which runs can be before the next observable event.
 pub fn unobservable_reach(silent: &[u64], states: u64, entry: u64) -> u64
     requires { ⌜ length (now silent) ≡ 64 ⌝ }
-    ensures { λ r. ⌜ ((p : Automaton) (trace : List ℕ) → p .initial ≤ 63 → Closed p states (now (silent .entry)) → Sub entry states
+    ensures { λ r. ⌜ (Sub entry states → Sub entry r)
+        × ((p : Automaton) (trace : List ℕ) → p .initial ≤ 63 → Closed p states (now (silent .entry)) → Sub entry states
         → Is entry (Enters p trace) → Is r (Arrives p trace)) ⌝ }
 {
     closure(silent, states, entry)

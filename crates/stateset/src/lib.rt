@@ -2,7 +2,7 @@
 ghost use mathlib.Core.Path.{_≡_};
 ghost use mathlib.Core.Logic.{_⊎_};
 ghost use Prim.Native.Nat.{ℕ, _<_, _≤_};
-ghost use Rattle.stateset.specs.Set.{In, Is, Decided};
+ghost use Rattle.stateset.specs.Set.{In, Is, Counts, Decided};
 
 // The set of all 64 states.
 pub const ALL: u64 = 0xffff_ffff_ffff_ffff;
@@ -33,4 +33,11 @@ pub fn bound(set: u64) -> usize
     ensures { λ r. ⌜ (r ≤ 64) × ((q : ℕ) → In q set → q < r) ⌝ }
 {
     64 - u64::leading_zeros(set) as usize
+}
+
+// How many states are in the set.
+pub fn size(set: u64) -> u8
+    ensures { λ r. ⌜ Counts (λ q. In q set) r ⌝ }
+{
+    u64::count_ones(set) as u8
 }

@@ -1,0 +1,22 @@
+-- How many states are possible after a trace. Assumes nothing.
+use Prim.Native.Nat.{ℕ, _≤_}
+use mathlib.Core.Path.{refl}
+use mathlib.Core.List.{List}
+use native.Mathlib.Omega.{arith}
+use Rattle.stateset.specs.Set.{In, Is, Counts}
+use Rattle.stateset.proofs.Counting.{counts-as, counts-some, counts-below}
+use Rattle.automaton.specs.Run.{Automaton, endOf, Possible}
+use Rattle.automaton.specs.Reaching.{Arrives, EstimateSize}
+use Rattle.automaton.proofs.Runs.{end-small}
+
+module _ (p : Automaton) (trace : List ℕ) where
+  -- the number of the members of the set of these states
+  pub set-size : (set n : ℕ) → Is set (Arrives p trace) → Counts (λ q. In q set) n → EstimateSize p trace n
+  set-size set n A c = counts-as (A .sound) (A .whole) c
+
+  -- 1 to 64
+  pub size-some : (n : ℕ) → Possible p trace → EstimateSize p trace n → 1 ≤ n
+  size-some n x c = counts-some n (endOf (p .initial) (x .run)) (record { run = x .run; compatible = x .compatible; ends = refl }) c
+
+  pub size-most : (n : ℕ) → p .initial ≤ 63 → EstimateSize p trace n → n ≤ 64
+  size-most n start c = counts-below n 64 (λ q a. omega (arith, a .ends, end-small p (p .initial) (a .run) start (a .compatible .takes))) c

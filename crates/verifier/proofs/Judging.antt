@@ -5,29 +5,31 @@ use Prim.Native.Nat.{ℕ, _≤_, _<_, _-_, min}
 use native.Mathlib.Omega.{arith}
 use lib.ListN.{length, getD, take}
 use lib.Seq.{take-length}
-use Rattle.stateset.specs.Set.{In, Is}
-use Rattle.automaton.specs.Run.{Automaton, automatonOf}
+use Rattle.stateset.specs.Set.{Is}
+use Rattle.automaton.specs.Run.{Automaton, automatonOf, Possible, Observable, Sound}
 use Rattle.automaton.specs.Refusals.{numberOf}
 use Rattle.automaton.specs.declared.Refusal.{Refusal}
-use Rattle.automaton.specs.Reaching.{Enters, Gained}
+use Rattle.automaton.specs.Reaching.{Enters, EstimateSize}
 use Rattle.automaton.specs.declared.Header.{Header}
-use Rattle.automaton.specs.declared.Reach.{Reach}
-use Rattle.automaton.proofs.Entering.{gained-closed}
+use Rattle.automaton.proofs.Estimates.{size-some, size-most}
 use Rattle.verifier.specs.declared.Notion.{Notion}
 use Rattle.verifier.specs.declared.Notion.the-variants.{Weak, Strong}
 use Rattle.verifier.specs.declared.Verdict.{Verdict}
 use Rattle.verifier.specs.declared.Verdicts.{Verdicts}
+use Rattle.verifier.specs.declared.Judgement.{Judgement}
+use Rattle.verifier.specs.declared.Estimate.{Estimate}
 use Rattle.verifier.specs.declared.Estimator.{Estimator}
 use Rattle.verifier.specs.Verdicts.{Steps, none, leak, stepsOf, Tells}
-use Rattle.verifier.specs.Estimators.{Grown}
-use Rattle.verifier.specs.Replies.{refused, said, refused-by, verdict, saidBy, chosen, Bounded, Exact, Accepting, accepted, Moved, TellsBy, AcceptingBy, turned-back, accepted-by}
-use Rattle.verifier.specs.Inner.{Near, Found, Asks, askFor, Given, Judged, AcceptingAsked}
+use Rattle.verifier.specs.Estimators.{Limits, Grown}
+use Rattle.verifier.specs.Replies.{refused, said, refused-by, verdict, saidBy, chosen, Bounded, SizeWithin, Exact, Opening, opened, Accepting, accepted, Moved, TellsBy, AcceptingBy, turned-back, accepted-by}
+use Rattle.verifier.specs.Inner.{Settled, Stepped, Found, Asks, askFor, Given, Judged, AcceptingAsked}
 use Rattle.verifier.specs.declared.Reply.{Reply}
 use Rattle.verifier.specs.declared.Asked.{Asked}
 use Rattle.verifier.specs.declared.Answer.{Answer}
 use Rattle.verifier.specs.declared.Answer.the-variants as answer
 use Rattle.verifier.specs.declared.AnswerBy.the-variants as by
-use Rattle.verifier.proofs.Growing.{grown-remembers}
+use Rattle.verifier.proofs.Growing.{grown-remembers, grown-limits}
+use Rattle.verifier.proofs.Settling.{settled-size}
 
 -- the states right after the last event
 pub grown-entry : (p : Automaton) (K : ℕ) (trace : List ℕ) (s : Estimator) → Grown p K trace s → Is (getD (s .entries) 0 0) (Enters p trace)
@@ -49,25 +51,51 @@ found-tells : (notion : Notion) (p : Automaton) (secret K : ℕ) (trace : List �
 found-tells notion p secret K trace s v g f =
     tells-up notion p secret (s .count) K trace (stepsOf v) (g .count-is) (f .exact trace (grown-remembers p K trace s g (s .count) (omega arith)))
 
-pub judged-exact : (t : List ℕ) (h : Header) (trace : List ℕ) (s : Estimator) (a : Asked) (v : Verdicts) → Asks Weak a → Asks Strong a → Grown (automatonOf t h) (h .k) trace s → Judged t h s a v
-    → Exact t h trace (stepsOf (v .weak)) (stepsOf (v .strong)) s
-judged-exact t h trace s a v weak strong g j =
+pub judged-exact : (t : List ℕ) (h : Header) (trace : List ℕ) (s : Estimator) (a : Asked) (v : Verdicts) (n : ℕ) → Asks Weak a → Asks Strong a
+    → Grown (automatonOf t h) (h .k) trace s → Judged t h s a v → EstimateSize (automatonOf t h) trace n → Exact t h trace (stepsOf (v .weak)) (stepsOf (v .strong)) n s
+judged-exact t h trace s a v n weak strong g j size =
     record {
       possible = g .possible;
+      size = size;
       weak = found-tells Weak _ _ _ trace s (v .weak) g (j Weak .found weak);
       strong = found-tells Strong _ _ _ trace s (v .strong) g (j Strong .found strong);
       grown = g;
     }
 
--- the states that were explored from all entry sets are those of a look back
-pub near-gained : (p : Automaton) (from : ℕ) (entries silent : List ℕ) (r : Reach) → Gained p from silent r
-    → ((l q : ℕ) → l < 16 → In q (getD entries l 0) → In q from) → Near p entries silent (r .states)
-near-gained p from entries silent r g inside = record { closed = gained-closed p from silent r g; inside = λ l q h i. g .more q (inside l q h i) }
+-- a fresh estimator's answer, from the estimate that was settled and what was judged
+pub opening-of : (t : List ℕ) (h : Header) (s : Estimator) (a : Asked) (j : Judgement) (from : ℕ) (silent : List ℕ) (e : Estimate) → Sound t h → Asks Weak a → Asks Strong a
+    → Grown (automatonOf t h) (h .k) [] s → Settled (automatonOf t h) from (getD (s .entries) 0 0) silent e → Judged t h s a (j .verdicts) × (j .size ≡ e .size)
+    → Opening t h (said (answer.Accepted j)) s
+opening-of t h s a j from silent e so weak strong g settled judged =
+    let p = automatonOf t h in
+    let size = subst (EstimateSize p []) (sym (judged .1)) (settled-size p from _ silent e [] settled (grown-entry p (h .k) [] s g)) in
+    opened so (grown-limits p (h .k) [] s g (so .symbols-small))
+    (record { some = size-some p [] _ (g .possible) size; most = size-most p [] _ (so .start) size })
+    (judged-exact t h [] s a (j .verdicts) (j .size) weak strong g (judged .0) size)
+
+-- an accepted symbol, from the estimate after it and the estimator with it pushed
+pub moved-by : (t : List ℕ) (h : Header) (self : Estimator) (symbol n from : ℕ) (silent : List ℕ) (e : Estimate) (s : Estimator) → Sound t h → Limits (h .k) self
+    → Observable h symbol → Stepped (automatonOf t h) from (getD (self .entries) 0 0) symbol silent e → n ≡ e .size → Limits (h .k) s
+    → ((trace : List ℕ) → Grown (automatonOf t h) (h .k) trace self → Is (e .entry) (Enters (automatonOf t h) (trace ++ symbol ∷ []))
+    → Possible (automatonOf t h) (trace ++ symbol ∷ []) → Grown (automatonOf t h) (h .k) (trace ++ symbol ∷ []) s) → Moved t h self symbol n s
+moved-by t h self symbol n from silent e s so li ob x is after push =
+    let p = automatonOf t h in
+    record {
+      sound = so;
+      limits = li;
+      observable = ob;
+      limits-after = after;
+      size-within = subst SizeWithin (sym is) (x .size-within);
+      grown = λ trace g. let E = grown-entry p (h .k) trace self g in push trace g (x .enters trace E) (x .possible trace E);
+      size = λ trace g.
+          subst (EstimateSize p (trace ++ symbol ∷ [])) (sym is)
+          (settled-size p from _ silent e (trace ++ symbol ∷ []) (x .settled) (x .enters trace (grown-entry p (h .k) trace self g)));
+    }
 
 -- the verdict that was found for an estimator, as that of the event that led to it
-pub found-by : (notion : Notion) (t : List ℕ) (h : Header) (self : Estimator) (symbol : ℕ) (s : Estimator) (v : Verdict) → Moved t h self symbol s
+pub found-by : (notion : Notion) (t : List ℕ) (h : Header) (self : Estimator) (symbol n : ℕ) (s : Estimator) (v : Verdict) → Moved t h self symbol n s
     → Found notion (automatonOf t h) (h .secret) (s .count) s v → TellsBy notion t h self symbol (stepsOf v)
-found-by notion t h self symbol s v m f =
+found-by notion t h self symbol n s v m f =
     record {
       bounded = bounded-up _ _ (stepsOf v) (m .limits-after .few) (f .bounded);
       tells = λ trace g. found-tells notion _ _ _ (trace ++ symbol ∷ []) s v (m .grown trace g) f;
@@ -85,14 +113,14 @@ refused-asked a t h self symbol refusal r e f x = rw (e, f) x
 pub asked-both : (t : List ℕ) (h : Header) (self : Estimator) (symbol : ℕ) (a : Asked) (r : Answer) (s : Estimator) → Asks Weak a → Asks Strong a
     → AcceptingAsked a t h self symbol r s → Accepting t h self symbol (said r) s
 asked-both t h self symbol a (answer.Refused n) s weak strong x = x
-asked-both t h self symbol a (answer.Accepted v) s weak strong x =
+asked-both t h self symbol a (answer.Accepted j) s weak strong x =
     let m = x .0 in
     let w = x .1 Weak .found weak in
     let u = x .1 Strong .found strong in
-    accepted (m .sound) (m .limits) (m .observable) (m .limits-after) (w .bounded) (u .bounded)
+    accepted (m .sound) (m .limits) (m .observable) (m .limits-after) (w .bounded) (u .bounded) (m .size-within)
     (λ trace g.
     let n = m .grown trace g in
-    record { possible = n .possible; weak = w .tells trace g; strong = u .tells trace g; grown = n })
+    record { possible = n .possible; weak = w .tells trace g; strong = u .tells trace g; size = m .size trace g; grown = n })
 
 -- one notion makes its verdict
 asks-one : (notion : Notion) → Asks notion (askFor notion)
@@ -103,9 +131,10 @@ pub asked-refused : (notion : Notion) (t : List ℕ) (h : Header) (self : Estima
     → AcceptingAsked a t h self symbol r s → r ≡ answer.Refused n → AcceptingBy notion t h self symbol (saidBy (by.Refused n)) s
 asked-refused notion t h self symbol a r s n x e = turned-back (subst (λ (y : Answer). AcceptingAsked a t h self symbol y s) e x)
 
-pub asked-one : (notion : Notion) (t : List ℕ) (h : Header) (self : Estimator) (symbol : ℕ) (a : Asked) (r : Answer) (s : Estimator) (vs : Verdicts) (v : Verdict)
-    → a ≡ askFor notion → AcceptingAsked a t h self symbol r s → r ≡ answer.Accepted vs → v ≡ chosen notion vs → AcceptingBy notion t h self symbol (saidBy (by.Accepted v)) s
-asked-one notion t h self symbol a r s vs v one x e is =
+pub asked-one : (notion : Notion) (t : List ℕ) (h : Header) (self : Estimator) (symbol : ℕ) (a : Asked) (r : Answer) (s : Estimator) (j : Judgement) (v : Verdict)
+    → a ≡ askFor notion → AcceptingAsked a t h self symbol r s → r ≡ answer.Accepted j → v ≡ chosen notion (j .verdicts)
+    → AcceptingBy notion t h self symbol (verdict (stepsOf v) (j .size)) s
+asked-one notion t h self symbol a r s j v one x e is =
     let y = subst (λ (z : Answer). AcceptingAsked a t h self symbol z s) e x in
     let told = y .1 notion .found (subst (Asks notion) (sym one) (asks-one notion)) in
     accepted-by (y .0) (subst (λ (z : Verdict). TellsBy notion t h self symbol (stepsOf z)) (sym is) told)
@@ -115,6 +144,6 @@ pub refused-of : {notion : Notion} {t : List ℕ} {h : Header} {self : Estimator
     → Accepting t h self symbol (refused n) s
 refused-of (turned-back x) = x
 
-pub accepted-of : {notion : Notion} {t : List ℕ} {h : Header} {self : Estimator} {symbol : ℕ} {v : Steps} {s : Estimator} → AcceptingBy notion t h self symbol (verdict v) s
-    → Moved t h self symbol s × TellsBy notion t h self symbol v
+pub accepted-of : {notion : Notion} {t : List ℕ} {h : Header} {self : Estimator} {symbol : ℕ} {v : Steps} {n : ℕ} {s : Estimator}
+    → AcceptingBy notion t h self symbol (verdict v n) s → Moved t h self symbol n s × TellsBy notion t h self symbol v
 accepted-of (accepted-by m w) = (m, w)

@@ -1,6 +1,7 @@
 -- Laws that belong to no one function.
 pub mod Exactness
 pub mod Growing
+pub mod Settling
 pub mod Passing
 pub mod LookBack
 pub mod Judging

@@ -1,21 +1,29 @@
 -- The mission's second point, from what each call promises. Assumes nothing.
-use mathlib.Core.Path.{_≡_, refl}
+use mathlib.Core.Path.{_≡_, refl, subst}
 use mathlib.Core.List.{List, [], _++_, append-assoc, append-nil}
 use mathlib.Core.Logic.{inl, inr}
 use Prim.Native.Nat.{ℕ}
+use Rattle.stateset.proofs.Counting.{counts-one}
 use Rattle.automaton.specs.Run.{automatonOf, Sound}
+use Rattle.automaton.specs.Reaching.{EstimateSize}
 use Rattle.automaton.specs.declared.Header.{Header}
 use Rattle.verifier.specs.declared.Notion.the-variants.{Weak, Strong}
 use Rattle.verifier.specs.declared.Estimator.{Estimator}
 use Rattle.verifier.specs.Verdicts.{Steps}
 use Rattle.verifier.specs.Estimators.{Grown}
-use Rattle.verifier.specs.Replies.{Said, refused, verdicts, Exact, Opening, opened, Accepting, not-observable, incompatible, accepted}
+use Rattle.verifier.specs.Replies.{Said, refused, verdicts, SizeWithin, Exact, Opening, opened, Accepting, not-observable, incompatible, accepted}
 use Rattle.verifier.specs.Calls.{Call, Calls, done, next, takenBy, acceptedOf, Right, Answered, AllAnswered, end, more, Promise}
 use Rattle.verifier.proofs.Exactness.{exactly}
 use Rattle.verifier.proofs.Growing.{grown-limits}
 
-right : (t : List ℕ) (h : Header) (trace : List ℕ) (v w : Steps) (s : Estimator) → Exact t h trace v w s → Right t h trace v w
-right t h trace v w s x = record { weak = exactly Weak _ _ _ trace v (x .weak); strong = exactly Strong _ _ _ trace w (x .strong) }
+right : (t : List ℕ) (h : Header) (trace : List ℕ) (v w : Steps) (n : ℕ) (s : Estimator) → SizeWithin n → Exact t h trace v w n s → Right t h trace v w n
+right t h trace v w n s within x =
+    record {
+      weak = exactly Weak _ _ _ trace v (x .weak);
+      strong = exactly Strong _ _ _ trace w (x .strong);
+      size = λ m. (λ e. subst (EstimateSize (automatonOf t h) trace) e (x .size), λ y. counts-one n m (x .size) y);
+      size-within = within;
+    }
 
 module _ (t : List ℕ) (h : Header) (sound : Sound t h) where
   -- one call after some accepted bytes
@@ -27,9 +35,9 @@ module _ (t : List ℕ) (h : Header) (sound : Sound t h) where
   one trace s byte says m g (Accepting.malformed bad) = absurd (bad (sound, grown-limits (automatonOf t h) (h .k) trace s g (sound .symbols-small)))
   one trace s byte says m g (not-observable so li never) = record { answered = inl (refl, never); grown = rw (append-nil trace) g }
   one trace s byte says m g (incompatible so li ob none) = record { answered = inr (refl, ob, none trace g); grown = rw (append-nil trace) g }
-  one trace s byte says m g (accepted so li ob after b c exact) =
+  one trace s byte says m g (accepted so li ob after b c within exact) =
       let x = exact trace g in
-      record { answered = (ob, x .possible, right t h _ _ _ m x); grown = x .grown }
+      record { answered = (ob, x .possible, right t h _ _ _ _ m within x); grown = x .grown }
 
   -- all calls after some accepted bytes
   record After (trace : List ℕ) (cs : List Call) (e : Estimator) : Type 0 where
@@ -47,11 +55,11 @@ module _ (t : List ℕ) (h : Header) (sound : Sound t h) where
       }
 
 -- a fresh estimator that was not refused, and a list of offered bytes
-pub second-point : (t : List ℕ) (h : Header) (v w : Steps) (s : Estimator) (cs : List Call) (e : Estimator)
-    → Opening t h (verdicts v w) s → Calls t h s cs e → Promise t h v w cs e
-second-point t h v w s cs e (opened sound li x) f =
+pub second-point : (t : List ℕ) (h : Header) (v w : Steps) (n : ℕ) (s : Estimator) (cs : List Call) (e : Estimator)
+    → Opening t h (verdicts v w n) s → Calls t h s cs e → Promise t h v w n cs e
+second-point t h v w n s cs e (opened sound li within x) f =
     let y = follow t h sound [] s cs e (x .grown) f in
-    record { opening = right t h [] v w s x; answered = y .answered; grown = y .grown }
+    record { opening = right t h [] v w n s within x; answered = y .answered; grown = y .grown }
 
 -- what a refused start hands back is no estimator: every byte offered to it, with every table and header, gets 9
 pub refused-fresh : (t : List ℕ) (h : Header) (n : ℕ) (s : Estimator) → Opening t h (refused n) s
@@ -59,4 +67,4 @@ pub refused-fresh : (t : List ℕ) (h : Header) (n : ℕ) (s : Estimator) → Op
 refused-fresh t h n s x t′ h′ byte r m (Accepting.malformed bad) = refl
 refused-fresh t h n s (Opening.malformed bad out) t′ h′ byte r m (not-observable so li never) = absurd (out (h′ .k) (so .back) li)
 refused-fresh t h n s (Opening.malformed bad out) t′ h′ byte r m (incompatible so li ob none) = absurd (out (h′ .k) (so .back) li)
-refused-fresh t h n s (Opening.malformed bad out) t′ h′ byte r m (accepted so li ob after b c exact) = absurd (out (h′ .k) (so .back) li)
+refused-fresh t h n s (Opening.malformed bad out) t′ h′ byte r m (accepted so li ob after b c within exact) = absurd (out (h′ .k) (so .back) li)

@@ -12,7 +12,7 @@ use Rattle.verifier.specs.declared.Estimator.{Estimator}
 abbrev pub SameCalled : List ℕ → Header → Header → Call → Call → Type 0
 SameCalled t h h′ c c′ = SameByte t h h′ (c .byte) (c′ .byte)
 
--- two calls with the same answer: both refused with the same number, or both accepted with the same verdicts
+-- two calls with the same answer: both refused with the same number, or both accepted with the same verdicts and number of possible states
 abbrev pub SameAnswered : Call → Call → Type 0
 SameAnswered c c′ = c .says ≡ c′ .says
 

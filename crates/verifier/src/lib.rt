@@ -1,4 +1,5 @@
 use automaton::Header;
+use automaton::Reach;
 use automaton::Refusal;
 ghost use mathlib.Core.Path.{_≡_};
 ghost use mathlib.Core.List.{List, [], _∷_, _++_};
@@ -6,13 +7,13 @@ ghost use Prim.Native.Nat.{ℕ, _+_, _≤_, _<_, min};
 ghost use lib.ListN.{length, getD};
 ghost use Rattle.stateset.specs.Set.{In, Is, Decided};
 ghost use Rattle.automaton.specs.Run.{Automaton, automatonOf, Possible, Sound};
-ghost use Rattle.automaton.specs.Reaching.{Enters, Arrives, Showing, Closed};
+ghost use Rattle.automaton.specs.Reaching.{Enters, Arrives, Showing, Known, Gained, Closed};
 ghost use Rattle.automaton.specs.Relation.{Sub};
 ghost use Rattle.verifier.specs.declared.Notion.the-variants as notion;
 ghost use Rattle.verifier.specs.Estimators.{Limits, Grown};
 ghost use Rattle.verifier.specs.declared.Answer.the-variants as answer;
 ghost use Rattle.verifier.specs.Replies.{said, saidBy, chosen, Opening, Accepting, AcceptingBy};
-ghost use Rattle.verifier.specs.Inner.{Pushed, Next, Sampled, Prepared, Found, askFor, Judged, AcceptingAsked};
+ghost use Rattle.verifier.specs.Inner.{Inside, Pushed, Settled, Next, Sampled, UnobservableReach, Prepared, Explored, Found, askFor, Judged, AcceptingAsked};
 
 // 01's "none", or "leak" with its steps.
 pub enum Verdict {
@@ -30,9 +31,15 @@ pub struct Verdicts {
     pub strong: Verdict,
 }
 
+// What an accepted answer holds: the verdicts, and how many states are possible (02: how many fit), 1 to 64.
+pub struct Judgement {
+    pub verdicts: Verdicts,
+    pub size: u8,
+}
+
 pub enum Answer {
     Refused(Refusal),
-    Accepted(Verdicts),
+    Accepted(Judgement),
 }
 
 // The last symbols (02: lamps), the newest first, and for each step back the states right after the last one that is left (01: watch).
@@ -48,9 +55,14 @@ pub struct Reply {
 }
 
 // With the verdict by one notion alone.
+pub struct JudgementBy {
+    pub verdict: Verdict,
+    pub size: u8,
+}
+
 pub enum AnswerBy {
     Refused(Refusal),
-    Accepted(Verdict),
+    Accepted(JudgementBy),
 }
 
 pub struct ReplyBy {
@@ -64,9 +76,18 @@ struct Asked {
     strong: bool,
 }
 
-// The states right after one more symbol, if a run is left.
+// The states that are possible: right after the last symbol, then with the unobservable transitions after it, and how many these are. And states
+// that unobservable events do not leave, with all of them among these.
+pub struct Estimate {
+    pub entry: u64,
+    pub states: u64,
+    pub size: u8,
+    pub near: u64,
+}
+
+// The states that are possible after one more symbol, if a run is left.
 pub enum NextEstimate {
-    States(u64),
+    States(Estimate),
     Empty,
 }
 
@@ -127,24 +148,50 @@ fn entered(estimator: Estimator) -> u64
     r
 }
 
-// The states right after one more symbol, by the events that show it, from those right after the symbol before it.
+// From the states right after a symbol to all that are possible, and their number: one step, for a fresh estimator and for an accepted symbol. What is
+// known of unobservable events, so far of the states that `from` leads to, grows with the states that matter.
+fn settle(
+    table: &[u64],
+    header: Header,
+    silent: &mut [u64],
+    known: u64,
+    from: u64,
+    entry: u64,
+) -> Estimate
+    requires { ⌜ (length (now table) ≡ 2048) × (header .initial ≤ 63) × Known (automatonOf (now table) header) known from (now silent) ⌝ }
+    ensures { λ r. ⌜ Settled (automatonOf (now (table .entry)) header) from entry (now (silent .exit)) r ⌝ }
+{
+    let reach = automaton::silent_rows(table, header, silent, known, from | entry);
+    let states = automaton::unobservable_reach(silent, reach.states, entry);
+    Estimate {
+        entry: entry,
+        states: states,
+        size: stateset::size(states),
+        near: reach.states,
+    }
+}
+
+// The states that are possible after one more symbol, by the events that show it, from those right after the symbol before it.
 fn next_estimate(
     table: &[u64],
-    silent: &[u64],
-    states: u64,
+    header: Header,
+    silent: &mut [u64],
+    near: Reach,
     entry: u64,
     events: u64,
 ) -> NextEstimate
-    requires { ⌜ (length (now table) ≡ 2048) × (length (now silent) ≡ 64) × ((e : ℕ) → In e events → e < 32) ⌝ }
-    ensures { λ r. ⌜ ((p : Automaton) (symbol : ℕ) → p .table ≡ now (table .entry) → p .initial ≤ 63 → Closed p states (now (silent .entry)) → Sub entry states
-        → Showing p symbol events → Next p entry symbol r) ⌝ }
+    requires { ⌜ (length (now table) ≡ 2048) × (header .initial ≤ 63) × ((e : ℕ) → In e events → e < 32)
+        × Gained (automatonOf (now table) header) entry (now silent) near ⌝ }
+    ensures { λ r. ⌜ ((symbol : ℕ) → Showing (automatonOf (now (table .entry)) header) symbol events
+        → Next (automatonOf (now (table .entry)) header) (near .states) entry symbol (now (silent .exit)) r) ⌝ }
 {
-    let estimate = automaton::unobservable_reach(silent, states, entry);
+    let estimate = automaton::unobservable_reach(silent, near.states, entry);
     let after = automaton::observable_reach(table, events, estimate);
     if after == 0 {
         return NextEstimate::Empty;
     }
-    NextEstimate::States(after)
+    let next = settle(table, header, silent, near.known, near.states, after);
+    NextEstimate::States(next)
 }
 
 // The possible states, those in which runs can be and that are in `then`: source 000's m(l), where `then` has the states that the last l symbols can
@@ -164,7 +211,7 @@ fn possible_states(silent: &[u64], states: u64, entry: u64, then: u64, secret: u
 
 // The least step back at which every possible state is secret, none where there is no such step. (01: "every moment of count n − l is in a secret
 // state".) As source 000's Proposition 4 takes it: l from 0 upward, and leak l at the first l for which all of m(l), the possible states l steps back, are
-// secret. Whenever the loop takes up a step, no smaller one is a leak (`NoLeakBelow`).
+// secret. Whenever the loop takes up a step, no smaller one is a leak (`NoLeakBelow`). m(0) is the estimate, which is known.
 fn weak_verdict(
     estimator: Estimator,
     table: &[u64],
@@ -173,19 +220,20 @@ fn weak_verdict(
     silent: &[u64],
     back: &[u64],
     states: u64,
+    estimate: u64,
     last: u8,
 ) -> Verdict
-    requires { ⌜ Prepared (now table) header (now sets) estimator (now silent) (now back) states × (last ≤ estimator .count) ⌝ }
+    requires { ⌜ Prepared (now table) header (now sets) estimator (now silent) (now back) states × (last ≤ estimator .count)
+        × UnobservableReach (automatonOf (now table) header) (getD (estimator .entries) 0 0) estimate ⌝ }
     ensures { λ r. ⌜ Found notion.Weak (automatonOf (now (table .entry)) header) (header .secret) last estimator r ⌝ }
 {
     let symbols = estimator.symbols;
     let entries = estimator.entries;
     let secret = header.secret;
     let mut then = states;
+    let mut possible = estimate;
     let mut l: u8 = 0; // from 0 upward
     'steps: loop {
-        let at = l as usize;
-        let possible = possible_states(silent, states, entries[at], then, secret);
         let mut todo = possible;
         // whether all of m(l) is secret: the first state that is not decides
         'states: while todo != 0 {
@@ -201,9 +249,10 @@ fn weak_verdict(
         if l == last { // K, or n where that is less
             return Verdict::NoLeak;
         }
-        let shown = automaton::events_with(sets, symbols[at]);
+        let shown = automaton::events_with(sets, symbols[l as usize]);
         then = automaton::backward_reach(table, back, states, shown, then);
         l += 1; // no step below l is a leak
+        possible = possible_states(silent, states, entries[l as usize], then, secret);
     }
 }
 
@@ -251,15 +300,17 @@ fn judge(
     silent: &[u64],
     back: &[u64],
     states: u64,
+    estimate: u64,
     asked: Asked,
 ) -> Verdicts
-    requires { ⌜ Prepared (now table) header (now sets) estimator (now silent) (now back) states ⌝ }
+    requires { ⌜ Prepared (now table) header (now sets) estimator (now silent) (now back) states
+        × UnobservableReach (automatonOf (now table) header) (getD (estimator .entries) 0 0) estimate ⌝ }
     ensures { λ r. ⌜ Judged (now (table .entry)) header estimator asked r ⌝ }
 {
     let last = estimator.count;
     let mut weak = Verdict::NoLeak;
     if asked.weak {
-        weak = weak_verdict(estimator, table, header, sets, silent, back, states, last);
+        weak = weak_verdict(estimator, table, header, sets, silent, back, states, estimate, last);
     }
     let mut strong = Verdict::NoLeak;
     if asked.strong {
@@ -268,6 +319,38 @@ fn judge(
     Verdicts {
         weak: weak,
         strong: strong,
+    }
+}
+
+// What an accepted answer holds, from the estimate that was worked out last: the verdicts of a look back, and the number of its states.
+fn assess(
+    estimator: Estimator,
+    table: &[u64],
+    header: Header,
+    sets: &[u32],
+    silent: &[u64],
+    estimate: Estimate,
+    asked: Asked,
+) -> Judgement
+    requires { ⌜ Explored (now table) header (now sets) estimator (now silent) estimate ⌝ }
+    ensures { λ r. ⌜ Judged (now (table .entry)) header estimator asked (r .verdicts) × (r .size ≡ estimate .size) ⌝ }
+{
+    let mut back = [0u64; 64];
+    automaton::silent_back(silent, estimate.near, &mut back);
+    let verdicts = judge(
+        estimator,
+        table,
+        header,
+        sets,
+        silent,
+        &back,
+        estimate.near,
+        estimate.states,
+        asked,
+    );
+    Judgement {
+        verdicts: verdicts,
+        size: estimate.size,
     }
 }
 
@@ -341,7 +424,8 @@ impl Estimator {
     // With one symbol more, and the states right after it.
     fn push(self, k: u8, symbol: u8, entry: u64) -> Estimator
         requires { ⌜ (k ≤ 15) × (symbol ≤ 31) × Limits k self ⌝ }
-        ensures { λ r. ⌜ Limits k r × ((p : Automaton) (trace : List ℕ) → Grown p k trace self → Is entry (Enters p (trace ++ symbol ∷ []))
+        ensures { λ r. ⌜ Limits k r × (getD (r .entries) 0 0 ≡ entry) × ((states : ℕ) → Sub entry states → Inside (self .entries) states → Inside (r .entries) states)
+            × ((p : Automaton) (trace : List ℕ) → Grown p k trace self → Is entry (Enters p (trace ++ symbol ∷ []))
             → Possible p (trace ++ symbol ∷ []) → Grown p k (trace ++ symbol ∷ []) r) ⌝ }
     {
         let count = count_after(self.count, k);
@@ -356,7 +440,7 @@ impl Estimator {
         }
     }
 
-    // A fresh estimator, with the verdicts of the empty trace.
+    // A fresh estimator, with the verdicts of the empty trace and how many states are possible then.
     pub fn fresh(table: &[u64], header: Header) -> Reply
         ensures { λ r. ⌜ Opening (now (table .entry)) header (said (r .answer)) (r .estimator) ⌝ }
     {
@@ -368,30 +452,19 @@ impl Estimator {
             };
         }
         let estimator = Estimator::initial(header.initial);
+        let entry = estimator.entries[0];
         let mut silent = [0u64; 64];
-        let from = entered(estimator);
-        let near = automaton::silent_rows(table, header, &mut silent, 0, from);
-        let mut back = [0u64; 64];
-        automaton::silent_back(&silent, near.states, &mut back);
+        let estimate = settle(table, header, &mut silent, 0, 0, entry);
+        let mut sets = [0u32; 32];
+        automaton::by_symbol(header, &mut sets);
         let asked = Asked {
             weak: true,
             strong: true,
         };
-        let mut sets = [0u32; 32];
-        automaton::by_symbol(header, &mut sets);
-        let verdicts = judge(
-            estimator,
-            table,
-            header,
-            &sets,
-            &silent,
-            &back,
-            near.states,
-            asked,
-        );
+        let judgement = assess(estimator, table, header, &sets, &silent, estimate, asked);
         Reply {
             estimator: estimator,
-            answer: Answer::Accepted(verdicts),
+            answer: Answer::Accepted(judgement),
         }
     }
 
@@ -406,7 +479,7 @@ impl Estimator {
     }
 
     // Accepts one symbol, or hands back the estimator as it was. (01: "An event on which no run is left is turned back, and the watch stays.") Only
-    // the verdicts that are asked for are found. What is known of unobservable events grows with the states that matter.
+    // the verdicts that are asked for are found.
     fn accept_asked(self, table: &[u64], header: Header, symbol: u8, asked: Asked) -> Reply
         ensures { λ r. ⌜ AcceptingAsked asked (now (table .entry)) header self symbol (r .answer) (r .estimator) ⌝ }
     {
@@ -420,30 +493,18 @@ impl Estimator {
             return self.refused(Refusal::NotObservable);
         }
         let mut silent = [0u64; 64];
+        let from = entered(self);
+        let near = automaton::silent_rows(table, header, &mut silent, 0, from);
         let newest = self.entries[0];
-        let near = automaton::silent_rows(table, header, &mut silent, 0, newest);
-        let next = next_estimate(table, &silent, near.states, newest, shown);
-        let NextEstimate::States(entry) = next else {
+        let next = next_estimate(table, header, &mut silent, near, newest, shown);
+        let NextEstimate::States(estimate) = next else {
             return self.refused(Refusal::Incompatible);
         };
-        let after = self.push(header.k, symbol, entry);
-        let from = near.states | entered(after);
-        let reach = automaton::silent_rows(table, header, &mut silent, near.known, from);
-        let mut back = [0u64; 64];
-        automaton::silent_back(&silent, reach.states, &mut back);
-        let verdicts = judge(
-            after,
-            table,
-            header,
-            &sets,
-            &silent,
-            &back,
-            reach.states,
-            asked,
-        );
+        let after = self.push(header.k, symbol, estimate.entry);
+        let judgement = assess(after, table, header, &sets, &silent, estimate, asked);
         Reply {
             estimator: after,
-            answer: Answer::Accepted(verdicts),
+            answer: Answer::Accepted(judgement),
         }
     }
 
@@ -470,11 +531,14 @@ impl Estimator {
                 estimator: estimator,
                 answer: AnswerBy::Refused(refusal),
             },
-            Answer::Accepted(verdicts) => {
-                let verdict = choose(notion, verdicts);
+            Answer::Accepted(judgement) => {
+                let verdict = choose(notion, judgement.verdicts);
                 ReplyBy {
                     estimator: estimator,
-                    answer: AnswerBy::Accepted(verdict),
+                    answer: AnswerBy::Accepted(JudgementBy {
+                        verdict: verdict,
+                        size: judgement.size,
+                    }),
                 }
             }
         }

@@ -13,7 +13,7 @@
 use mathlib.Core.Path.{_≡_}
 use mathlib.Core.List.{List}
 use mathlib.Core.Logic.{⊎-elim}
-use Prim.Native.Nat.{ℕ, _+_, _-_, _/_, _^_, _≤_}
+use Prim.Native.Nat.{ℕ, _+_, _-_, _/_, _^_, _≤_, _<_}
 use native.Mathlib.Omega.{arith}
 use borrow.Author.Needs.{needs}
 use lib.Bits.{bitAnd}
@@ -28,64 +28,59 @@ use Rattle.verifier.specs.declared.Notion.the-variants.{Weak}
 use Rattle.verifier.specs.Verdicts.{NoLeakBelow}
 use Rattle.verifier.specs.Inner.{Looks, DecidedBy}
 use Rattle.verifier.proofs.Passing.{Passed, pass-start, pass-turn, pass-end}
-use Rattle.verifier.proofs.LookBack.{ForEach, below-start, below-step, below-leak, below-last, Follows, follows-start, follows-step, remembers-inside, delayed-is, delayed-by, decided-sure, decided-clear}
+use Rattle.verifier.proofs.LookBack.{ForEachWith, below-start, below-step, below-leak, below-last, Follows, follows-start, follows-step, remembers-inside, delayed-is, delayed-by, estimate-by, decided-sure, decided-clear}
 use Rattle.verifier.proofs.weak_verdict.Statement.{statement}
 use Rattle.verifier.proofs.weak_verdict.Tie as tie
 
 -- What the loops know
 
--- 'steps: no step below l is a leak, and `then` has the states that the last l events can follow
+-- 'steps: no step below l is a leak, `then` has the states that the last l events can follow, and `possible` is a part of m(l) that decides
 abbrev Inv-steps : tie.InvT-steps
-Inv-steps table sets silent back states last symbols entries secret then₀ l₀ then l =
-    ForEach table sets silent back states last symbols entries (λ p trace. NoLeakBelow Weak p secret trace l)
-    × ForEach table sets silent back states last symbols entries (λ p trace. Follows p states trace l then)
-    × (l ≤ last) × (last ≤ 15)
+Inv-steps table sets silent back states estimate last symbols entries secret then₀ possible₀ l₀ then possible l =
+    ForEachWith table sets silent back states estimate last symbols entries (λ p trace. NoLeakBelow Weak p secret trace l)
+    × ForEachWith table sets silent back states estimate last symbols entries (λ p trace. Follows p states trace l then)
+    × ForEachWith table sets silent back states estimate last symbols entries (λ p trace. DecidedBy secret (DelayedEstimate p trace (length trace - l)) possible)
+    × (l ≤ last) × (last ≤ 15) × (possible < 2 ^ 64)
 
 abbrev μ-steps : tie.MeasureT-steps
-μ-steps table sets silent back states last symbols entries secret then₀ l₀ then l = last - l
+μ-steps table sets silent back states estimate last symbols entries secret then₀ possible₀ l₀ then possible l = last - l
 
 -- 'states: what is left of the part of m(l) that is visited, and all else of it is secret
 abbrev Inv-states : tie.InvT-states
-Inv-states table sets silent back states last symbols entries secret then l at possible todo₀ todo = Passed possible secret todo
+Inv-states table sets silent back states estimate last symbols entries secret then possible l todo₀ todo = Passed possible secret todo
 
 abbrev μ-states : tie.MeasureT-states
-μ-states table sets silent back states last symbols entries secret then l at possible todo₀ todo = todo
+μ-states table sets silent back states estimate last symbols entries secret then possible l todo₀ todo = todo
 
--- Start, "k ∈ [0, ..": the loop takes up step 0, and there is no smaller one
+-- Start, "k ∈ [0, ..": the loop takes up step 0, and there is no smaller one. m(0) is the estimate
 
 steps-holds : tie.Need-steps-holds Inv-states μ-states Inv-steps μ-steps
 steps-holds c =
-    let a = c .before .before .before .before .before .before in (
-      λ p trace g m. below-start Weak p _ trace,
-      λ p trace g m. follows-start p _ trace,
+    let a = c .before .before .before .before .before .before in
+    let few : a .args .last ≤ 15 = omega (arith, a .pre .1, a .pre .0 .limits .few, a .pre .0 .sound .back) in (
+      λ p trace g m r. below-start Weak p _ trace,
+      λ p trace g m r. follows-start p _ trace,
+      λ p trace g m r. estimate-by p _ trace _ _ _ _ _ _ (g .start) few (g .near) m r,
       omega arith,
-      omega (arith, a .pre .1, a .pre .0 .limits .few, a .pre .0 .sound .back),
+      few,
+      a .fits .estimate .fits,
     )
 
 -- One step, "m(l) ∈ 2^S" or not: the states of a part of m(l) are visited, and the first that is not secret ends the visit ('states)
 
-abbrev begin : tie.After-possible-states Inv-states μ-states Inv-steps μ-steps → tie.Start Inv-states μ-states Inv-steps μ-steps
-begin u = u .before .before .before .before .before .before .before .before
+abbrev begin : tie.At-steps Inv-states μ-states Inv-steps μ-steps → tie.Start Inv-states μ-states Inv-steps μ-steps
+begin u = u .before .before .before .before .before .before .before
 
 -- an automaton for which holds what was prepared for this call
-abbrev Good : tie.After-possible-states Inv-states μ-states Inv-steps μ-steps → Automaton → Type 0
+abbrev Good : tie.At-steps Inv-states μ-states Inv-steps μ-steps → Automaton → Type 0
 Good u p =
     Looks p (begin u .args .table .now) (begin u .args .sets .now) (begin u .args .estimator .entries) (begin u .args .silent .now) (begin u .args .back .now) (begin u .args .states)
 
 -- what holds for each of these and each trace that is remembered
-abbrev Each : tie.After-possible-states Inv-states μ-states Inv-steps μ-steps → (Automaton → List ℕ → Type 0) → Type 0
+abbrev Each : tie.At-steps Inv-states μ-states Inv-steps μ-steps → (Automaton → List ℕ → Type 0) → Type 0
 Each u =
-    ForEach (begin u .args .table .now) (begin u .args .sets .now) (begin u .args .silent .now) (begin u .args .back .now) (begin u .args .states) (begin u .args .last)
-    (begin u .args .estimator .symbols) (begin u .args .estimator .entries)
-
--- what is visited is a part of m(l) that decides
-tested : (u : tie.After-possible-states Inv-states μ-states Inv-steps μ-steps)
-    → Each u (λ p trace. DecidedBy (begin u .args .header .secret) (DelayedEstimate p trace (length trace - u .before .steps .l)) (u .possible-states .result))
-tested u p trace g m =
-    let s = u .before .steps in
-    delayed-by p _ trace (s .l) _ _
-    (delayed-is p trace _ (s .l) _ _ (g .start) (s .inv .2) (remembers-inside p trace _ _ _ _ _ (s .inv .3) (g .near) m) (s .inv .1 p trace g m))
-    (u .possible-states .ensures p _ (g .start) (g .near .closed) (λ q i. g .near .inside (s .l) q (omega (arith, s .inv .2, s .inv .3)) i) (m .entries-are (s .l) (s .inv .2)))
+    ForEachWith (begin u .args .table .now) (begin u .args .sets .now) (begin u .args .silent .now) (begin u .args .back .now) (begin u .args .states) (begin u .args .estimate)
+    (begin u .args .last) (begin u .args .estimator .symbols) (begin u .args .estimator .entries)
 
 -- the state that a turn of the inner loop visits
 pick : (c : tie.In-states Inv-states μ-states Inv-steps μ-steps)
@@ -99,7 +94,7 @@ one q w n =
     omega (arith, in-test q w, bit-lt q w)
 
 states-holds : tie.Need-states-holds Inv-states μ-states Inv-steps μ-steps
-states-holds c = pass-start _ _ (omega arith)
+states-holds c = pass-start _ _ (c .steps .inv .5)
 
 -- it is secret
 states-again : tie.Need-states-again Inv-states μ-states Inv-steps μ-steps
@@ -109,36 +104,51 @@ states-again c =
 
 -- "m(l) ∉ 2^S": the state at which the visit ended is not secret, and a run through it excuses the system
 clear : (c : tie.Else2 Inv-states μ-states Inv-steps μ-steps)
-    → Each (c .before .before .before) (λ p trace. ClearAt p (begin (c .before .before .before) .args .header .secret) trace (length trace - c .before .before .before .before .steps .l))
-clear c p trace g m =
+    → Each (c .before .before .before) (λ p trace. ClearAt p (begin (c .before .before .before) .args .header .secret) trace (length trace - c .before .before .before .steps .l))
+clear c p trace g m r =
     let u = c .before .before .before in
     let w = c .before .before .states .todo in
     ⊎-elim
     (λ w. absurd (omega arith))
     (λ v.
     let t = taken w (omega arith) (c .before .before .states .inv .small) in
-    decided-clear _ _ trace _ _ (tested u p trace g m) (trailingZeros 64 w) (c .before .before .states .inv .kept (trailingZeros 64 w) (t .inside))
+    decided-clear _ _ trace _ _ (u .steps .inv .2 p trace g m r) (trailingZeros 64 w) (c .before .before .states .inv .kept (trailingZeros 64 w) (t .inside))
     (λ i. omega (arith, in-test (trailingZeros 64 w) (begin u .args .header .secret), v .1 .taken)))
     (c .before .states-test .came)
 
 -- so that, with what was known below l, no step below l + 1 is a leak
 below-next : (c : tie.Else2 Inv-states μ-states Inv-steps μ-steps)
-    → Each (c .before .before .before) (λ p trace. NoLeakBelow Weak p (begin (c .before .before .before) .args .header .secret) trace (c .before .before .before .before .steps .l + 1))
-below-next c p trace g m = below-step Weak p _ trace _ (c .before .before .before .before .steps .inv .0 p trace g m) (clear c p trace g m)
+    → Each (c .before .before .before) (λ p trace. NoLeakBelow Weak p (begin (c .before .before .before) .args .header .secret) trace (c .before .before .before .steps .l + 1))
+below-next c p trace g m r = below-step Weak p _ trace _ (c .before .before .before .steps .inv .0 p trace g m r) (clear c p trace g m r)
 
 -- the events that show the symbol before
 showing : (c : tie.After-events-with Inv-states μ-states Inv-steps μ-steps) (p : Automaton) → Good (c .before .before .before .before .before) p
-    → Showing p (getD (begin (c .before .before .before .before .before) .args .estimator .symbols) (c .before .before .before .before .before .before .steps .l) 0) (c .events-with .result)
+    → Showing p (getD (begin (c .before .before .before .before .before) .args .estimator .symbols) (c .before .before .before .before .before .steps .l) 0) (c .events-with .result)
 showing c p g = c .events-with .ensures p (g .symbols-small) (g .sets-are)
 
--- and the loop takes up step l + 1
+-- the states that the last l + 1 events can follow
+follows-next : (c : tie.After-backward-reach Inv-states μ-states Inv-steps μ-steps)
+    → Each (c .before .before .before .before .before .before) (λ p trace.
+    Follows p (begin (c .before .before .before .before .before .before) .args .states) trace (c .before .before .before .before .before .before .steps .l + 1) (c .backward-reach .result))
+follows-next c p trace g m r =
+    let s = c .before .before .before .before .before .before .steps in
+    follows-step p _ trace _ _ _ _ _ m (omega arith) (c .backward-reach .ensures p _ _ _ (g .table-is) (showing (c .before) p g) (g .back-are) (λ q i. i) (s .inv .1 p trace g m r))
+
+-- and the loop takes up step l + 1, with a part of m(l + 1) that decides
 steps-again : tie.Need-steps-again Inv-states μ-states Inv-steps μ-steps
 steps-again c =
-    let s = c .before .before .before .before .before .before .before .steps in (
-      below-next (c .before .before .before),
-      λ p trace g m. follows-step p _ trace _ _ _ _ _ m (omega arith) (c .backward-reach .ensures p _ _ _ (g .table-is) (showing (c .before) p g) (g .back-are) (λ q i. i) (s .inv .1 p trace g m)),
+    let u = c .before .before .before .before .before .before .before in
+    let s = u .steps in
+    let next : s .l + 1 ≤ begin u .args .last = omega arith in (
+      below-next (c .before .before .before .before),
+      follows-next (c .before),
+      λ p trace g m r.
+          delayed-by p _ trace (s .l + 1) _ _
+          (delayed-is p trace _ (s .l + 1) _ _ (g .start) next (remembers-inside p trace _ _ _ _ _ (s .inv .4) (g .near) m) (follows-next (c .before) p trace g m r))
+          (c .possible-states .ensures p _ (g .start) (g .near .closed) (λ q i. g .near .inside (s .l + 1) q (omega (arith, s .inv .4)) i) (m .entries-are (s .l + 1) next)),
+      next,
+      s .inv .4,
       omega arith,
-      s .inv .3,
     )
 
 -- First exit, "leak_l where l = min{..}": m(l) ∈ 2^S, every state that was visited is secret; and l is the least because no step below it is a leak
@@ -146,13 +156,14 @@ steps-again c =
 returns : tie.Need-returns Inv-states μ-states Inv-steps μ-steps
 returns c =
     let u = c .before .before .before in
-    let s = u .before .steps in
+    let s = u .steps in
     let g = begin u .pre .0 .looks in
+    let r = begin u .pre .2 in
     record {
-      bounded = s .inv .2;
+      bounded = s .inv .3;
       exact = λ trace m.
-          below-leak Weak _ _ trace _ _ (s .inv .2) (m .reached) (s .inv .0 _ trace g m)
-          (decided-sure _ _ trace _ _ (tested u _ trace g m) (λ q i. pass-end _ _ _ (c .if2 .taken) (c .before .before .states .inv) q i));
+          below-leak Weak _ _ trace _ _ (s .inv .3) (m .reached) (s .inv .0 _ trace g m r)
+          (decided-sure _ _ trace _ _ (s .inv .2 _ trace g m r) (λ q i. pass-end _ _ _ (c .if2 .taken) (c .before .before .states .inv) q i));
     }
 
 -- Second exit, "noleak if ∀ k ∈ [0, K] : m(k) ∉ 2^S": step l is the last one, K or n (and m(k) for k past n is m(n)), and no leak, so that no step below
@@ -160,27 +171,13 @@ returns c =
 
 returns-2 : tie.Need-returns-2 Inv-states μ-states Inv-steps μ-steps
 returns-2 c =
-    let g = begin (c .before .before .before .before) .pre .0 .looks in
+    let u = c .before .before .before .before in
     record {
       bounded = tt;
-      exact = λ trace m. below-last Weak _ _ trace _ _ (omega arith) (below-next (c .before) _ trace g m);
+      exact = λ trace m. below-last Weak _ _ trace _ _ (omega arith) (below-next (c .before) _ trace (begin u .pre .0 .looks) m (begin u .pre .2));
     }
 
 -- What else is asked: numbers that fit, indices, what is called, and that the loops end
-
-cast-at : tie.Need-cast-at Inv-states μ-states Inv-steps μ-steps
-cast-at c = search needs
-
-mul-possible-states : tie.Need-mul-possible-states Inv-states μ-states Inv-steps μ-steps
-mul-possible-states c = omega arith
-
-array-read-possible-states :
-    tie.Need-array-read-possible-states Inv-states μ-states Inv-steps μ-steps
-array-read-possible-states c = omega arith
-
-possible-states-requires :
-    tie.Need-possible-states-requires Inv-states μ-states Inv-steps μ-steps
-possible-states-requires c κs = c .before .before .before .before .before .before .before .pre .0 .looks .near .closed .size
 
 cast-if1 : tie.Need-cast-if1 Inv-states μ-states Inv-steps μ-steps
 cast-if1 c = omega (arith, pick c .small)
@@ -193,6 +190,9 @@ sub-todo c = omega arith
 
 states-less : tie.Need-states-less Inv-states μ-states Inv-steps μ-steps
 states-less c = pick (c .before) .less
+
+cast-events-with : tie.Need-cast-events-with Inv-states μ-states Inv-steps μ-steps
+cast-events-with c = search needs
 
 array-read-events-with : tie.Need-array-read-events-with Inv-states μ-states Inv-steps μ-steps
 array-read-events-with c = omega arith
@@ -208,6 +208,20 @@ backward-reach-requires c κs =
 add-l : tie.Need-add-l Inv-states μ-states Inv-steps μ-steps
 add-l c = omega arith
 
+cast-possible-states : tie.Need-cast-possible-states Inv-states μ-states Inv-steps μ-steps
+cast-possible-states c = omega arith
+
+mul-possible-states : tie.Need-mul-possible-states Inv-states μ-states Inv-steps μ-steps
+mul-possible-states c = omega arith
+
+array-read-possible-states :
+    tie.Need-array-read-possible-states Inv-states μ-states Inv-steps μ-steps
+array-read-possible-states c = omega arith
+
+possible-states-requires :
+    tie.Need-possible-states-requires Inv-states μ-states Inv-steps μ-steps
+possible-states-requires c κs = begin (c .before .before .before .before .before .before) .pre .0 .looks .near .closed .size
+
 steps-less : tie.Need-steps-less Inv-states μ-states Inv-steps μ-steps
 steps-less c = omega arith
 
@@ -220,10 +234,6 @@ weak-verdict-spec =
     Inv-steps
     μ-steps
     steps-holds
-    cast-at
-    mul-possible-states
-    array-read-possible-states
-    possible-states-requires
     states-holds
     cast-if1
     shr-if1
@@ -232,9 +242,14 @@ weak-verdict-spec =
     states-again
     returns
     returns-2
+    cast-events-with
     array-read-events-with
     events-with-requires
     backward-reach-requires
     add-l
+    cast-possible-states
+    mul-possible-states
+    array-read-possible-states
+    possible-states-requires
     steps-less
     steps-again)

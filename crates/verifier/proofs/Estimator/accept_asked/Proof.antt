@@ -1,23 +1,20 @@
--- `Estimator::accept_asked` meets its contract: the tests in their order, the states that are explored before and after the event, and the verdicts
--- of the look back.
-use mathlib.Core.Path.{refl, sym, subst}
+-- `Estimator::accept_asked` meets its contract: the tests in their order, the estimate after the symbol, and the verdicts of the look back from it.
+use mathlib.Core.Path.{sym}
 use mathlib.Core.List.{[]}
 use borrow.Author.Tests.{not-true, not-false}
 use borrow.Author.Needs.{needs}
 use denote.Ref.{now}
-use lib.ListN.{getD}
 use native.Mathlib.Omega.{arith}
-use Rattle.stateset.proofs.Bits.{or-l, or-r}
 use Rattle.stateset.proofs.Decides.{holds, fails}
 use Rattle.automaton.specs.Run.{automatonOf, Sound, Observable}
 use Rattle.automaton.specs.declared.Refusal.the-variants as refusal
 use Rattle.automaton.specs.Reaching.{Showing}
 use Rattle.automaton.proofs.SymbolSets.{some-observable, none-observable, observable-small}
-use Rattle.automaton.proofs.Entering.{gained-closed, known-none, known-more}
+use Rattle.automaton.proofs.Entering.{known-none}
 use Rattle.verifier.specs.Estimators.{Limits}
 use Rattle.verifier.specs.Replies.{Accepting, not-observable, incompatible, Moved}
-use Rattle.verifier.specs.Inner.{Next, Near}
-use Rattle.verifier.proofs.Judging.{grown-entry, near-gained, found-by, given-by, refused-asked}
+use Rattle.verifier.proofs.Judging.{grown-entry, moved-by, found-by, given-by, refused-asked}
+use Rattle.verifier.proofs.Settling.{some-left, none-left, reach-as, gained-part}
 use Rattle.verifier.proofs.Estimator.accept_asked.Statement.{statement}
 use Rattle.verifier.proofs.Estimator.accept_asked.Tie as tie
 
@@ -70,8 +67,8 @@ returns-2 c =
     refused-asked _ _ _ _ _ refusal.NotObservable _ (r .0) (r .1)
     (not-observable (o .0) (o .1) (none-observable (now (a .table)) (a .header) _ _ (showing v) (c .before .if2 .taken)))
 
-element-copy-out-newest : tie.Need-element-copy-out-newest
-element-copy-out-newest c = search needs
+entered-requires : tie.Need-entered-requires
+entered-requires c κs = search needs
 
 slice-aggregate-silent-rows : tie.Need-slice-aggregate-silent-rows
 slice-aggregate-silent-rows c = search needs
@@ -79,21 +76,18 @@ slice-aggregate-silent-rows c = search needs
 silent-rows-requires : tie.Need-silent-rows-requires
 silent-rows-requires c κs = (ok (c .before .before .before .before .before .before .before .before) .0 .words, known-none _ _)
 
+element-copy-out-newest : tie.Need-element-copy-out-newest
+element-copy-out-newest c = search needs
+
 slice-aggregate-next-estimate : tie.Need-slice-aggregate-next-estimate
 slice-aggregate-next-estimate c = search needs
 
 next-estimate-requires : tie.Need-next-estimate-requires
 next-estimate-requires c κs =
-    let e = c .before .before .before .before .before in
-    let g = c .before .before .silent-rows .ensures in
-    (ok (e .before .before .before .before .before .before) .0 .words, gained-closed _ _ _ _ g .size, λ x i. showing (e .before) .sound x i .0)
-
--- what the new symbol gives, for a trace by which the estimator has grown
-next-of : (c : tie.After-next-estimate) → Next (automatonOf (now (c .before .before .before .before .before .before .before .before .before .before .before .before .before .before .before .args .table)) (c .before .before .before .before .before .before .before .before .before .before .before .before .before .before .before .args .header)) (getD (c .before .before .before .before .before .before .before .before .before .before .before .before .before .before .before .args .t1 .entries) 0 0) (c .before .before .before .before .before .before .before .before .before .before .before .before .before .before .before .args .symbol) (c .next-estimate .result)
-next-of c =
-    let g = c .before .before .before .silent-rows .ensures in
-    let e = c .before .before .before .before .before .before in
-    c .next-estimate .ensures _ _ refl (ok (e .before .before .before .before .before .before) .0 .start) (gained-closed _ _ _ _ g) (g .more) (showing (e .before))
+    let g = c .before .before .before in
+    let f = g .before .before in
+    let o = ok (f .before .before .before .before .before .before .before) in
+    (o .0 .words, o .0 .start, λ x i. showing (f .before .before) .sound x i .0, gained-part _ _ _ _ _ (λ q i. f .entered .ensures 0 q (omega arith) i) (g .silent-rows .ensures))
 
 enum-known-next : tie.Need-enum-known-next
 enum-known-next c = search needs
@@ -107,89 +101,54 @@ refused-requires-3 c κs = search needs
 returns-3 : tie.Need-returns-3
 returns-3 c =
     let r = c .refused3 .ensures in
-    let e = c .before .before .before .before .before .before .before .before .before in
+    let e = c .before .before .before .before .before .before .before .before .before .before .before in
     let o = ok (e .before .before .before .before .before .before) in
     refused-asked _ _ _ _ _ refusal.Incompatible _ (r .0) (r .1)
     (incompatible (o .0) (o .1) (observed e)
-    (λ trace g. subst (Next _ _ _) (c .before .enum-told .given .1) (next-of (c .before .before .before)) trace (grown-entry _ _ trace _ g)))
+    (λ trace g. none-left (c .before .before .before .before .next-estimate .ensures _ (showing (c .before .before .before .before .before .before .before .before .before .before .before .before))) (c .before .enum-told .given .1) trace (grown-entry _ _ trace _ g)))
 
 push-requires : tie.Need-push-requires
 push-requires c κs =
-    let e = c .before .before .before .before .before .before .before .before .before in
+    let e = c .before .before .before .before .before .before .before .before .before .before .before in
     let o = ok (e .before .before .before .before .before .before) in
     (o .0 .back, observable-small (now (e .before .before .before .before .before .before .before .before .before .args .table)) _ _ (o .0) (observed e), o .1)
 
-entered-requires : tie.Need-entered-requires
-entered-requires c κs = search needs
+slice-aggregate-assess : tie.Need-slice-aggregate-assess
+slice-aggregate-assess c = sym (c .before .before .before .before .before .before .before .before .before .before .before .before .before .before .before .before .before .by-symbol .ensures [] .size)
 
-slice-aggregate-silent-rows-2 : tie.Need-slice-aggregate-silent-rows-2
-slice-aggregate-silent-rows-2 c = search needs
+slice-aggregate-assess-2 : tie.Need-slice-aggregate-assess-2
+slice-aggregate-assess-2 c = search needs
 
-silent-rows-requires-2 : tie.Need-silent-rows-requires-2
-silent-rows-requires-2 c κs =
-    let n = c .before .before .before .before .before .before .before .before .before .before in
-    let e = n .before .before .before in
-    (ok (e .before .before .before .before .before .before) .0 .words, known-more _ _ (n .silent-rows .result .states) _ _ (λ q i. or-l q (n .silent-rows .result .states) (c .before .before .entered .result) i) (n .silent-rows .ensures .known-are))
-
-slice-aggregate-silent-back : tie.Need-slice-aggregate-silent-back
-slice-aggregate-silent-back c = search needs
-
-slice-aggregate-silent-back-2 : tie.Need-slice-aggregate-silent-back-2
-slice-aggregate-silent-back-2 c = search needs
-
-silent-back-requires : tie.Need-silent-back-requires
-silent-back-requires c κs = search needs
-
-slice-aggregate-judge : tie.Need-slice-aggregate-judge
-slice-aggregate-judge c = sym (c .before .before .before .before .before .before .before .before .before .before .before .before .before .before .before .before .before .before .before .before .before .before .before .before .by-symbol .ensures [] .size)
-
-slice-aggregate-judge-2 : tie.Need-slice-aggregate-judge-2
-slice-aggregate-judge-2 c = search needs
-
-slice-aggregate-judge-3 : tie.Need-slice-aggregate-judge-3
-slice-aggregate-judge-3 c = search needs
-
-judge-requires : tie.Need-judge-requires
-judge-requires c κs =
-    let r = c .before .before .before .before .before .before .before .before in
-    let f = r .before .before .before in
-    let n = f .before .before .before .before .before .before .before .before in
-    let e = n .before .before .before in
+assess-requires : tie.Need-assess-requires
+assess-requires c κs =
+    let k = c .before .before .before in
+    let x = some-left (k .before .before .before .before .next-estimate .ensures _ (showing (k .before .before .before .before .before .before .before .before .before .before .before .before))) (k .before .next .given .1) in
+    let f = k .before .before .before .before .before .before .before .before .before .before in
+    let e = f .before in
     let o = ok (e .before .before .before .before .before .before) in
-    let a = e .before .before .before .before .before .before .before .before .before .args in
-    let near : Near (automatonOf (now (a .table)) (a .header)) _ _ (r .silent-rows2 .result .states) = near-gained _ _ _ _ _ (r .silent-rows2 .ensures)
-    (λ l q h i. or-r q (n .silent-rows .result .states) (f .entered .result) (f .entered .ensures l q h i)) in
+    let after = c .before .before .push .ensures in
     record {
       sound = o .0;
-      limits = f .before .push .ensures .0;
-      looks = record {
-        table-is = refl;
-        start = o .0 .start;
-        symbols-small = o .0 .symbols-small;
-        sets-are = e .before .before .before .before .by-symbol .ensures _;
-        near = near;
-        back-are = c .before .before .before .before .silent-back .ensures _ (near .closed);
+      limits = after .0;
+      sets-are = e .before .before .before .before .by-symbol .ensures _;
+      near = record {
+        closed = x .settled .closed;
+        inside = after .2 _ (x .settled .new) (λ l q h i. x .settled .old q (k .before .before .before .before .before .before .before .before .silent-rows .ensures .more q (f .entered .ensures l q h i)));
       };
+      reach = reach-as (after .1) (x .settled .reach);
     }
 
 returns-4 : tie.Need-returns-4
 returns-4 c =
-    let pushed = c .before .before .before .before .before .before .before .before .before .before .before .before .before in
+    let pushed = c .before .before .before in
     let k = pushed .before in
-    let e = k .before .before .before .before .before .before .before .before .before in
+    let e = k .before .before .before .before .before .before .before .before .before .before .before in
     let a = e .before .before .before .before .before .before .before .before .before .args in
     let o = ok (e .before .before .before .before .before .before) in
     let after = pushed .push .ensures in
-    let moved : Moved (now (a .table)) (a .header) (a .t1) (a .symbol) (pushed .push .result) = record {
-      sound = o .0;
-      limits = o .1;
-      observable = observed e;
-      limits-after = after .0;
-      grown = λ trace g.
-          let x = subst (Next _ _ _) (k .before .next .given .1) (next-of (k .before .before .before)) trace (grown-entry _ _ trace _ g) in
-          after .1 _ trace g (x .0) (x .1);
-    } in
-    (moved, λ notion. given-by (found-by notion _ _ _ _ _ _ moved) (c .judge .ensures notion))
+    let moved : Moved (now (a .table)) (a .header) (a .t1) (a .symbol) (c .assess .result .size) (pushed .push .result) =
+    moved-by _ _ _ _ _ _ _ _ _ (o .0) (o .1) (observed e) (some-left (k .before .before .before .before .next-estimate .ensures _ (showing (k .before .before .before .before .before .before .before .before .before .before .before .before))) (k .before .next .given .1)) (c .assess .ensures .1) (after .0) (λ trace g E y. after .3 _ trace g E y) in
+    (moved, λ notion. given-by (found-by notion _ _ _ _ _ _ _ moved) (c .assess .ensures .0 notion))
 
 pub accept-asked-spec : {M : Type 1} → statement M
 accept-asked-spec =
@@ -204,9 +163,10 @@ accept-asked-spec =
     events-with-requires
     refused-requires-2
     returns-2
-    element-copy-out-newest
+    entered-requires
     slice-aggregate-silent-rows
     silent-rows-requires
+    element-copy-out-newest
     slice-aggregate-next-estimate
     next-estimate-requires
     enum-known-next
@@ -214,14 +174,7 @@ accept-asked-spec =
     refused-requires-3
     returns-3
     push-requires
-    entered-requires
-    slice-aggregate-silent-rows-2
-    silent-rows-requires-2
-    slice-aggregate-silent-back
-    slice-aggregate-silent-back-2
-    silent-back-requires
-    slice-aggregate-judge
-    slice-aggregate-judge-2
-    slice-aggregate-judge-3
-    judge-requires
+    slice-aggregate-assess
+    slice-aggregate-assess-2
+    assess-requires
     returns-4)

@@ -161,13 +161,13 @@ def entered(automaton, trace):
 
 
 def ends(automaton, trace):
-    """Where the runs end that have at most s - 1 unobservable transitions between two observations, which is enough for each state. (Half the bound.)"""
+    """Where the runs end that have at most s - 1 unobservable transitions between two observations, half the bound: enough for each state."""
     return {run[-1][1] if run else automaton.initial for run in every_run(automaton, trace, automaton.bound() // 2)}
 
 
 def test_merging(count, seed):
-    """The merged runs are those that are listed one by one; the estimate size is the number of states in which these end; and neither a verdict nor the
-    estimate size changes with a higher bound."""
+    """The merged runs are those that are listed one by one; the estimate size is the number of states in which these end; neither a verdict nor
+    the estimate size changes with a higher bound."""
     compared = 0
     for i in range(count):
         rng = random.Random(f"{seed} {i}")

@@ -654,6 +654,8 @@ def misread(calls):
         "header 46  0:1",
         "header 46 0:100 0:1",
         "table 2048 0:11111111111111111",
+        "verdicts 3",
+        "released 2",
     ):
         calls.misread(line)
     ready(calls, "accept")

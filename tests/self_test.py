@@ -9,7 +9,7 @@ import random
 import sys
 
 from calls import elements
-from examples import ENCODINGS, ESTIMATES, EXAMPLES, OPENINGS, P, P_ENCODING, P_SYMBOLS, Q, Q_ENCODING
+from examples import ENCODINGS, ESTIMATES, EXAMPLES, OPENINGS, P, P_ENCODING, P_SYMBOLS, Q, Q_ENCODING, T
 from generate import many_transitions, random_automaton, random_offers, random_trace, with_length, with_repeat, with_symbols, with_transitions
 from logs import Refused, decoded, encoded, output
 from runs import Automaton, Listing, TooManyRuns
@@ -42,14 +42,16 @@ def test_sizes():
 
 
 def test_programs():
-    """The stored runs of the log program, 01's listing and 02's idle log, with S-5's column, written by hand from their words; and where the
-    documents and the example in C have them."""
+    """The stored runs of the log program, 01's listing and 02's idle log with S-5's column: the lister gives them, and they are among the answers
+    that were written by hand. The documents and the example in C have the same."""
     top = pathlib.Path(__file__).resolve().parent.parent
     stored = {}
     for name in ("opacity_log", "idle_log"):
         folder = top / "crates" / name
         stored[name] = (folder / "stdout").read_text("ascii")
         assert output((folder / "stdin").read_bytes()) == stored[name], name
+    assert stored["opacity_log"] == EXAMPLES[0][2]
+    assert [stored["idle_log"]] == [expected for automaton, offered, expected in EXAMPLES if automaton is T and not offered]
     assert (top / "c" / "listing.txt").read_text("ascii") == stored["opacity_log"]
     for name in ("README.md", "docs/FORMATS.md"):
         indented = "".join(f"    {line}\n" for line in stored["opacity_log"].splitlines())

@@ -5,7 +5,7 @@ use crate::cases::Case;
 use crate::excuses::Excused;
 use crate::library::{self, Library};
 use crate::native::Estimator;
-use crate::plain::{Enforcer, Verdicts, Verifier, NONE};
+use crate::plain::{Enforcer, Judgement, Release, Verifier, NONE};
 use crate::rows::BLOCKS;
 use crate::trajectories::Trajectories;
 use std::fmt::Debug;
@@ -15,23 +15,40 @@ use std::time::{Duration, Instant};
 pub const CAP: usize = 300_000;
 pub const TIME: Duration = Duration::from_millis(1000);
 
-/// The answers to one byte, each with the number of the refusal: the verdicts, and what a weak and a strong enforcer release.
+/// The released events and the estimate size, or the number of the refusal.
+type Released = Result<(Vec<u8>, u8), u8>;
+
+fn kept(release: Result<Release, u8>) -> Released {
+    release.map(|(events, size)| (events.to_vec(), size))
+}
+
+/// The answers to one byte, each with the number of the refusal: both verdicts and the estimate size, and what a weak and a strong enforcer
+/// release, with the estimate size.
 #[derive(Debug, PartialEq)]
 struct Answers {
-    accept: Result<Verdicts, u8>,
-    weak: Result<Vec<u8>, u8>,
+    accept: Result<Judgement, u8>,
+    weak: Released,
     /// None where the start is a strong leak.
-    strong: Option<Result<Vec<u8>, u8>>,
+    strong: Option<Released>,
+}
+
+impl Answers {
+    /// Whether each gives this estimate size, or, where it is 0, refuses.
+    fn agree(&self, size: u32) -> bool {
+        let same = |given: Result<u8, u8>| given.map_or(0, u32::from) == size;
+        let released = |release: &Released| same(release.as_ref().map(|(_, size)| *size).map_err(|&refusal| refusal));
+        same(self.accept.map(|judgement| judgement[2])) && released(&self.weak) && self.strong.iter().all(released)
+    }
 }
 
 trait Implementation {
-    fn opening(&self) -> Verdicts;
+    fn opening(&self) -> Judgement;
     fn answers(&mut self, byte: u8) -> Answers;
 }
 
 /// (a): its verifier and its weak enforcer, and its strong one.
 struct Proved {
-    opening: Verdicts,
+    opening: Judgement,
     weak: Library,
     strong: Option<Library>,
 }
@@ -51,15 +68,15 @@ impl Proved {
 }
 
 impl Implementation for Proved {
-    fn opening(&self) -> Verdicts {
+    fn opening(&self) -> Judgement {
         self.opening
     }
 
     fn answers(&mut self, byte: u8) -> Answers {
         Answers {
             accept: self.weak.accept(byte),
-            weak: self.weak.offer(byte).map(<[u8]>::to_vec),
-            strong: self.strong.as_mut().map(|strong| strong.offer(byte).map(<[u8]>::to_vec)),
+            weak: kept(self.weak.offer(byte)),
+            strong: self.strong.as_mut().map(|strong| kept(strong.offer(byte))),
         }
     }
 }
@@ -67,7 +84,7 @@ impl Implementation for Proved {
 /// (b) or (d): V works out both verdicts, W the weak one alone.
 struct Plain<'a, V, W> {
     automaton: &'a Automaton,
-    opening: Verdicts,
+    opening: Judgement,
     verifier: V,
     weak: Enforcer<W, false>,
     strong: Option<Enforcer<V, true>>,
@@ -82,7 +99,7 @@ impl<'a, V: Verifier + 'a, W: Verifier + 'a> Plain<'a, V, W> {
 }
 
 impl<V: Verifier, W: Verifier> Implementation for Plain<'_, V, W> {
-    fn opening(&self) -> Verdicts {
+    fn opening(&self) -> Judgement {
         self.opening
     }
 
@@ -90,8 +107,8 @@ impl<V: Verifier, W: Verifier> Implementation for Plain<'_, V, W> {
         let automaton = self.automaton;
         Answers {
             accept: self.verifier.accept(automaton, byte),
-            weak: self.weak.offer(automaton, byte).map(<[u8]>::to_vec),
-            strong: self.strong.as_mut().map(|strong| strong.offer(automaton, byte).map(<[u8]>::to_vec)),
+            weak: kept(self.weak.offer(automaton, byte)),
+            strong: self.strong.as_mut().map(|strong| kept(strong.offer(automaton, byte))),
         }
     }
 }
@@ -131,13 +148,13 @@ pub struct Compared {
 
 impl Compared {
     fn count(&mut self, answers: &Answers) {
-        let [weak, strong] = answers.accept.unwrap_or([NONE; 2]);
+        let [weak, strong, _] = answers.accept.unwrap_or([NONE; 3]);
         self.events += answers.accept.is_ok() as usize;
         self.refusals += answers.accept.is_err() as usize;
         self.weak += (weak != NONE) as usize;
         self.strong += (strong != NONE) as usize;
-        self.releases += answers.weak.as_ref().map_or(0, Vec::len);
-        self.strong_releases += answers.strong.iter().flatten().map(Vec::len).sum::<usize>();
+        self.releases += answers.weak.as_ref().map_or(0, |(events, _)| events.len());
+        self.strong_releases += answers.strong.iter().flatten().map(|(events, _)| events.len()).sum::<usize>();
     }
 
     pub fn print_head() {
@@ -155,7 +172,8 @@ impl Compared {
     }
 }
 
-/// Compares (b) and (d) with (a) on the whole trace, with a byte that is to be refused before each event.
+/// Compares (b) and (d) with (a) on the whole trace, with a byte that is to be refused before each event; the estimate sizes of (a), and whether it
+/// refuses, also with the estimates by which traces are drawn.
 pub fn compare(case: &Case, compared: &mut Compared) {
     let automaton = &case.automaton;
     let mut a = Proved::new(automaton);
@@ -166,13 +184,17 @@ pub fn compare(case: &Case, compared: &mut Compared) {
         }
     }
     let mut estimate = automaton.first();
+    if a.opening()[2] as u32 != estimate.count_ones() {
+        differ(case, "estimate", 0, a.opening(), estimate);
+    }
     for (i, &event) in case.trace.iter().enumerate() {
         let stray = (i % 256) as u8;
         let refused = (automaton.after(estimate, stray as usize) == 0).then_some(stray);
         for byte in refused.into_iter().chain([event]) {
             let expected = a.answers(byte);
-            if expected.accept.is_err() != (automaton.after(estimate, byte as usize) == 0) {
-                differ(case, "refusal", i, expected, byte);
+            let after = automaton.after(estimate, byte as usize);
+            if !expected.agree(after.count_ones()) {
+                differ(case, "estimate", i, expected, (byte, after));
             }
             for (name, other) in &mut others {
                 let got = other.answers(byte);
@@ -186,26 +208,36 @@ pub fn compare(case: &Case, compared: &mut Compared) {
     }
 }
 
-/// Compares (c) with (a), as far as it gets.
+/// Compares what (a) gives for an event, and as the estimate size of an offer, with (c), with and without Booleans.
+fn compare_trajectories(
+    case: &Case, event: usize, accepted: Result<Judgement, u8>, offered: Result<u8, u8>, c: &Trajectories<true>, c_weak: &Trajectories<false>,
+) {
+    let got = [c.weak(), c.strong(), c.estimate_size()];
+    if accepted != Ok(got) {
+        differ(case, "(c)", event, accepted, got);
+    }
+    let weak = [c_weak.weak(), c_weak.estimate_size()];
+    if weak != [got[0], got[2]] || offered != Ok(weak[1]) {
+        differ(case, "(c), weak", event, (accepted, offered), weak);
+    }
+}
+
+/// Compares (c) with (a), as far as it gets. It has no queue: of an offer the estimate size is compared.
 pub fn compare_textbook(case: &Case, compared: &mut Compared) {
     let mut a = Library::new(&case.automaton);
-    a.fresh();
+    let opening = a.fresh();
+    a.start(library::WEAK);
     let mut c = Trajectories::<true>::new(&case.automaton, CAP);
     c.fresh();
     let mut c_weak = Trajectories::<false>::new(&case.automaton, CAP);
     c_weak.fresh();
+    compare_trajectories(case, 0, Ok(opening), Ok(opening[2]), &c, &c_weak);
     let begun = Instant::now();
     for (i, &event) in case.trace.iter().enumerate() {
         if TIME <= begun.elapsed() || c.push(event).is_err() || c_weak.push(event).is_err() {
             return;
         }
-        let (expected, got) = (a.accept(event), [c.weak(), c.strong()]);
-        if expected != Ok(got) {
-            differ(case, "(c)", i, expected, got);
-        }
-        if got[0] != c_weak.weak() {
-            differ(case, "(c), weak", i, expected, c_weak.weak());
-        }
+        compare_trajectories(case, i, a.accept(event), a.offer(event).map(|(_, size)| size), &c, &c_weak);
         compared.textbook += 1;
     }
 }

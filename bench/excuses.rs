@@ -1,11 +1,12 @@
 //! (d) The same two jobs without looking back. For each state that runs can be in, it carries forward the steps back that some compatible run ending
 //! there excuses: weakly, if the run has a position so many events back that is not secret; strongly, if it has no secret one since. An event makes
-//! each step one more, transitions hand them on from state to state, and the verdict is the least step that no state excuses.
+//! each step one more, transitions hand them on from state to state, and the verdict is the least step that no state excuses. The estimate size is the
+//! number of the states that runs can be in.
 //!
 //! This state serves one secret: another one needs excuses of its own. It holds neither the last events nor the older estimates.
 
 use crate::automata::Automaton;
-use crate::plain::{refuse_unobservable, Verdicts, Verifier, NONE};
+use crate::plain::{refuse_unobservable, Judgement, Verifier, NONE};
 use crate::rows::{event_rows, members, Rows};
 
 /// A set of steps back: bit l of the low half for a weak excuse of step l, bit l of the high half for a strong one.
@@ -98,26 +99,26 @@ impl<const STRONG: bool, const BLOCK: usize> Excused<STRONG, BLOCK> {
         reached
     }
 
-    /// The least step without an excuse, for each notion.
+    /// The least step without an excuse, for each notion, and how many states are possible.
     #[inline(always)]
-    fn verdicts(&self, any: Excuses) -> Verdicts {
+    fn judge(&self, any: Excuses) -> Judgement {
         let least = |excuses: Excuses| {
             let l = excuses.trailing_ones() as usize;
             if l <= self.count { l as u8 } else { NONE }
         };
-        [least(any & WEAK), if STRONG { least(any >> 16) } else { NONE }]
+        [least(any & WEAK), if STRONG { least(any >> 16) } else { NONE }, self.possible.count_ones() as u8]
     }
 }
 
 impl<const STRONG: bool, const BLOCK: usize> Verifier for Excused<STRONG, BLOCK> {
-    fn fresh(automaton: &Automaton) -> (Self, Verdicts) {
+    fn fresh(automaton: &Automaton) -> (Self, Judgement) {
         let mut made = Excused { count: 0, possible: 0, excuses: [0; 64] };
         let any = made.settle(automaton, 1 << automaton.initial);
-        let verdicts = made.verdicts(any);
-        (made, verdicts)
+        let judgement = made.judge(any);
+        (made, judgement)
     }
 
-    fn accept(&mut self, automaton: &Automaton, event: u8) -> Result<Verdicts, u8> {
+    fn accept(&mut self, automaton: &Automaton, event: u8) -> Result<Judgement, u8> {
         refuse_unobservable(automaton, event)?;
         let words = event_rows(automaton, event);
         let entry = members(self.possible).fold(0, |set, q| set | words[q]);
@@ -127,6 +128,6 @@ impl<const STRONG: bool, const BLOCK: usize> Verifier for Excused<STRONG, BLOCK>
         self.count = (self.count + 1).min(automaton.k as usize);
         self.step(words);
         let any = self.settle(automaton, entry);
-        Ok(self.verdicts(any))
+        Ok(self.judge(any))
     }
 }

@@ -1,6 +1,7 @@
 //! (a) The proved library through its C interface (include/opacity.h).
 
 use crate::automata::Automaton;
+use crate::plain::{Judgement, Release};
 
 type Decode = unsafe extern "C" fn(*const u8, usize, *mut u64, usize, *mut u8, usize) -> u8;
 type Fresh = unsafe extern "C" fn(*const u64, usize, *const u8, usize, *mut u8, usize, *mut u8, usize) -> u8;
@@ -10,14 +11,14 @@ type Offer = unsafe extern "C" fn(*const u64, usize, *const u8, usize, u8, *mut 
 
 extern "C" {
     fn opacity_decode(encoding: *const u8, _: usize, table: *mut u64, _: usize, header: *mut u8, _: usize) -> u8;
-    fn opacity_fresh(table: *const u64, _: usize, header: *const u8, _: usize, estimator: *mut u8, _: usize, verdicts: *mut u8, _: usize) -> u8;
+    fn opacity_fresh(table: *const u64, _: usize, header: *const u8, _: usize, estimator: *mut u8, _: usize, judgement: *mut u8, _: usize) -> u8;
     fn opacity_accept(
-        table: *const u64, _: usize, header: *const u8, _: usize, symbol: u8, estimator: *mut u8, _: usize, verdicts: *mut u8, _: usize,
+        table: *const u64, _: usize, header: *const u8, _: usize, symbol: u8, estimator: *mut u8, _: usize, judgement: *mut u8, _: usize,
     ) -> u8;
     fn opacity_start(table: *const u64, _: usize, header: *const u8, _: usize, notion: u8, enforcer: *mut u8, _: usize) -> u8;
     fn opacity_offer(
         table: *const u64, _: usize, header: *const u8, _: usize, symbol: u8, enforcer: *mut u8, _: usize, output: *mut u8, _: usize,
-        released: *mut u8, _: usize,
+        release: *mut u8, _: usize,
     ) -> u8;
 }
 
@@ -63,17 +64,17 @@ pub struct Library {
     table: Vec<u64>,
     header: [u8; 46],
     estimator: [u8; 144],
-    verdicts: [u8; 2],
+    judgement: Judgement,
     enforcer: [u8; 178],
     output: [u8; 17],
-    released: [u8; 1],
+    release: [u8; 2],
 }
 
 impl Library {
     /// Decodes the automaton's encoding; a table that no encoding can list is lent as it is.
     pub fn new(automaton: &Automaton) -> Self {
         let mut made = Library {
-            table: vec![0; 2048], header: [0; 46], estimator: [0; 144], verdicts: [0; 2], enforcer: [0; 178], output: [0; 17], released: [0],
+            table: vec![0; 2048], header: [0; 46], estimator: [0; 144], judgement: [0; 3], enforcer: [0; 178], output: [0; 17], release: [0; 2],
         };
         match automaton.encode() {
             Some(encoding) => {
@@ -103,22 +104,22 @@ impl Library {
 
     #[inline(always)]
     pub fn call_fresh(&mut self, functions: &Functions) -> u8 {
-        let (table, header, estimator, verdicts) = (&self.table, &self.header, &mut self.estimator, &mut self.verdicts);
+        let (table, header, estimator, judgement) = (&self.table, &self.header, &mut self.estimator, &mut self.judgement);
         unsafe {
             (functions.fresh)(
-                table.as_ptr(), table.len(), header.as_ptr(), header.len(), estimator.as_mut_ptr(), estimator.len(), verdicts.as_mut_ptr(),
-                verdicts.len(),
+                table.as_ptr(), table.len(), header.as_ptr(), header.len(), estimator.as_mut_ptr(), estimator.len(), judgement.as_mut_ptr(),
+                judgement.len(),
             )
         }
     }
 
     #[inline(always)]
     pub fn call_accept(&mut self, functions: &Functions, symbol: u8) -> u8 {
-        let (table, header, estimator, verdicts) = (&self.table, &self.header, &mut self.estimator, &mut self.verdicts);
+        let (table, header, estimator, judgement) = (&self.table, &self.header, &mut self.estimator, &mut self.judgement);
         unsafe {
             (functions.accept)(
                 table.as_ptr(), table.len(), header.as_ptr(), header.len(), symbol, estimator.as_mut_ptr(), estimator.len(),
-                verdicts.as_mut_ptr(), verdicts.len(),
+                judgement.as_mut_ptr(), judgement.len(),
             )
         }
     }
@@ -131,24 +132,24 @@ impl Library {
 
     #[inline(always)]
     pub fn call_offer(&mut self, functions: &Functions, symbol: u8) -> u8 {
-        let (table, header, enforcer, output, released) = (&self.table, &self.header, &mut self.enforcer, &mut self.output, &mut self.released);
+        let (table, header, enforcer, output, release) = (&self.table, &self.header, &mut self.enforcer, &mut self.output, &mut self.release);
         unsafe {
             (functions.offer)(
                 table.as_ptr(), table.len(), header.as_ptr(), header.len(), symbol, enforcer.as_mut_ptr(), enforcer.len(), output.as_mut_ptr(),
-                output.len(), released.as_mut_ptr(), released.len(),
+                output.len(), release.as_mut_ptr(), release.len(),
             )
         }
     }
 
-    pub fn fresh(&mut self) -> [u8; 2] {
+    pub fn fresh(&mut self) -> Judgement {
         assert_eq!(self.call_fresh(&PROVED), 0, "fresh");
-        self.verdicts
+        self.judgement
     }
 
-    /// The two verdicts, or the number of the refusal.
-    pub fn accept(&mut self, symbol: u8) -> Result<[u8; 2], u8> {
+    /// The two verdicts and the estimate size, or the number of the refusal.
+    pub fn accept(&mut self, symbol: u8) -> Result<Judgement, u8> {
         match self.call_accept(&PROVED, symbol) {
-            0 => Ok(self.verdicts),
+            0 => Ok(self.judgement),
             refusal => Err(refusal),
         }
     }
@@ -157,10 +158,10 @@ impl Library {
         assert_eq!(self.call_start(&PROVED, notion), 0, "start");
     }
 
-    /// The released symbols, or the number of the refusal.
-    pub fn offer(&mut self, symbol: u8) -> Result<&[u8], u8> {
+    /// The released symbols and the estimate size, or the number of the refusal.
+    pub fn offer(&mut self, symbol: u8) -> Result<Release<'_>, u8> {
         match self.call_offer(&PROVED, symbol) {
-            0 => Ok(&self.output[..self.released[0] as usize]),
+            0 => Ok((&self.output[..self.release[0] as usize], self.release[1])),
             refusal => Err(refusal),
         }
     }

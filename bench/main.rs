@@ -1,6 +1,7 @@
 //! Measures four implementations of two jobs side by side: (a) the proved library, (b) plain Rust written for speed, (c) the textbook's trajectory
-//! estimator, (d) plain Rust that carries excuses forward. The jobs: `accept`, both verdicts for each event, and `offer`, the events that a weak
-//! enforcer releases. Every verdict and every release is compared first, event by event. A difference or a missed goal ends the run with status 1.
+//! estimator, (d) plain Rust that carries excuses forward. The jobs: `accept`, both verdicts and the estimate size for each event, and `offer`, the
+//! events that a weak enforcer releases and the estimate size. Every verdict, release and estimate size is compared first, event by event. A
+//! difference or a missed goal ends the run with status 1.
 
 mod automata;
 mod cases;
@@ -53,7 +54,8 @@ fn compare_some(name: &str, cases: &[Case], with_textbook: usize) {
 }
 
 fn compare_all(cases: &[Case]) {
-    println!("Compared event by event: verdicts, releases and refusals of (a), (b) and (d) are the same, and the verdicts of (c) as far as it gets.");
+    println!("Compared event by event: verdicts, estimate sizes, releases and refusals of (a), (b) and (d) are the same, and the verdicts and estimate");
+    println!("sizes of (c) as far as it gets.");
     Compared::print_head();
     cases.chunks(1).for_each(|case| compare_some(case[0].name, case, 1));
     compare_some("4000 small", &cases::small(), 400);

@@ -20,9 +20,9 @@ pub const REPETITIONS: usize = 3;
 
 #[derive(Clone, Copy, PartialEq)]
 pub enum Job {
-    /// Both verdicts for each event.
+    /// Both verdicts and the estimate size for each event.
     Accept,
-    /// The events that a weak enforcer releases.
+    /// The events that a weak enforcer releases, and the estimate size.
     Offer,
 }
 
@@ -246,6 +246,7 @@ fn textbook<const BOOLEANS: bool>(automaton: &Automaton, trace: &[u8]) -> Cost {
             if BOOLEANS {
                 black_box(c.strong());
             }
+            black_box(c.estimate_size());
             done += 1;
             most = most.max(c.size());
             // The clock is not looked at while the sets are small: it would cost more than they do.

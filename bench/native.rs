@@ -1,14 +1,15 @@
 //! (b) The same two jobs without proofs, written for speed. It gets what (a) gets, the table and the header's fields, and keeps a state of its own
 //! from event to event and nothing of the automaton. Where it differs from the proved code:
 //!   - the unobservable relation is worked out for the states that matter alone, in blocks of any size, and turned round as a bit matrix;
-//!   - a state holds each estimate closed under unobservable transitions, so that a look back closes nothing forward;
+//!   - a state holds each estimate closed under unobservable transitions, so that a look back closes nothing forward, and the estimate size is a
+//!     count of the newest;
 //!   - the look back stays inside the estimates: a state that no run can be in is never visited;
 //!   - both notions share one look back, and an enforcer looks back for its own notion alone;
 //!   - closures go wave by wave, and stop when all that is allowed is reached;
 //!   - images and preimages read the table where it is, without a copy of the event's rows.
 
 use crate::automata::Automaton;
-use crate::plain::{refuse_unobservable, Queue, Verdicts, Verifier, NONE};
+use crate::plain::{refuse_unobservable, Judgement, Queue, Release, Verifier, NONE};
 use crate::rows::{event_rows, members, Rows};
 
 const STEPS: usize = 16;
@@ -154,7 +155,7 @@ impl<const STRONG: bool, const BLOCK: usize> Estimator<STRONG, BLOCK> {
     }
 
     /// The weak verdict and, if wanted, the strong one. A weak leak is a strong one too, so the look back may stop at it.
-    fn look_back(&self, automaton: &Automaton, silent: &mut Silent<BLOCK>) -> Verdicts {
+    fn look_back(&self, automaton: &Automaton, silent: &mut Silent<BLOCK>) -> [u8; 2] {
         let clear = !automaton.secret;
         let mut at = self.newest;
         let mut weak = self.estimates[at];
@@ -187,25 +188,30 @@ impl<const STRONG: bool, const BLOCK: usize> Estimator<STRONG, BLOCK> {
         [NONE, strong_verdict]
     }
 
+    fn judge(&self, automaton: &Automaton, silent: &mut Silent<BLOCK>) -> Judgement {
+        let [weak, strong] = self.look_back(automaton, silent);
+        [weak, strong, self.estimates[self.newest].count_ones() as u8]
+    }
+
     /// `accept` with the unobservable relation kept from before: what 1 KB for each automaton would bring.
-    pub fn accept_with(&mut self, automaton: &Automaton, silent: &mut Silent<BLOCK>, event: u8) -> Result<Verdicts, u8> {
+    pub fn accept_with(&mut self, automaton: &Automaton, silent: &mut Silent<BLOCK>, event: u8) -> Result<Judgement, u8> {
         self.push(automaton, silent, event)?;
-        Ok(self.look_back(automaton, silent))
+        Ok(self.judge(automaton, silent))
     }
 }
 
 impl<const STRONG: bool, const BLOCK: usize> Verifier for Estimator<STRONG, BLOCK> {
-    fn fresh(automaton: &Automaton) -> (Self, Verdicts) {
+    fn fresh(automaton: &Automaton) -> (Self, Judgement) {
         let entry = 1 << automaton.initial;
         let mut silent = Silent::new();
         let mut made = Estimator { count: 0, newest: 0, events: [0; STEPS], entries: [0; STEPS], estimates: [0; STEPS] };
         made.entries[0] = entry;
         made.estimates[0] = silent.reach(automaton, entry);
-        let verdicts = made.look_back(automaton, &mut silent);
-        (made, verdicts)
+        let judgement = made.judge(automaton, &mut silent);
+        (made, judgement)
     }
 
-    fn accept(&mut self, automaton: &Automaton, event: u8) -> Result<Verdicts, u8> {
+    fn accept(&mut self, automaton: &Automaton, event: u8) -> Result<Judgement, u8> {
         self.accept_with(automaton, &mut Silent::new(), event)
     }
 }
@@ -213,7 +219,7 @@ impl<const STRONG: bool, const BLOCK: usize> Verifier for Estimator<STRONG, BLOC
 /// `offer` of a weak enforcer with the unobservable relation kept.
 pub fn offer_with<'a, const BLOCK: usize>(
     estimator: &mut Estimator<false, BLOCK>, queue: &'a mut Queue, automaton: &Automaton, silent: &mut Silent<BLOCK>, event: u8,
-) -> Result<&'a [u8], u8> {
-    let verdicts = estimator.accept_with(automaton, silent, event)?;
-    Ok(queue.push(automaton.k, event, verdicts[0]))
+) -> Result<Release<'a>, u8> {
+    let [weak, _, size] = estimator.accept_with(automaton, silent, event)?;
+    Ok((queue.push(automaton.k, event, weak), size))
 }

@@ -5,14 +5,17 @@ use crate::automata::Automaton;
 /// The verdict "no leak".
 pub const NONE: u8 = 255;
 
-/// The weak verdict and the strong one; the strong one is `NONE` where it is not worked out.
-pub type Verdicts = [u8; 2];
+/// The weak verdict, the strong one, and the estimate size; the strong verdict is `NONE` where it is not worked out.
+pub type Judgement = [u8; 3];
+
+/// The released events, and the estimate size: that of all accepted events, pending ones among them.
+pub type Release<'a> = (&'a [u8], u8);
 
 pub trait Verifier: Sized {
-    /// The state of the empty trace, and its verdicts.
-    fn fresh(automaton: &Automaton) -> (Self, Verdicts);
-    /// The verdicts, or the number of the refusal.
-    fn accept(&mut self, automaton: &Automaton, event: u8) -> Result<Verdicts, u8>;
+    /// The state of the empty trace, and its judgement.
+    fn fresh(automaton: &Automaton) -> (Self, Judgement);
+    /// The judgement, or the number of the refusal.
+    fn accept(&mut self, automaton: &Automaton, event: u8) -> Result<Judgement, u8>;
 }
 
 /// The refusal of a byte that is not an observable event.
@@ -72,9 +75,9 @@ impl<V: Verifier, const STRONG: bool> Enforcer<V, STRONG> {
         Enforcer { verifier: V::fresh(automaton).0, queue: Queue::new() }
     }
 
-    /// The released events, or the number of the refusal.
-    pub fn offer(&mut self, automaton: &Automaton, event: u8) -> Result<&[u8], u8> {
-        let verdicts = self.verifier.accept(automaton, event)?;
-        Ok(self.queue.push(automaton.k, event, verdicts[STRONG as usize]))
+    /// The released events and the estimate size, or the number of the refusal.
+    pub fn offer(&mut self, automaton: &Automaton, event: u8) -> Result<Release<'_>, u8> {
+        let judgement = self.verifier.accept(automaton, event)?;
+        Ok((self.queue.push(automaton.k, event, judgement[STRONG as usize]), judgement[2]))
     }
 }

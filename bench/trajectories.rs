@@ -87,6 +87,7 @@ impl<const BOOLEANS: bool> Trajectories<BOOLEANS> {
         self.entries[0] = self.first_entry;
     }
 
+    /// The number of trajectories.
     pub fn size(&self) -> usize {
         self.set.len()
     }
@@ -120,6 +121,11 @@ impl<const BOOLEANS: bool> Trajectories<BOOLEANS> {
         self.entries.copy_within(0..15, 1);
         self.entries[0] = (0..64).filter(|q| current >> q & 1 == 1).fold(0, |set, q| set | self.event_rows[64 * event + q]);
         Ok(())
+    }
+
+    /// The estimate size: in how many different states a trajectory ends.
+    pub fn estimate_size(&self) -> u8 {
+        self.set.iter().fold(0u64, |ends, t| ends | 1 << (t & 63)).count_ones() as u8
     }
 
     /// Proposition 4: the least step back at which every trajectory was in a secret state.

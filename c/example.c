@@ -1,6 +1,6 @@
 /* The worked example of the requirements through the C interface: decodes automaton P, runs the verifier and a weak enforcer over the trace 1 2 1 1,
-   and prints a line for each event: its place, its symbol, the weak and the strong verdict, the released symbols. (P lists no symbols: each
-   observable event has its own number.) c/run compares the lines. */
+   and prints a line for each event: its place, its symbol, the weak and the strong verdict, the estimate size, the released symbols. (P lists no
+   symbols: each observable event has its own number.) c/run compares the lines. */
 #include <stdio.h>
 
 #include "opacity.h"
@@ -14,9 +14,9 @@ static uint64_t table[OPACITY_TABLE_WORDS];
 static uint8_t header[OPACITY_HEADER_BYTES];
 static uint8_t estimator[OPACITY_ESTIMATOR_BYTES];
 static uint8_t enforcer[OPACITY_ENFORCER_BYTES];
-static uint8_t verdicts[OPACITY_VERDICTS_BYTES];
+static uint8_t judgement[OPACITY_JUDGEMENT_BYTES];
 static uint8_t output[OPACITY_OUTPUT_BYTES];
-static uint8_t released[OPACITY_RELEASED_BYTES];
+static uint8_t release[OPACITY_RELEASE_BYTES];
 
 static int refused(uint8_t number)
 {
@@ -40,7 +40,7 @@ int main(void)
     answer = opacity_decode(encoding, sizeof encoding, table, OPACITY_TABLE_WORDS, header, sizeof header);
     if (answer != OPACITY_OK)
         return refused(answer);
-    answer = opacity_fresh(table, OPACITY_TABLE_WORDS, header, sizeof header, estimator, sizeof estimator, verdicts, sizeof verdicts);
+    answer = opacity_fresh(table, OPACITY_TABLE_WORDS, header, sizeof header, estimator, sizeof estimator, judgement, sizeof judgement);
     if (answer != OPACITY_OK)
         return refused(answer);
     answer = opacity_start(table, OPACITY_TABLE_WORDS, header, sizeof header, OPACITY_WEAK, enforcer, sizeof enforcer);
@@ -49,23 +49,25 @@ int main(void)
 
     for (size_t i = 0; i < sizeof trace; i++) {
         uint8_t symbol = trace[i];
-        answer = opacity_accept(table, OPACITY_TABLE_WORDS, header, sizeof header, symbol, estimator, sizeof estimator, verdicts, sizeof verdicts);
-        /* The enforcer accepts exactly what the verifier accepts, so its answer needs no second report. */
+        answer = opacity_accept(table, OPACITY_TABLE_WORDS, header, sizeof header, symbol, estimator, sizeof estimator, judgement, sizeof judgement);
+        /* The enforcer accepts exactly what the verifier accepts, so its answer needs no second report; nor does its estimate size, which is the
+           verifier's. */
         if (answer == OPACITY_OK)
             answer = opacity_offer(table, OPACITY_TABLE_WORDS, header, sizeof header, symbol, enforcer, sizeof enforcer, output, sizeof output,
-                                   released, sizeof released);
+                                   release, sizeof release);
         if (answer != OPACITY_OK) {
             printf("! %d %d\n", symbol, answer);
             continue;
         }
         accepted++;
-        out += released[0];
+        out += release[OPACITY_RELEASE_COUNT];
         printf("%lu %d", accepted, symbol);
-        print_verdict(verdicts[0]);
-        print_verdict(verdicts[1]);
-        for (int j = 0; j < released[0]; j++)
+        print_verdict(judgement[OPACITY_JUDGEMENT_WEAK]);
+        print_verdict(judgement[OPACITY_JUDGEMENT_STRONG]);
+        printf(" %d", judgement[OPACITY_JUDGEMENT_SIZE]);
+        for (int j = 0; j < release[OPACITY_RELEASE_COUNT]; j++)
             printf("%c%d", j == 0 ? ' ' : ',', output[j]);
-        printf(released[0] == 0 ? " -\n" : "\n");
+        printf(release[OPACITY_RELEASE_COUNT] == 0 ? " -\n" : "\n");
     }
     printf("end %lu %lu %d\n", accepted, out, enforcer[OPACITY_ENFORCER_PENDING]);
     return 0;

@@ -60,7 +60,20 @@
  *   146..161 those symbols, the oldest first; unused places are 0
  *   162..177 for each, how many more accepted ones it waits for; unused places are 0
  *
- * Verdicts: 2 bytes, the weak one first. Each is the steps of a leak, 0 to K, or 255 for none.
+ * Estimate size: the number of different states, 1 to 64, in which the automaton may be now as far as a reader of all accepted symbols can tell: those
+ * in which some compatible run ends, unobservable transitions after its last observable event included. It says how narrow the reader's view is: at 1
+ * the reader knows the state. By itself it says nothing about secrecy: one state that is not secret leaks nothing, and several leak if all of them are
+ * secret; the verdicts say that. It is part of no saved state: each accepted symbol gets its own.
+ *
+ * Judgement: 3 bytes.
+ *   0        the weak verdict: the steps of a leak, 0 to K, or 255 for none
+ *   1        the strong verdict, the same
+ *   2        the estimate size, 1 to 64
+ *
+ * Release: 2 bytes.
+ *   0        how many symbols were released, 0 to K + 2
+ *   1        the estimate size, 1 to 64: of all accepted symbols, pending ones among them, and not of the released ones alone. So it says how narrow
+ *            the view would be of one who had them all
  *
  * Output: at least 17 bytes. The released symbols stand at its front; what stands behind keeps its bytes.
  */
@@ -74,12 +87,19 @@
 #define OPACITY_HEADER_BYTES 46
 #define OPACITY_ESTIMATOR_BYTES 144
 #define OPACITY_ENFORCER_BYTES 178
-#define OPACITY_VERDICTS_BYTES 2
-#define OPACITY_RELEASED_BYTES 1
+#define OPACITY_JUDGEMENT_BYTES 3
+#define OPACITY_RELEASE_BYTES 2
 #define OPACITY_OUTPUT_BYTES 17           /* the least; more is taken */
 #define OPACITY_ENCODING_MAX_BYTES 2210   /* the longest encoding */
 
 #define OPACITY_ENFORCER_PENDING 145      /* the place of the number of pending symbols */
+
+#define OPACITY_JUDGEMENT_WEAK 0          /* the places in a judgement */
+#define OPACITY_JUDGEMENT_STRONG 1
+#define OPACITY_JUDGEMENT_SIZE 2
+
+#define OPACITY_RELEASE_COUNT 0           /* the places in a release */
+#define OPACITY_RELEASE_SIZE 1
 
 #define OPACITY_WEAK 0
 #define OPACITY_STRONG 1
@@ -115,33 +135,34 @@ uint8_t opacity_decode(const uint8_t *encoding, size_t encoding_length,
 
 /*
  * Makes a fresh estimator.
- * Takes:   table and header of an automaton; 144 bytes for the estimator and 2 for the verdicts, whatever they hold.
- * Answers: 0: the estimator of the empty trace, and the verdicts of the empty trace.
+ * Takes:   table and header of an automaton; 144 bytes for the estimator and 3 for the judgement, whatever they hold.
+ * Answers: 0: the estimator of the empty trace, and the judgement of the empty trace: its verdicts and its estimate size.
  *          9: a slice of a wrong length, K above 15, an initial state above 63, or an observable event's symbol above 31.
  */
 uint8_t opacity_fresh(const uint64_t *table, size_t table_length,
                       const uint8_t *header, size_t header_length,
                       uint8_t *estimator, size_t estimator_length,
-                      uint8_t *verdicts, size_t verdicts_length);
+                      uint8_t *judgement, size_t judgement_length);
 
 /*
  * Accepts one symbol (the verifier's step).
- * Takes:   table and header as `opacity_fresh` got them, the symbol, the estimator as the last call left it, and 2 bytes for the verdicts.
- * Answers: 0: the estimator with the symbol behind its trace, and the verdicts of that trace. Weak: leak l if l is the least number, at most K and at
+ * Takes:   table and header as `opacity_fresh` got them, the symbol, the estimator as the last call left it, and 3 bytes for the judgement.
+ * Answers: 0: the estimator with the symbol behind its trace, and the judgement of that trace. Weak: leak l if l is the least number, at most K and at
  *             most the length of the trace, such that in every compatible run every position l symbols back is secret. Strong: leak l if l is the
- *             least such that every compatible run has a secret position at most l symbols back. Else none.
+ *             least such that every compatible run has a secret position at most l symbols back. Else none. Estimate size: the number of different
+ *             states in which a compatible run ends.
  *          9: a slice of a wrong length, K above 15, an initial state above 63, an observable event's symbol above 31, or an estimator outside its
  *             limits.
  *          6: no observable event of the header has this symbol.
  *          7: no run is compatible with the trace and the symbol behind it.
- * An estimator within its limits that no trace on this automaton leads to gets 6 on its condition, and else 7, or 0 with verdicts from 0 to K or none
- * and an estimator within its limits.
+ * An estimator within its limits that no trace on this automaton leads to gets 6 on its condition, and else 7, or 0 with verdicts from 0 to K or none,
+ * some estimate size from 1 to 64, and an estimator within its limits.
  */
 uint8_t opacity_accept(const uint64_t *table, size_t table_length,
                        const uint8_t *header, size_t header_length,
                        uint8_t symbol,
                        uint8_t *estimator, size_t estimator_length,
-                       uint8_t *verdicts, size_t verdicts_length);
+                       uint8_t *judgement, size_t judgement_length);
 
 /*
  * Starts an enforcer under a notion.
@@ -157,25 +178,26 @@ uint8_t opacity_start(const uint64_t *table, size_t table_length,
 
 /*
  * Offers one symbol to an enforcer, which keeps it pending or releases it.
- * Takes:   table and header as `opacity_start` got them, the symbol, the enforcer as the last call left it, an output of 17 bytes or more, and 1 byte
- *          for the number of released symbols.
- * Answers: 0: the symbol is accepted. `released[0]` symbols, 0 to K + 2, left the front of the pending ones (the new one is the last) and stand at the
+ * Takes:   table and header as `opacity_start` got them, the symbol, the enforcer as the last call left it, an output of 17 bytes or more, and 2 bytes
+ *          for the release.
+ * Answers: 0: the symbol is accepted. `release[0]` symbols, 0 to K + 2, left the front of the pending ones (the new one is the last) and stand at the
  *             front of the output, in their order. Together with those released before they are the longest prefix of the accepted ones from which
- *             nobody can be sure, under the notion, of a secret state at most K accepted symbols back.
+ *             nobody can be sure, under the notion, of a secret state at most K accepted symbols back. `release[1]` is the estimate size of all
+ *             accepted symbols, pending ones among them: what a verifier that accepted the same symbols gives.
  *          9: a slice of a wrong length (the output's excepted), K above 15, an initial state above 63, an observable event's symbol above 31, a
  *             saved notion above 1, or an enforcer outside its limits.
  *          10: the output has fewer than 17 bytes.
  *          6: no observable event of the header has this symbol.
  *          7: no run is compatible with the accepted symbols and this one behind them.
  * An enforcer within its limits that no list of offers on this automaton leads to gets 10 and 6 on their conditions, and else 7, or 0, releases some
- * prefix of its pending symbols and the new one, and stays within its limits.
+ * prefix of its pending symbols and the new one, with some estimate size from 1 to 64, and stays within its limits.
  */
 uint8_t opacity_offer(const uint64_t *table, size_t table_length,
                       const uint8_t *header, size_t header_length,
                       uint8_t symbol,
                       uint8_t *enforcer, size_t enforcer_length,
                       uint8_t *output, size_t output_length,
-                      uint8_t *released, size_t released_length);
+                      uint8_t *release, size_t release_length);
 
 #ifdef __cplusplus
 }

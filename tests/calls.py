@@ -10,8 +10,8 @@ import copy
 from logs import INCOMPATIBLE, INITIAL_LEAK, NOT_OBSERVABLE, Refused, decoded
 from runs import Listing
 from saved import (
-    HEADER_BYTES, SYMBOLS, WORDS, automaton_of, grown_enforcer, grown_estimator, header_of, observable_of, safe_of, symbol_at, table_of,
-    verdict_bytes,
+    HEADER_BYTES, SYMBOLS, WORDS, automaton_of, grown_enforcer, grown_estimator, header_of, judgement_bytes, observable_of, safe_of, symbol_at,
+    table_of,
 )
 
 MALFORMED, OUTPUT_TOO_SMALL = 9, 10
@@ -43,7 +43,7 @@ class Calls:
     def __init__(self):
         self.lines, self.printed = [], []
         self.table = ()
-        self.slices = {name: b"" for name in ("encoding", "header", "estimator", "verdicts", "enforcer", "output", "released")}
+        self.slices = {name: b"" for name in ("encoding", "header", "estimator", "judgement", "enforcer", "output", "release")}
         self.grown = {}  # an automaton and the bytes of a state: the listing of its trace
         self.openings = {}  # an automaton: the listing of the empty trace
 
@@ -103,21 +103,21 @@ class Calls:
 
     def fresh(self):
         """Makes a fresh estimator."""
-        return self.call("fresh", self.opening(), "estimator", "verdicts")
+        return self.call("fresh", self.opening(), "estimator", "judgement")
 
     def opening(self):
         """The answer of fresh."""
-        if not self.sound(estimator=144, verdicts=2):
+        if not self.sound(estimator=144, judgement=3):
             return MALFORMED
         return self.told(self.opened())
 
     def accept(self, byte):
         """Offers a symbol, or any other byte, to an estimator."""
-        return self.call(f"accept {byte}", self.accepting(byte), "estimator", "verdicts")
+        return self.call(f"accept {byte}", self.accepting(byte), "estimator", "judgement")
 
     def accepting(self, byte):
         """The answer of accept."""
-        if not self.sound(estimator=144, verdicts=2) or not self.estimator_sound(self.slices["estimator"]):
+        if not self.sound(estimator=144, judgement=3) or not self.estimator_sound(self.slices["estimator"]):
             return MALFORMED
         if byte not in self.symbols():
             return NOT_OBSERVABLE
@@ -125,9 +125,9 @@ class Calls:
         return INCOMPATIBLE if longer is None else self.told(longer)
 
     def told(self, listing):
-        """Writes the estimator after a trace and its verdicts."""
+        """Writes the estimator after a trace, and its verdicts and estimate size."""
         self.keep("estimator", grown_estimator(listing), listing)
-        self.slices["verdicts"] = verdict_bytes(listing)
+        self.slices["judgement"] = judgement_bytes(listing)
         return 0
 
     def start(self, notion):
@@ -146,11 +146,11 @@ class Calls:
 
     def offer(self, byte):
         """Offers a symbol, or any other byte, to an enforcer."""
-        return self.call(f"offer {byte}", self.offering(byte), "enforcer", "output", "released")
+        return self.call(f"offer {byte}", self.offering(byte), "enforcer", "output", "release")
 
     def offering(self, byte):
         """The answer of offer."""
-        if not self.sound(enforcer=178, released=1) or not self.enforcer_sound(self.slices["enforcer"]):
+        if not self.sound(enforcer=178, release=2) or not self.enforcer_sound(self.slices["enforcer"]):
             return MALFORMED
         if len(self.slices["output"]) < 17:
             return OUTPUT_TOO_SMALL
@@ -163,13 +163,15 @@ class Calls:
         released = longer.trace[before.longest(safe_of(before, notion)) : longer.longest(safe_of(longer, notion))]
         self.keep("enforcer", grown_enforcer(longer, notion), longer)
         self.slices["output"] = bytes(released) + self.slices["output"][len(released) :]
-        self.slices["released"] = bytes([len(released)])
+        # the size is that of all accepted symbols, pending ones among them
+        self.slices["release"] = bytes([len(released), longer.size()])
         return 0
 
     def open(self, function, symbol):
-        """Offers a symbol to a state within its limits that did not grow from a fresh one: every slice stays as it is."""
+        """Offers a symbol to a state within its limits that did not grow from a fresh one: every slice stays as it is. (The program looks whether the
+        answer is allowed; of the estimate size no more than that it is from 1 to 64.)"""
         name = {"accept": "estimator", "offer": "enforcer"}[function]
-        assert self.sound(**({"estimator": 144, "verdicts": 2} if function == "accept" else {"enforcer": 178, "released": 1}))
+        assert self.sound(**({"estimator": 144, "judgement": 3} if function == "accept" else {"enforcer": 178, "release": 2}))
         assert self.estimator_sound(self.slices[name]) if function == "accept" else self.enforcer_sound(self.slices[name])
         assert symbol in self.symbols() and len(self.slices["output"]) >= 17
         return self.call(f"open {function} {symbol}", "open")

@@ -1,4 +1,5 @@
-"""The automata P, Q, T and U of 01, with the answers that it gives, and automata with symbols (S-2), with answers worked out by hand."""
+"""The automata P, Q, T and U of 01, with the answers that it gives, and automata with symbols (S-2), with answers worked out by hand. In each line of
+an accepted event or of the opening the fifth field is the estimate size (S-5): for P's trace 2, 2, 2, 1 as S-5 has it, elsewhere counted by hand."""
 
 from runs import Automaton
 
@@ -29,27 +30,32 @@ EVERY = [(source, event, target) for source in range(64) for event in range(32) 
 ALL_SECRET = Automaton(63, 31, 15, 63, set(range(64)), set(range(32)), EVERY)
 NONE_SECRET = Automaton(63, 31, 15, 63, set(), set(range(32)), EVERY)
 
+# the reader's view closes in: 64 states fit the opening, each symbol takes one away, and the last that is left is secret; and it opens state by state
+CLOSING = Automaton(63, 1, 1, 0, {63}, {1}, [(0, 0, q) for q in range(1, 64)] + [(q, 1, q + 1) for q in range(63)])
+WIDENING = Automaton(63, 1, 1, 0, {5}, {1}, [(q, 1, q) for q in range(64)] + [(q, 1, q + 1) for q in range(63)])
+
 P_ENCODING = bytes.fromhex("0C44000A460002002082200208618430")
 Q_ENCODING = bytes.fromhex("082200044801041004")
 
 # an automaton, the bytes that are offered, and the output
 EXAMPLES = (
-    (P, (1, 2, 1, 1), "1 1 - - 1\n2 2 1 1 -\n3 1 2 2 -\n4 1 - - 2,1,1\nend 4 4 0\n"),
-    (P, (1, 2, 2, 1, 0, 200), "1 1 - - 1\n2 2 1 1 -\n! 2 7\n3 1 2 2 -\n! 0 6\n! 200 6\nend 3 1 2\n"),
-    (P1, (1, 2, 1, 1), "1 1 - - 1\n2 2 1 1 -\n3 1 - - 2,1\n4 1 - - 1\nend 4 4 0\n"),
-    (P0, (1, 2, 1, 1), "1 1 - - 1\n2 2 - - 2\n3 1 - - 1\n4 1 - - 1\nend 4 4 0\n"),
-    (Q, (1,), "1 1 - 0 1\nend 1 1 0\n"),
-    (U, (1, 1), "1 1 0 0 -\n2 1 - - 1,1\nend 2 2 0\n"),
+    (P, (1, 2, 1, 1), "1 1 - - 2 1\n2 2 1 1 2 -\n3 1 2 2 2 -\n4 1 - - 1 2,1,1\nend 4 4 0\n"),
+    (P, (1, 2, 2, 1, 0, 200), "1 1 - - 2 1\n2 2 1 1 2 -\n! 2 7\n3 1 2 2 2 -\n! 0 6\n! 200 6\nend 3 1 2\n"),
+    (P1, (1, 2, 1, 1), "1 1 - - 2 1\n2 2 1 1 2 -\n3 1 - - 2 2,1\n4 1 - - 1 1\nend 4 4 0\n"),
+    (P0, (1, 2, 1, 1), "1 1 - - 2 1\n2 2 - - 2 2\n3 1 - - 2 1\n4 1 - - 1 1\nend 4 4 0\n"),
+    (Q, (1,), "1 1 - 0 2 1\nend 1 1 0\n"),
+    (U, (1, 1), "1 1 0 0 1 -\n2 1 - - 1 1,1\nend 2 2 0\n"),
     (T, (0,), "! 0 6\nend 0 0 0\n"),
     (ONE, (0,), "refused 8\n"),
     (ONE, (), "refused 8\n"),
-    (P, (), "0 - - - -\nend 0 0 0\n"),
-    (T, (), "0 - - 0 -\nend 0 0 0\n"),
+    (P, (), "0 - - - 2 -\nend 0 0 0\n"),
+    (T, (), "0 - - 0 2 -\nend 0 0 0\n"),
+    (Q, (), "0 - - - 1 -\nend 0 0 0\n"),
     (P, (2, 0, 3), "! 2 7\n! 0 6\n! 3 6\nend 0 0 0\n"),
-    (P_SYMBOLS, (2, 0, 1, 2, 31, 2), "1 2 - - 2\n2 0 1 1 -\n! 1 6\n3 2 2 2 -\n! 31 6\n4 2 - - 0,2,2\nend 4 4 0\n"),
-    (OWN_NUMBERS, (0, 2, 1, 2), "1 0 0 0 -\n2 2 1 1 -\n3 1 - - 0,2,1\n4 2 - - 2\nend 4 4 0\n"),
-    (ONE_SYMBOL, (7, 2, 0, 1, 7, 7, 2), "1 7 - - 7\n2 2 - - 2\n! 0 6\n! 1 6\n3 7 - - 7\n! 7 7\n4 2 - - 2\nend 4 4 0\n"),
-    (LATER, (7, 3, 7, 2, 7), "1 7 - - 7\n2 3 1 1 -\n3 7 2 2 -\n! 2 6\n4 7 - - 3,7,7\nend 4 4 0\n"),
+    (P_SYMBOLS, (2, 0, 1, 2, 31, 2), "1 2 - - 2 2\n2 0 1 1 2 -\n! 1 6\n3 2 2 2 2 -\n! 31 6\n4 2 - - 1 0,2,2\nend 4 4 0\n"),
+    (OWN_NUMBERS, (0, 2, 1, 2), "1 0 0 0 1 -\n2 2 1 1 1 -\n3 1 - - 1 0,2,1\n4 2 - - 1 2\nend 4 4 0\n"),
+    (ONE_SYMBOL, (7, 2, 0, 1, 7, 7, 2), "1 7 - - 2 7\n2 2 - - 1 2\n! 0 6\n! 1 6\n3 7 - - 2 7\n! 7 7\n4 2 - - 1 2\nend 4 4 0\n"),
+    (LATER, (7, 3, 7, 2, 7), "1 7 - - 2 7\n2 3 1 1 1 -\n3 7 2 2 2 -\n! 2 6\n4 7 - - 4 3,7,7\nend 4 4 0\n"),
 )
 
 # an encoding with a symbol behind it, and the refusal
@@ -60,5 +66,29 @@ ENCODINGS = (
     (Q_ENCODING[:3] + b"\x05" + Q_ENCODING[4:], 3),
 )
 
-# an automaton, and its opening verdicts and whether the empty trace is safe, weak and strong
-OPENINGS = ((P, None, None, True, True), (T, None, 0, True, False), (ONE, 0, 0, False, False))
+# an automaton, its opening verdicts and the opening's estimate size, and whether the empty trace is safe, weak and strong
+OPENINGS = (
+    (P, None, None, 2, True, True),
+    (Q, None, None, 1, True, True),
+    (T, None, 0, 2, True, False),
+    (U, None, None, 1, True, True),
+    (ONE, 0, 0, 1, False, False),
+)
+
+# an automaton, a trace, and the states in which a compatible run ends: before its first symbol and after each, by hand from the transitions. In P
+# state 0 may be left unobserved for 2, in Q state 1 for 2, in T state 0 for 1; in CORNERS 61 and 60 lead to each other unobserved.
+ESTIMATES = (
+    (P, (1, 2, 1, 1), ({0, 2}, {1, 3}, {0, 2}, {1, 3}, {3})),
+    (P, (1, 1, 1), ({0, 2}, {1, 3}, {3}, {3})),
+    (Q, (1,), ({0}, {1, 2})),
+    (T, (), ({0, 1},)),
+    (ONE, (), ({0},)),
+    (U, (1, 1, 1), ({0}, {1}, {0}, {1})),
+    (STRONG_ONLY, (1, 1, 2, 1), ({0}, {1, 2}, {0}, {0}, {1, 2})),
+    (ONE_SYMBOL, (7, 2), ({0}, {1, 2}, {0})),
+    (LATER, (7, 3, 7, 7), ({0}, {1, 2}, {3}, {0, 3}, {0, 1, 2, 3})),
+    (CORNERS, (31, 31, 31), ({63}, {62}, {60, 61}, {60, 61})),
+    (NONE_SECRET, (31, 0), ({63}, set(range(64)), set(range(64)))),
+    (CLOSING, (1,) * 63, tuple(set(range(n, 64)) for n in range(64))),
+    (WIDENING, (1,) * 64, tuple(set(range(n)) for n in range(1, 65)) + (set(range(64)),)),
+)

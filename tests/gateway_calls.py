@@ -10,7 +10,8 @@ import sys
 
 from calls import Calls
 from examples import (
-    ALL_SECRET, CORNERS, LATER, NONE_SECRET, ONE, ONE_SYMBOL, OWN_NUMBERS, P, P0, P1, P_ENCODING, P_SYMBOLS, Q, Q_ENCODING, STRONG_ONLY, T, U,
+    ALL_SECRET, CLOSING, CORNERS, LATER, NONE_SECRET, ONE, ONE_SYMBOL, OWN_NUMBERS, P, P0, P1, P_ENCODING, P_SYMBOLS, Q, Q_ENCODING, STRONG_ONLY, T, U,
+    WIDENING,
 )
 from generate import (
     any_bytes, cut_symbols, flipped_bits, further_bytes, many_transitions, out_of_range, padding_bits, random_automaton, random_offers, repeated,
@@ -18,7 +19,7 @@ from generate import (
 )
 from logs import encoded
 from runs import Automaton, Listing, TooManyRuns
-from saved import HEADER_BYTES, SYMBOLS, WORDS, estimator_bytes, header_of, table_of
+from saved import HEADER_BYTES, SYMBOLS, WORDS, bits, estimator_bytes, header_of, table_of
 from stored import store
 
 RANDOM, DAMAGED, OPEN = 150, 80, 40
@@ -26,12 +27,12 @@ SEED = 5
 FOLDER = pathlib.Path(__file__).resolve().parent.parent / "crates" / "gateway_calls"
 
 # what is lent to be written over: bytes that no function writes, and for an output a different one in each place
-HEADER, ESTIMATOR, VERDICTS, ENFORCER, RELEASED = b"\xee" * HEADER_BYTES, b"\xee" * 144, b"\xee" * 2, b"\xee" * 178, b"\xee"
+HEADER, ESTIMATOR, JUDGEMENT, ENFORCER, RELEASE = b"\xee" * HEADER_BYTES, b"\xee" * 144, b"\xee" * 3, b"\xee" * 178, b"\xee" * 2
 OUTPUT = bytes(range(0xA0, 0xB1))
 # the longest encoding there is: symbols, and 1,023 different transitions, the last with every bit 1
 MANY = many_transitions(random.Random("longest"), 1022) + [(63, 31, 63)]
 LONGEST = Automaton(63, 31, 15, 63, set(range(64)), set(range(32)), MANY, range(31, -1, -1))
-SIZES = {"header": HEADER_BYTES, "estimator": 144, "verdicts": 2, "enforcer": 178, "released": 1}
+SIZES = {"header": HEADER_BYTES, "estimator": 144, "judgement": 3, "enforcer": 178, "release": 2}
 
 
 def changed(data, at, byte):
@@ -46,7 +47,7 @@ def resized(data, size):
 
 def lend_all(calls):
     """Slices of the right sizes."""
-    calls.put(estimator=ESTIMATOR, verdicts=VERDICTS, enforcer=ENFORCER, output=OUTPUT, released=RELEASED)
+    calls.put(estimator=ESTIMATOR, judgement=JUDGEMENT, enforcer=ENFORCER, output=OUTPUT, release=RELEASE)
 
 
 # decoding
@@ -164,7 +165,7 @@ def decode(calls, automaton):
 
 def observe(calls, offered):
     """A fresh estimator, and each byte in turn."""
-    calls.put(estimator=ESTIMATOR, verdicts=VERDICTS)
+    calls.put(estimator=ESTIMATOR, judgement=JUDGEMENT)
     calls.fresh()
     for byte in offered:
         calls.accept(byte)
@@ -172,7 +173,7 @@ def observe(calls, offered):
 
 def enforce(calls, notion, offered, output=OUTPUT):
     """A started enforcer, and each byte in turn, with an output that is lent anew or stays as the last offer left it."""
-    calls.put(enforcer=ENFORCER, released=RELEASED, output=output)
+    calls.put(enforcer=ENFORCER, release=RELEASE, output=output)
     calls.start(notion)
     for byte in offered:
         if output == OUTPUT and calls.slices["output"] != OUTPUT:
@@ -181,8 +182,8 @@ def enforce(calls, notion, offered, output=OUTPUT):
 
 
 def verifiers(calls):
-    """01's examples: verdicts."""
-    calls.say("verdicts: an encoding that is refused leaves a header that is none")
+    """01's examples: verifiers."""
+    calls.say("verifier: an encoding that is refused leaves a header that is none")
     calls.put_table([0] * WORDS)
     calls.put(encoding=P_ENCODING[:15], header=HEADER)
     calls.decode()
@@ -194,19 +195,19 @@ def verifiers(calls):
         ("U", U, (1, 1, 1)),
         ("P", P, (1, 2, 2, 0, 200, 1, 1)),
     ):
-        calls.say(f"verdicts: {name}")
+        calls.say(f"verifier: {name}")
         decode(calls, automaton)
         observe(calls, offered)
     for automaton in (P1, P0):
-        calls.say(f"verdicts: P with K {automaton.k}")
+        calls.say(f"verifier: P with K {automaton.k}")
         calls.put(header=header_of(automaton))
         observe(calls, (1, 2, 2, 0, 200, 1, 1))
-    calls.say("verdicts: states 60 to 63, event 31, K 15 and a cycle of unobservable transitions")
+    calls.say("verifier: states 60 to 63, event 31, K 15 and a cycle of unobservable transitions")
     calls.lend(CORNERS)
     observe(calls, (0, 32, 255) + (31,) * 18)
     decode(calls, CORNERS)
     observe(calls, (31, 31))
-    calls.say("verdicts: every transition, and every state secret; then none")
+    calls.say("verifier: every transition, and every state secret; then none")
     calls.lend(ALL_SECRET)
     observe(calls, (31, 0, 31))
     calls.put(header=header_of(NONE_SECRET))
@@ -288,9 +289,38 @@ def enforcers(calls):
             calls.say(f"enforcer: {name}, notion {notion}")
             calls.lend(automaton)
             enforce(calls, notion, offered)
-    calls.say("verdicts: weak and strong differ")
+    calls.say("verifier: weak and strong differ")
     calls.lend(STRONG_ONLY)
     observe(calls, (1, 1, 1, 2, 1, 1, 2, 2, 2, 1))
+
+
+def sizes(calls):
+    """Estimates of every size, and of any states. The enforcer's is that of all accepted symbols: CLOSING's last ones are pending."""
+    calls.say("estimate sizes: from 64 states to 1, and from 1 to 64")
+    for automaton, count in ((CLOSING, 64), (WIDENING, 65)):
+        calls.lend(automaton)
+        observe(calls, (1,) * count)
+        for notion in (0, 1):
+            enforce(calls, notion, (1,) * count, b"\xee" * 17)
+    calls.say("estimate sizes: any states, right after the symbol, then with unobservable transitions from some of them, then of an opening")
+    rng = random.Random("sizes")
+    words = [0] * WORDS
+    for event in range(31):
+        words[64 * event] = bits(rng.sample(range(64), 2 * event + rng.randrange(1, 4)))
+    open_events = header_of(Automaton(63, 31, 0, 0, (), range(31), ()))
+    calls.put_table(words)
+    calls.put(header=open_events)
+    for event in range(31):
+        observe(calls, (event,))
+    for source in rng.sample(range(1, 64), 12):
+        words[64 * 31 + source] = bits(rng.sample(range(1, 64), rng.randrange(1, 6)))
+    calls.put_table(words)
+    for event in range(31):
+        enforce(calls, event % 2, (event,), b"\xee" * 17)
+    for count in (0, 1, 7, 31, 32, 33, 63):
+        words[64 * 31] = bits(rng.sample(range(1, 64), count))
+        calls.put_table(words)
+        observe(calls, ())
 
 
 # refusals
@@ -312,30 +342,30 @@ def refused_everywhere(calls):
     incompatible = {0: (2,), 1: (), 2: (2,), 3: (2,), 4: (2,)}
     calls.say("refused calls in every place of a list")
     calls.lend(P)
-    calls.put(estimator=ESTIMATOR, verdicts=VERDICTS)
+    calls.put(estimator=ESTIMATOR, judgement=JUDGEMENT)
     calls.fresh()
     for place, byte in enumerate((1, 2, 1, 1, None)):
-        refuse_all(calls, calls.accept, ("header", "estimator", "verdicts"), incompatible[place])
+        refuse_all(calls, calls.accept, ("header", "estimator", "judgement"), incompatible[place])
         if byte is not None:
             calls.accept(byte)
     for notion in (0, 1):
-        calls.put(enforcer=ENFORCER, output=OUTPUT, released=RELEASED)
+        calls.put(enforcer=ENFORCER, output=OUTPUT, release=RELEASE)
         calls.start(notion)
         for place, byte in enumerate((1, 2, 1, 1, None)):
             calls.put(output=OUTPUT[:16])
             calls.offer(1)
             calls.put(output=OUTPUT)
-            refuse_all(calls, calls.offer, ("header", "enforcer", "released"), incompatible[place])
+            refuse_all(calls, calls.offer, ("header", "enforcer", "release"), incompatible[place])
             if byte is not None:
                 calls.offer(byte)
 
 
 FUNCTIONS = (
     ("decode", (), ("header",)),
-    ("fresh", (), ("header", "estimator", "verdicts")),
-    ("accept", (1,), ("header", "estimator", "verdicts")),
+    ("fresh", (), ("header", "estimator", "judgement")),
+    ("accept", (1,), ("header", "estimator", "judgement")),
     ("start", (0,), ("header", "enforcer")),
-    ("offer", (1,), ("header", "enforcer", "released")),
+    ("offer", (1,), ("header", "enforcer", "release")),
 )
 
 
@@ -354,10 +384,20 @@ def wrong_sizes(calls):
                 assert getattr(calls, function)(*arguments) == 9
     calls.say("9 before 10 and 6")
     ready(calls, "offer")
-    calls.put(output=OUTPUT[:16], released=b"")
-    calls.offer(200)
-    calls.put(released=RELEASED)
-    calls.offer(200)
+    for size in (0, 1, 3, 2):
+        calls.put(output=OUTPUT[:16], release=resized(RELEASE, size))
+        calls.offer(200)
+    calls.say("9 before 6 and 7")
+    ready(calls, "accept")
+    for size in (0, 2, 4, 3):
+        calls.put(judgement=resized(JUDGEMENT, size))
+        for byte in (200, 2):
+            calls.accept(byte)
+    ready(calls, "offer")
+    for size in (0, 1, 3, 2):
+        calls.put(release=resized(RELEASE, size))
+        for byte in (200, 2):
+            calls.offer(byte)
 
 
 def ready(calls, function):
@@ -440,7 +480,7 @@ def header_symbols(calls):
     enforce(calls, 1, (2, 255, 252, 0), b"\xee" * 17)
     calls.say("headers: a symbol of 32 at each event, of which every other is observable")
     every_other = header_of(Automaton(63, 31, 0, 0, (), range(1, 32, 2), ()))
-    calls.put(estimator=ESTIMATOR, verdicts=VERDICTS)
+    calls.put(estimator=ESTIMATOR, judgement=JUDGEMENT)
     for event in range(32):
         calls.put(header=changed(every_other, SYMBOLS + event, 32))
         calls.fresh()
@@ -450,7 +490,7 @@ def damaged_states(calls):
     """Saved states that no call wrote: outside their limits, or odd only in places that are not used."""
     calls.say("estimators outside their limits, and odd ones within them")
     calls.lend(P)
-    calls.put(estimator=ESTIMATOR, verdicts=VERDICTS)
+    calls.put(estimator=ESTIMATOR, judgement=JUDGEMENT)
     calls.accept(200)
     for count, symbol, entry in ((3, 1, 1), (255, 1, 1), (1, 32, 1), (2, 255, 1), (2, 31, 1), (0, 32, 1)):
         calls.put(estimator=bytes([count] + [symbol] * 15) + bytes((entry, 0, 0, 0, 0, 0, 0, 0)) * 16)
@@ -462,10 +502,10 @@ def damaged_states(calls):
         calls.put(estimator=changed(good, at, 32))
         calls.accept(0)
     calls.say("enforcers outside their limits, and odd ones within them")
-    calls.put(enforcer=ENFORCER, output=OUTPUT, released=RELEASED)
+    calls.put(enforcer=ENFORCER, output=OUTPUT, release=RELEASE)
     calls.offer(200)
     for place in range(4):
-        calls.put(enforcer=ENFORCER, output=OUTPUT, released=RELEASED)
+        calls.put(enforcer=ENFORCER, output=OUTPUT, release=RELEASE)
         calls.start(1)
         for byte in (1, 2, 1)[:place]:
             calls.offer(byte)
@@ -475,7 +515,7 @@ def damaged_states(calls):
             + [(146 + i, 32) for i in (0, 1, 2, 15)]
             + [(162, 200), (177, 255)]
         ):
-            calls.put(enforcer=changed(good, at, byte), output=OUTPUT, released=RELEASED)
+            calls.put(enforcer=changed(good, at, byte), output=OUTPUT, release=RELEASE)
             calls.offer(200)
             if not calls.enforcer_sound(calls.slices["enforcer"]):
                 calls.offer(1)
@@ -495,7 +535,7 @@ def open_states(calls):
         for byte in (1, 2):
             calls.open("accept", byte)
     calls.put_table([0] * 64 + [1] + [0] * 1983)  # one state that takes event 1
-    calls.put(header=header_of(Automaton(63, 31, 1, 0, (), {1}, ())), output=OUTPUT, released=RELEASED)
+    calls.put(header=header_of(Automaton(63, 31, 1, 0, (), {1}, ())), output=OUTPUT, release=RELEASE)
     calls.start(0)
     begun = calls.slices["enforcer"][:144]
     for notion in (0, 1):
@@ -614,6 +654,8 @@ def misread(calls):
         "header 46  0:1",
         "header 46 0:100 0:1",
         "table 2048 0:11111111111111111",
+        "verdicts 3",
+        "released 2",
     ):
         calls.misread(line)
     ready(calls, "accept")
@@ -631,6 +673,7 @@ def stored():
         verifiers,
         enforcers,
         symbols,
+        sizes,
         refused_everywhere,
         wrong_sizes,
         outside_limits,

@@ -70,6 +70,19 @@ def random_automaton(rng):
     return relabelled(rng, automaton) if rng.random() < 0.25 else automaton
 
 
+def wide_automaton(rng):
+    """An automaton with up to 64 states, whose estimates get large. Its K is small: the listing grows with it."""
+    states, events = rng.choice((9, 20, 33, 50, 64)), rng.choice((2, 3, 4))
+    observable = set(rng.sample(range(events), rng.randrange(1, events)))
+    count = rng.choice((1, 2, 4, 8)) * states
+    transitions = sorted({(rng.randrange(states), rng.randrange(events), rng.randrange(states)) for _ in range(count)})
+    rng.shuffle(transitions)
+    initial = rng.randrange(states)
+    secret = set(rng.sample(range(states), rng.randrange(states // 2))) - {initial}
+    symbols = random_symbols(rng, events - 1, observable)
+    return Automaton(states - 1, events - 1, rng.choice((0, 0, 1, 1, 2)), initial, secret, observable, transitions, symbols)
+
+
 def relabelled(rng, automaton):
     """The same with state numbers up to 63 and event numbers up to 31, and states and events beside them that no transition uses."""
     state = rng.sample(range(64), automaton.top_state + 1)
@@ -277,10 +290,11 @@ def idle_log(rng):
 
 
 def random_log(rng):
-    """The bytes of a log, and what the log program prints for them. One of eight is idle."""
-    if rng.random() < 0.125:
+    """The bytes of a log, and what the log program prints for them. One of eight is idle, and one of sixteen has many states."""
+    kind = rng.random()
+    if kind < 0.125:
         return cut_to_size(idle_log(rng))
-    automaton = random_automaton(rng)
+    automaton = wide_automaton(rng) if 0.9375 <= kind else random_automaton(rng)
     offered = random_offers(rng, automaton, rng.choice((1, 2, 3, 4, 5, 6, 6, 8, 12, 24, 40)))
     log = with_length(encoded(automaton), offered)
     if rng.random() < 0.25:

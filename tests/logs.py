@@ -106,6 +106,11 @@ def steps(verdict):
     return "-" if verdict is None else str(verdict)
 
 
+def judgement(listing):
+    """What a line says of the trace: both verdicts and the estimate size, which are judged by all accepted symbols, released or pending."""
+    return f"{steps(listing.weak())} {steps(listing.strong())} {listing.size()}"
+
+
 def offer_line(listing, released, byte):
     """The line of an offered byte, and how many symbols are released after it."""
     if byte not in listing.automaton.symbol_of.values():
@@ -115,7 +120,7 @@ def offer_line(listing, released, byte):
     longest = listing.longest(listing.weak_safe)
     assert released <= longest, "a released symbol is no longer safe"
     going = ",".join(map(str, listing.trace[released:longest])) or "-"
-    return f"{len(listing.trace)} {byte} {steps(listing.weak())} {steps(listing.strong())} {going}", longest
+    return f"{len(listing.trace)} {byte} {judgement(listing)} {going}", longest
 
 
 def output(log):
@@ -126,7 +131,7 @@ def output(log):
         return f"refused {refused.args[0]}\n"
     lines, released = [], 0
     if not offered:
-        lines.append(f"0 - {steps(listing.weak())} {steps(listing.strong())} -")
+        lines.append(f"0 - {judgement(listing)} -")
     for byte in offered:
         line, released = offer_line(listing, released, byte)
         lines.append(line)

@@ -8,7 +8,7 @@ import pathlib
 import random
 import sys
 
-from examples import ENCODINGS, EXAMPLES, ONE_SYMBOL, P_ENCODING, P_SYMBOLS, T
+from examples import CLOSING, ENCODINGS, EXAMPLES, ONE_SYMBOL, P_ENCODING, P_SYMBOLS, T, WIDENING
 from generate import many_transitions, random_log, with_length, with_repeat, with_symbols, with_transitions
 from logs import encoded, output
 from runs import Automaton
@@ -20,10 +20,21 @@ FOLDER = pathlib.Path(__file__).resolve().parent.parent / "crates" / "log_sample
 
 
 def longest_release():
-    """With K 15 the first symbol waits for 16 more, and 17 go at once, each with two digits: the longest line. The event is 31, and then 0."""
+    """With K 15 the first symbol waits for 16 more, and 17 go at once, each with two digits: the longest line. The event is 31, and then 0; then 61
+    states can be reached unobserved, so that the estimate size has two digits too."""
     for event, listed in ((31, None), (0, [31])):
         automaton = Automaton(2, event, 15, 0, {1}, {event}, [(0, event, 1), (1, event, 2), (2, event, 2)], listed)
         yield with_length(encoded(automaton), bytes([31] * 18))
+    unobserved = [(2, 0, q) for q in range(3, 64)]
+    automaton = Automaton(63, 31, 15, 0, {1}, {31}, [(0, 31, 1), (1, 31, 2), (2, 31, 2)] + unobserved)
+    yield with_length(encoded(automaton), bytes([31] * 18))
+
+
+def sizes():
+    """Estimates of every size: from 64 states to one, and from one to 64; then idle."""
+    for automaton, count in ((CLOSING, 64), (WIDENING, 65)):
+        yield with_length(encoded(automaton), bytes([1] * count))
+        yield with_length(encoded(automaton), b"")
 
 
 def largest():
@@ -134,6 +145,7 @@ def logs():
     for end in range(len(whole)):
         yield whole[:end]
     yield from longest_release()
+    yield from sizes()
     yield from largest()
     yield from symbols()
     yield from repeats()

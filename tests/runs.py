@@ -10,9 +10,12 @@ number of observable events before it.
 WHICH RUNS ARE LISTED. There are infinitely many where unobservable transitions form a cycle. Listed are those with at most 2 (s - 1)
 unobservable transitions before the first, between each two and after the last observable one, where s is the number of states that a run
 can visit at all: the initial state and the targets of transitions. That is enough, since each question that is asked here, or its opposite,
-asks for one compatible run, and where there is such a run there is one that is listed:
+asks for one compatible run (the estimate size: for one in each state), and where there is such a run there is one that is listed:
   - a compatible run (refusal 7): cut the cycles out between two observations, so that no state comes twice there: at most s - 1
     transitions are left. The trace stays, since only unobservable ones were cut.
+  - one that ends in a given state (estimate size): cut the cycles out between two observations and after the last one, each stretch by itself: at
+    most s - 1 transitions are left in each. A stretch still leads from its first state to its last, so the run ends where it ended. No other
+    state is counted, since what is listed are compatible runs.
   - one with a position of count j that is not secret (weak verdict, weak safe prefix): between the observations around that position cut
     the cycles out before it and after it, each by itself, so that it stays: at most (s - 1) + (s - 1) transitions. A run may have to go
     out to the position's state and back. Elsewhere cut as above.
@@ -109,6 +112,11 @@ class Listing:
     def positions(self, prefix):
         """The positions of each run that is compatible with the first symbols of the trace."""
         return {positions for _, positions in self.compatible[prefix]}
+
+    def size(self):
+        """The estimate size: in how many different states a run that is compatible with the trace ends, unobservable transitions after its last
+        observable event included."""
+        return len({end for end, _ in self.compatible[len(self.trace)]})
 
     def weak(self):
         """The steps of the weak verdict, or None."""

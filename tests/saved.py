@@ -67,9 +67,9 @@ def grown_estimator(listing):
     return estimator_bytes([listing.trace[n - 1 - l] for l in range(count)], [listing.entered[n - l] for l in range(count + 1)])
 
 
-def verdict_bytes(listing):
-    """Both verdicts, the weak one first."""
-    return bytes(NONE if steps is None else steps for steps in (listing.weak(), listing.strong()))
+def judgement_bytes(listing):
+    """The weak verdict, the strong one, and the estimate size."""
+    return bytes(NONE if steps is None else steps for steps in (listing.weak(), listing.strong())) + bytes([listing.size()])
 
 
 def safe_of(listing, notion):

@@ -9,11 +9,11 @@ import random
 import sys
 
 from calls import elements
-from examples import ENCODINGS, EXAMPLES, OPENINGS, P, P_ENCODING, P_SYMBOLS, Q, Q_ENCODING
+from examples import ENCODINGS, ESTIMATES, EXAMPLES, OPENINGS, P, P_ENCODING, P_SYMBOLS, Q, Q_ENCODING, T
 from generate import many_transitions, random_automaton, random_offers, random_trace, with_length, with_repeat, with_symbols, with_transitions
 from logs import Refused, decoded, encoded, output
 from runs import Automaton, Listing, TooManyRuns
-from saved import automaton_of, grown_enforcer, grown_estimator, header_of, table_of, verdict_bytes
+from saved import automaton_of, grown_enforcer, grown_estimator, header_of, judgement_bytes, table_of
 
 
 def test_examples():
@@ -23,17 +23,40 @@ def test_examples():
         assert output(with_length(encoded(automaton), bytes(offered))) == expected, expected
     for encoding, number in ENCODINGS:
         assert output(with_length(encoding, b"\x01")) == f"refused {number}\n", number
-    for automaton, weak, strong, weak_safe, strong_safe in OPENINGS:
+    for automaton, weak, strong, size, weak_safe, strong_safe in OPENINGS:
         listing = Listing(automaton)
-        assert (listing.weak(), listing.strong()) == (weak, strong)
+        assert (listing.weak(), listing.strong(), listing.size()) == (weak, strong, size)
         assert (listing.weak_safe(0), listing.strong_safe(0)) == (weak_safe, strong_safe)
 
 
+def test_sizes():
+    """S-5, by hand: P's four events get 2, 2, 2, 1, and each listed estimate is the states in which listed runs end, whose number is the size."""
+    assert [line.split()[4] for line in output(with_length(P_ENCODING, bytes((1, 2, 1, 1)))).splitlines()[:4]] == ["2", "2", "2", "1"]
+    for automaton, trace, estimates in ESTIMATES:
+        listing = Listing(automaton)
+        assert len(estimates) == len(trace) + 1
+        for symbol, estimate in zip((None,) + trace, estimates):
+            assert symbol is None or listing.accept(symbol)
+            assert {end for end, _ in listing.compatible[len(listing.trace)]} == estimate, (trace, symbol)
+            assert listing.size() == len(estimate)
+
+
 def test_programs():
-    """The stored runs of the log program, 01's listing and 02's idle log, written by hand from their words."""
+    """The stored runs of the log program, 01's listing and 02's idle log with S-5's column: the lister gives them, and they are among the answers
+    that were written by hand. The documents and the example in C have the same."""
+    top = pathlib.Path(__file__).resolve().parent.parent
+    stored = {}
     for name in ("opacity_log", "idle_log"):
-        folder = pathlib.Path(__file__).resolve().parent.parent / "crates" / name
-        assert output((folder / "stdin").read_bytes()) == (folder / "stdout").read_text("ascii"), name
+        folder = top / "crates" / name
+        stored[name] = (folder / "stdout").read_text("ascii")
+        assert output((folder / "stdin").read_bytes()) == stored[name], name
+    assert stored["opacity_log"] == EXAMPLES[0][2]
+    assert [stored["idle_log"]] == [expected for automaton, offered, expected in EXAMPLES if automaton is T and not offered]
+    assert (top / "c" / "listing.txt").read_text("ascii") == stored["opacity_log"]
+    for name in ("README.md", "docs/FORMATS.md"):
+        indented = "".join(f"    {line}\n" for line in stored["opacity_log"].splitlines())
+        text = (top / name).read_text("utf-8")
+        assert indented in text and stored["idle_log"].splitlines()[0] in text, name
 
 
 def test_repeats():
@@ -87,7 +110,7 @@ def test_saved():
     listing = Listing(P)
     assert listing.accept(1) and listing.accept(2)
     assert elements(grown_estimator(listing)) == "144 0:2*2,1 16:1 24:a 32:1"
-    assert verdict_bytes(listing) == bytes((1, 1))
+    assert judgement_bytes(listing) == bytes((1, 1, 2))
     assert elements(grown_enforcer(listing, 0)) == "178 0:2*2,1 16:1 24:a 32:1 145:1,2 162:2"
     assert elements(grown_enforcer(listing, 1)) == "178 0:2*2,1 16:1 24:a 32:1 144:1*2,2 162:2"
     listing = Listing(P_SYMBOLS)
@@ -139,8 +162,14 @@ def entered(automaton, trace):
     return {run[-1][1] for run in every_run(automaton, trace, automaton.bound()) if run[-1][0] in automaton.observable}
 
 
+def ends(automaton, trace):
+    """Where the runs end that have at most s - 1 unobservable transitions between two observations, half the bound: enough for each state."""
+    return {run[-1][1] if run else automaton.initial for run in every_run(automaton, trace, automaton.bound() // 2)}
+
+
 def test_merging(count, seed):
-    """The merged runs are those that are listed one by one, and no verdict changes with a higher bound."""
+    """The merged runs are those that are listed one by one; the estimate size is the number of states in which these end; neither a verdict nor
+    the estimate size changes with a higher bound."""
     compared = 0
     for i in range(count):
         rng = random.Random(f"{seed} {i}")
@@ -156,17 +185,19 @@ def test_merging(count, seed):
         compared += 1
         assert listing.compatible[len(trace)] == both[0], (seed, i)
         assert listing.entered[len(trace)] == entered(automaton, trace), (seed, i)
-        verdicts = listing.weak(), listing.strong(), listing.weak_safe(len(trace)), listing.strong_safe(len(trace))
+        assert listing.size() == len(ends(automaton, trace)), (seed, i)
+        answers = listing.size(), listing.weak(), listing.strong(), listing.weak_safe(len(trace)), listing.strong_safe(len(trace))
         listing.compatible[len(trace)] = both[1]
-        assert verdicts == (listing.weak(), listing.strong(), listing.weak_safe(len(trace)), listing.strong_safe(len(trace))), (seed, i)
+        again = listing.size(), listing.weak(), listing.strong(), listing.weak_safe(len(trace)), listing.strong_safe(len(trace))
+        assert answers == again, (seed, i)
     return compared
 
 
 def judged(listing):
-    """Verdicts, and which prefixes are safe; shorter ones than these always are."""
+    """Verdicts, the estimate size, and which prefixes are safe; shorter ones than these always are."""
     n = len(listing.trace)
     lengths = range(max(0, n - listing.automaton.k), n + 1)
-    return listing.weak(), listing.strong(), [(listing.weak_safe(length), listing.strong_safe(length)) for length in lengths]
+    return listing.weak(), listing.strong(), listing.size(), [(listing.weak_safe(length), listing.strong_safe(length)) for length in lengths]
 
 
 def answer(listing, byte):
@@ -226,6 +257,7 @@ def test_meaning(count, seed):
 
 if __name__ == "__main__":
     test_examples()
+    test_sizes()
     test_programs()
     test_repeats()
     test_symbols()

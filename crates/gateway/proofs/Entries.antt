@@ -1,8 +1,8 @@
 -- What each function of the interface answers and leaves, from what the crates below promise and the bytes that were read and written. Assumes nothing.
 use Prim.Native.Nat.{ℕ}
 use mathlib.Core.Path.{_≡_, refl, sym, subst, _∙_}
-use mathlib.Core.List.{List, [], _∷_}
-use lib.ListN.{length, set}
+use mathlib.Core.List.{List}
+use lib.ListN.{length}
 use lib.Seq.{sets}
 use Rattle.automaton.specs.Refusals.{numberOf}
 use Rattle.automaton.specs.declared.Header.{Header}
@@ -13,16 +13,17 @@ use Rattle.encoding.specs.declared.Answer as decoded
 use Rattle.verifier.specs.Verdicts.{stepsOf}
 use Rattle.verifier.specs.declared.Notion.{Notion}
 use Rattle.verifier.specs.declared.Estimator.{Estimator}
-use Rattle.verifier.specs.declared.Verdicts.{Verdicts}
+use Rattle.verifier.specs.declared.Judgement.{Judgement}
 use Rattle.verifier.specs.declared.Answer as verdict
 use Rattle.verifier.specs.Replies as verifier
 use Rattle.verifier.specs.Replies.{Opening, Accepting}
 use Rattle.enforcer.specs.Offerings as offering
 use Rattle.enforcer.specs.Offerings.{Starting, Offering}
 use Rattle.enforcer.specs.declared.Enforcer.{Enforcer}
+use Rattle.enforcer.specs.declared.Release.{Release}
 use Rattle.enforcer.specs.declared.StartAnswer as start
 use Rattle.enforcer.specs.declared.OfferAnswer as offer
-use Rattle.gateway.specs.Layout.{headerAt, headerBytes, estimatorAt, estimatorBytes, EstimatorSized, EnforcerSized, notionAt, enforcerAt, enforcerBytes, verdictByte}
+use Rattle.gateway.specs.Layout.{headerAt, headerBytes, estimatorAt, estimatorBytes, EstimatorSized, EnforcerSized, notionAt, enforcerAt, enforcerBytes, judgementBytes, releaseBytes}
 use Rattle.gateway.specs.Interface.{Decode, Fresh, Accept, Start, Offer, VerifierSizes, StartSizes, OfferSizes}
 use Rattle.gateway.proofs.Saved.{whole}
 use Rattle.gateway.proofs.Inverse.{estimator-length, estimator-saved, enforcer-saved}
@@ -52,11 +53,11 @@ module _ (encoding table header after : List ℕ) (h : Header) (answer : decoded
       subst (λ (x : List ℕ). Decode encoding table header 0 after x) (sym wrote)
       (Decode.accepted size (subst (λ (x : decoded.Answer). Decoding encoding table h (answerMeans x) after) is did))
 
--- the verdicts that were written
-abbrev verdictBytes : Verdicts → List ℕ
-verdictBytes v = verdictByte (stepsOf (v .weak)) ∷ verdictByte (stepsOf (v .strong)) ∷ []
+-- the judgement that was written
+abbrev toldBytes : Judgement → List ℕ
+toldBytes j = judgementBytes (stepsOf (j .verdicts .weak)) (stepsOf (j .verdicts .strong)) (j .size)
 
-module _ (t header estimator verdicts : List ℕ) (h : Header) (after : Estimator) (answer : verdict.Answer) (sizes : VerifierSizes header estimator verdicts)
+module _ (t header estimator judgement : List ℕ) (h : Header) (after : Estimator) (answer : verdict.Answer) (sizes : VerifierSizes header estimator judgement)
     (is-header : h ≡ headerAt header) where
   -- an estimator that fills its slice
   filled : (left : List ℕ) → EstimatorSized after × (left ≡ sets estimator 0 (estimatorBytes after)) → left ≡ estimatorBytes after
@@ -66,14 +67,14 @@ module _ (t header estimator verdicts : List ℕ) (h : Header) (after : Estimato
     said-opening : (x : verdict.Answer) → answer ≡ x → Opening t (headerAt header) (verifier.said x) after
     said-opening x is = subst (λ (y : verdict.Answer). Opening t (headerAt header) (verifier.said y) after) is (subst (λ (y : Header). Opening t y (verifier.said answer) after) is-header did)
 
-    pub fresh-refused : (r : Refusal) (n : ℕ) → answer ≡ verdict.the-variants.Refused r → n ≡ numberOf r → Fresh t header estimator verdicts n estimator verdicts
+    pub fresh-refused : (r : Refusal) (n : ℕ) → answer ≡ verdict.the-variants.Refused r → n ≡ numberOf r → Fresh t header estimator judgement n estimator judgement
     fresh-refused r n is number = rw number (Fresh.refused sizes (said-opening (verdict.the-variants.Refused r) is))
 
-    pub fresh-accepted : (v : Verdicts) (left told : List ℕ) → answer ≡ verdict.the-variants.Accepted v
-        → EstimatorSized after × (left ≡ sets estimator 0 (estimatorBytes after)) → told ≡ verdictBytes v → Fresh t header estimator verdicts 0 left told
-    fresh-accepted v left told is wrote says =
-        subst (λ (x : List ℕ). Fresh t header estimator verdicts 0 x told) (sym (filled left wrote))
-        (subst (λ (x : List ℕ). Fresh t header estimator verdicts 0 (estimatorBytes after) x) (sym says) (Fresh.accepted sizes (said-opening (verdict.the-variants.Accepted v) is) (estimator-saved after (wrote .0))))
+    pub fresh-accepted : (j : Judgement) (left told : List ℕ) → answer ≡ verdict.the-variants.Accepted j
+        → EstimatorSized after × (left ≡ sets estimator 0 (estimatorBytes after)) → told ≡ toldBytes j → Fresh t header estimator judgement 0 left told
+    fresh-accepted j left told is wrote says =
+        subst (λ (x : List ℕ). Fresh t header estimator judgement 0 x told) (sym (filled left wrote))
+        (subst (λ (x : List ℕ). Fresh t header estimator judgement 0 (estimatorBytes after) x) (sym says) (Fresh.accepted sizes (said-opening (verdict.the-variants.Accepted j) is) (estimator-saved after (wrote .0))))
 
   module _ (symbol : ℕ) (s : Estimator) (is-estimator : s ≡ estimatorAt estimator) (did : Accepting t h s symbol (verifier.said answer) after) where
     said-accepting : (x : verdict.Answer) → answer ≡ x → Accepting t (headerAt header) (estimatorAt estimator) symbol (verifier.said x) after
@@ -82,14 +83,14 @@ module _ (t header estimator verdicts : List ℕ) (h : Header) (after : Estimato
         (subst (λ (y : Estimator). Accepting t (headerAt header) y symbol (verifier.said answer) after) is-estimator
         (subst (λ (y : Header). Accepting t y s symbol (verifier.said answer) after) is-header did))
 
-    pub accept-refused : (r : Refusal) (n : ℕ) → answer ≡ verdict.the-variants.Refused r → n ≡ numberOf r → Accept t header symbol estimator verdicts n estimator verdicts
+    pub accept-refused : (r : Refusal) (n : ℕ) → answer ≡ verdict.the-variants.Refused r → n ≡ numberOf r → Accept t header symbol estimator judgement n estimator judgement
     accept-refused r n is number = rw number (Accept.refused sizes (said-accepting (verdict.the-variants.Refused r) is))
 
-    pub accept-accepted : (v : Verdicts) (left told : List ℕ) → answer ≡ verdict.the-variants.Accepted v
-        → EstimatorSized after × (left ≡ sets estimator 0 (estimatorBytes after)) → told ≡ verdictBytes v → Accept t header symbol estimator verdicts 0 left told
-    accept-accepted v left told is wrote says =
-        subst (λ (x : List ℕ). Accept t header symbol estimator verdicts 0 x told) (sym (filled left wrote))
-        (subst (λ (x : List ℕ). Accept t header symbol estimator verdicts 0 (estimatorBytes after) x) (sym says) (Accept.accepted sizes (said-accepting (verdict.the-variants.Accepted v) is) (estimator-saved after (wrote .0))))
+    pub accept-accepted : (j : Judgement) (left told : List ℕ) → answer ≡ verdict.the-variants.Accepted j
+        → EstimatorSized after × (left ≡ sets estimator 0 (estimatorBytes after)) → told ≡ toldBytes j → Accept t header symbol estimator judgement 0 left told
+    accept-accepted j left told is wrote says =
+        subst (λ (x : List ℕ). Accept t header symbol estimator judgement 0 x told) (sym (filled left wrote))
+        (subst (λ (x : List ℕ). Accept t header symbol estimator judgement 0 (estimatorBytes after) x) (sym says) (Accept.accepted sizes (said-accepting (verdict.the-variants.Accepted j) is) (estimator-saved after (wrote .0))))
 
 module _ (t header : List ℕ) (byte : ℕ) (saved : List ℕ) (h : Header) (notion : Notion) (after : Enforcer) (answer : start.StartAnswer) (sizes : StartSizes header byte saved)
     (is-header : h ≡ headerAt header) (is-notion : notion ≡ notionAt byte) (did : Starting t h notion (offering.begun answer) after) where
@@ -106,7 +107,7 @@ module _ (t header : List ℕ) (byte : ℕ) (saved : List ℕ) (h : Header) (not
   start-started left is wrote =
       subst (λ (x : List ℕ). Start t header byte saved 0 x) (sym (wrote .1)) (Start.started sizes (begun-starting start.the-variants.Started is) (enforcer-saved after (wrote .0)))
 
-module _ (t header : List ℕ) (symbol : ℕ) (saved output count out : List ℕ) (h : Header) (s after : Enforcer) (answer : offer.OfferAnswer) (sizes : OfferSizes header saved count)
+module _ (t header : List ℕ) (symbol : ℕ) (saved output release out : List ℕ) (h : Header) (s after : Enforcer) (answer : offer.OfferAnswer) (sizes : OfferSizes header saved release)
     (is-header : h ≡ headerAt header) (is-enforcer : s ≡ enforcerAt saved) (did : Offering t h s symbol output (offering.said answer) after out) where
   said-offering : (x : offer.OfferAnswer) → answer ≡ x → Offering t (headerAt header) (enforcerAt saved) symbol output (offering.said x) after out
   said-offering x is =
@@ -114,15 +115,15 @@ module _ (t header : List ℕ) (symbol : ℕ) (saved output count out : List ℕ
       (subst (λ (y : Enforcer). Offering t (headerAt header) y symbol output (offering.said answer) after out) is-enforcer
       (subst (λ (y : Header). Offering t y s symbol output (offering.said answer) after out) is-header did))
 
-  pub offer-refused : (r : Refusal) (n : ℕ) → answer ≡ offer.the-variants.Refused r → n ≡ numberOf r → Offer t header symbol saved output count n saved out count
+  pub offer-refused : (r : Refusal) (n : ℕ) → answer ≡ offer.the-variants.Refused r → n ≡ numberOf r → Offer t header symbol saved output release n saved out release
   offer-refused r n is number =
       let x = said-offering (offer.the-variants.Refused r) is in
       let kept = kept-output t (headerAt header) (enforcerAt saved) symbol output x in
       rw (number, kept) (Offer.refused sizes (rw kept at x))
 
-  pub offer-released : (f : ℕ) (left told : List ℕ) → answer ≡ offer.the-variants.Released f → EnforcerSized after × (left ≡ enforcerBytes after) → told ≡ set count 0 f
-      → Offer t header symbol saved output count 0 left out told
-  offer-released f left told is wrote says =
-      let one : told ≡ f ∷ [] = says ∙ whole count (f ∷ []) (sym (sizes .released-size)) in
-      subst (λ (x : List ℕ). Offer t header symbol saved output count 0 x out told) (sym (wrote .1))
-      (subst (λ (x : List ℕ). Offer t header symbol saved output count 0 (enforcerBytes after) out x) (sym one) (Offer.released sizes (said-offering (offer.the-variants.Released f) is) (enforcer-saved after (wrote .0))))
+  pub offer-released : (r : Release) (left told : List ℕ) → answer ≡ offer.the-variants.Released r → EnforcerSized after × (left ≡ enforcerBytes after)
+      → told ≡ releaseBytes (r .count) (r .size)
+      → Offer t header symbol saved output release 0 left out told
+  offer-released r left told is wrote says =
+      subst (λ (x : List ℕ). Offer t header symbol saved output release 0 x out told) (sym (wrote .1))
+      (subst (λ (x : List ℕ). Offer t header symbol saved output release 0 (enforcerBytes after) out x) (sym says) (Offer.released sizes (said-offering (offer.the-variants.Released r) is) (enforcer-saved after (wrote .0))))

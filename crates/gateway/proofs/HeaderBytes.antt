@@ -62,34 +62,34 @@ module _ (a b : List ℕ) (x : SameHeaders a b) where
         symbols = λ e l i. sym (x .symbols e l (subst (λ (w : ℕ). In e w) (sym same-observable) i));
       }
 
-  verifier-sizes : (estimator verdicts : List ℕ) → VerifierSizes a estimator verdicts → VerifierSizes b estimator verdicts
-  verifier-sizes estimator verdicts s = record { header-size = x .other-size; estimator-size = s .estimator-size; verdicts-size = s .verdicts-size }
+  verifier-sizes : (estimator judgement : List ℕ) → VerifierSizes a estimator judgement → VerifierSizes b estimator judgement
+  verifier-sizes estimator judgement s = record { header-size = x .other-size; estimator-size = s .estimator-size; judgement-size = s .judgement-size }
 
   start-sizes : (notion : ℕ) (enforcer : List ℕ) → StartSizes a notion enforcer → StartSizes b notion enforcer
   start-sizes notion enforcer s = record { header-size = x .other-size; notion-known = s .notion-known; enforcer-size = s .enforcer-size }
 
-  offer-sizes : (enforcer released : List ℕ) → OfferSizes a enforcer released → OfferSizes b enforcer released
-  offer-sizes enforcer released s =
-      record { header-size = x .other-size; enforcer-size = s .enforcer-size; notion-known = s .notion-known; released-size = s .released-size }
+  offer-sizes : (enforcer release : List ℕ) → OfferSizes a enforcer release → OfferSizes b enforcer release
+  offer-sizes enforcer release s =
+      record { header-size = x .other-size; enforcer-size = s .enforcer-size; notion-known = s .notion-known; release-size = s .release-size }
 
 module _ (t a b : List ℕ) (x : SameHeaders a b) where
-  fresh-to : (estimator verdicts : List ℕ) (n : ℕ) (after told : List ℕ) → Fresh t a estimator verdicts n after told → Fresh t b estimator verdicts n after told
-  fresh-to estimator verdicts n after told (Fresh.size bad) = Fresh.size (λ s. bad (verifier-sizes b a (headers-back a b x) estimator verdicts s))
-  fresh-to estimator verdicts n after told (Fresh.refused s o) =
-      Fresh.refused (verifier-sizes a b x estimator verdicts s)
+  fresh-to : (estimator judgement : List ℕ) (n : ℕ) (after told : List ℕ) → Fresh t a estimator judgement n after told → Fresh t b estimator judgement n after told
+  fresh-to estimator judgement n after told (Fresh.size bad) = Fresh.size (λ s. bad (verifier-sizes b a (headers-back a b x) estimator judgement s))
+  fresh-to estimator judgement n after told (Fresh.refused s o) =
+      Fresh.refused (verifier-sizes a b x estimator judgement s)
       (same-opening t (headerAt a) (headerAt b) (same-symbols a b x t) (same-secret a b x) (same-k a b x) _ _ .0 o)
-  fresh-to estimator verdicts n after told (Fresh.accepted s o saved) =
-      Fresh.accepted (verifier-sizes a b x estimator verdicts s)
+  fresh-to estimator judgement n after told (Fresh.accepted s o saved) =
+      Fresh.accepted (verifier-sizes a b x estimator judgement s)
       (same-opening t (headerAt a) (headerAt b) (same-symbols a b x t) (same-secret a b x) (same-k a b x) _ _ .0 o) saved
 
-  accept-to : (symbol : ℕ) (estimator verdicts : List ℕ) (n : ℕ) (after told : List ℕ) → Accept t a symbol estimator verdicts n after told
-      → Accept t b symbol estimator verdicts n after told
-  accept-to symbol estimator verdicts n after told (Accept.size bad) = Accept.size (λ s. bad (verifier-sizes b a (headers-back a b x) estimator verdicts s))
-  accept-to symbol estimator verdicts n after told (Accept.refused s o) =
-      Accept.refused (verifier-sizes a b x estimator verdicts s)
+  accept-to : (symbol : ℕ) (estimator judgement : List ℕ) (n : ℕ) (after told : List ℕ) → Accept t a symbol estimator judgement n after told
+      → Accept t b symbol estimator judgement n after told
+  accept-to symbol estimator judgement n after told (Accept.size bad) = Accept.size (λ s. bad (verifier-sizes b a (headers-back a b x) estimator judgement s))
+  accept-to symbol estimator judgement n after told (Accept.refused s o) =
+      Accept.refused (verifier-sizes a b x estimator judgement s)
       (same-accepting t (headerAt a) (headerAt b) (same-symbols a b x t) (same-secret a b x) (same-k a b x) _ symbol _ _ .0 o)
-  accept-to symbol estimator verdicts n after told (Accept.accepted s o saved) =
-      Accept.accepted (verifier-sizes a b x estimator verdicts s)
+  accept-to symbol estimator judgement n after told (Accept.accepted s o saved) =
+      Accept.accepted (verifier-sizes a b x estimator judgement s)
       (same-accepting t (headerAt a) (headerAt b) (same-symbols a b x t) (same-secret a b x) (same-k a b x) _ symbol _ _ .0 o) saved
 
   start-to : (notion : ℕ) (enforcer : List ℕ) (n : ℕ) (after : List ℕ) → Start t a notion enforcer n after → Start t b notion enforcer n after
@@ -101,33 +101,33 @@ module _ (t a b : List ℕ) (x : SameHeaders a b) where
       Start.started (start-sizes a b x notion enforcer s)
       (same-starting t (headerAt a) (headerAt b) (same-symbols a b x t) (same-secret a b x) (same-k a b x) _ _ _ .0 o) saved
 
-  offer-to : (symbol : ℕ) (enforcer output released : List ℕ) (n : ℕ) (after out count : List ℕ) → Offer t a symbol enforcer output released n after out count
-      → Offer t b symbol enforcer output released n after out count
-  offer-to symbol enforcer output released n after out count (Offer.size bad) = Offer.size (λ s. bad (offer-sizes b a (headers-back a b x) enforcer released s))
-  offer-to symbol enforcer output released n after out count (Offer.refused s o) =
-      Offer.refused (offer-sizes a b x enforcer released s)
+  offer-to : (symbol : ℕ) (enforcer output release : List ℕ) (n : ℕ) (after out count : List ℕ) → Offer t a symbol enforcer output release n after out count
+      → Offer t b symbol enforcer output release n after out count
+  offer-to symbol enforcer output release n after out count (Offer.size bad) = Offer.size (λ s. bad (offer-sizes b a (headers-back a b x) enforcer release s))
+  offer-to symbol enforcer output release n after out count (Offer.refused s o) =
+      Offer.refused (offer-sizes a b x enforcer release s)
       (same-offering t (headerAt a) (headerAt b) (same-symbols a b x t) (same-secret a b x) (same-k a b x) _ symbol output _ _ _ .0 o)
-  offer-to symbol enforcer output released n after out count (Offer.released s o saved) =
-      Offer.released (offer-sizes a b x enforcer released s)
+  offer-to symbol enforcer output release n after out count (Offer.released s o saved) =
+      Offer.released (offer-sizes a b x enforcer release s)
       (same-offering t (headerAt a) (headerAt b) (same-symbols a b x t) (same-secret a b x) (same-k a b x) _ symbol output _ _ _ .0 o) saved
 
 module _ (t a b : List ℕ) (x : SameHeaders a b) where
-  pub same-fresh : (estimator verdicts : List ℕ) (n : ℕ) (after told : List ℕ)
-      → Fresh t a estimator verdicts n after told ↔ Fresh t b estimator verdicts n after told
-  same-fresh estimator verdicts n after told =
-      (fresh-to t a b x estimator verdicts n after told, fresh-to t b a (headers-back a b x) estimator verdicts n after told)
+  pub same-fresh : (estimator judgement : List ℕ) (n : ℕ) (after told : List ℕ)
+      → Fresh t a estimator judgement n after told ↔ Fresh t b estimator judgement n after told
+  same-fresh estimator judgement n after told =
+      (fresh-to t a b x estimator judgement n after told, fresh-to t b a (headers-back a b x) estimator judgement n after told)
 
-  pub same-accept : (symbol : ℕ) (estimator verdicts : List ℕ) (n : ℕ) (after told : List ℕ)
-      → Accept t a symbol estimator verdicts n after told ↔ Accept t b symbol estimator verdicts n after told
-  same-accept symbol estimator verdicts n after told =
-      (accept-to t a b x symbol estimator verdicts n after told, accept-to t b a (headers-back a b x) symbol estimator verdicts n after told)
+  pub same-accept : (symbol : ℕ) (estimator judgement : List ℕ) (n : ℕ) (after told : List ℕ)
+      → Accept t a symbol estimator judgement n after told ↔ Accept t b symbol estimator judgement n after told
+  same-accept symbol estimator judgement n after told =
+      (accept-to t a b x symbol estimator judgement n after told, accept-to t b a (headers-back a b x) symbol estimator judgement n after told)
 
   pub same-start : (notion : ℕ) (enforcer : List ℕ) (n : ℕ) (after : List ℕ) → Start t a notion enforcer n after ↔ Start t b notion enforcer n after
   same-start notion enforcer n after = (start-to t a b x notion enforcer n after, start-to t b a (headers-back a b x) notion enforcer n after)
 
-  pub same-offer : (symbol : ℕ) (enforcer output released : List ℕ) (n : ℕ) (after out count : List ℕ)
-      → Offer t a symbol enforcer output released n after out count ↔ Offer t b symbol enforcer output released n after out count
-  same-offer symbol enforcer output released n after out count = (
-    offer-to t a b x symbol enforcer output released n after out count,
-    offer-to t b a (headers-back a b x) symbol enforcer output released n after out count,
+  pub same-offer : (symbol : ℕ) (enforcer output release : List ℕ) (n : ℕ) (after out count : List ℕ)
+      → Offer t a symbol enforcer output release n after out count ↔ Offer t b symbol enforcer output release n after out count
+  same-offer symbol enforcer output release n after out count = (
+    offer-to t a b x symbol enforcer output release n after out count,
+    offer-to t b a (headers-back a b x) symbol enforcer output release n after out count,
   )

@@ -26,6 +26,10 @@ behind d xs ys at next e = rw (← e) (sets-append xs ys d at)
 pub wrote-two : (d d₁ d₂ : List ℕ) (a b : ℕ) → length d ≡ 2 → d₁ ≡ set d 0 a → d₂ ≡ set d₁ 1 b → d₂ ≡ a ∷ b ∷ []
 wrote-two d d₁ d₂ a b size x y = y ∙ ap (λ (l : List ℕ). set l 1 b) x ∙ whole d (a ∷ b ∷ []) (sym size)
 
+pub wrote-three : (d d₁ d₂ d₃ : List ℕ) (a b c : ℕ) → length d ≡ 3 → d₁ ≡ set d 0 a → d₂ ≡ set d₁ 1 b → d₃ ≡ set d₂ 2 c → d₃ ≡ a ∷ b ∷ c ∷ []
+wrote-three d d₁ d₂ d₃ a b c size x y z =
+    z ∙ ap (λ (l : List ℕ). set l 2 c) (y ∙ ap (λ (l : List ℕ). set l 1 b) x) ∙ whole d (a ∷ b ∷ c ∷ []) (sym size)
+
 pub wrote-header : (d d₁ d₂ d₃ d₄ d₅ : List ℕ) (initial k secret observable : ℕ) (symbols : List ℕ) → length d ≡ 46 → length symbols ≡ 32 → d₁ ≡ set d 0 initial → d₂ ≡ set d₁ 1 k
     → d₃ ≡ sets d₂ 2 (bytesOf 8 secret) → d₄ ≡ sets d₃ 10 (bytesOf 4 observable) → d₅ ≡ sets d₄ 14 symbols → d₅ ≡ initial ∷ k ∷ bytesOf 8 secret ++ (bytesOf 4 observable ++ symbols)
 wrote-header d d₁ d₂ d₃ d₄ d₅ initial k secret observable symbols size many a b c e f =

@@ -23,7 +23,7 @@ use Rattle.enforcer.specs.Offers as enforcer
 use Rattle.enforcer.proofs.ThirdPoint.{third-point}
 use Rattle.gateway.specs.Layout.{headerAt, estimatorAt, notionAt, enforcerAt}
 use Rattle.gateway.specs.Interface.{Decode, Fresh, Accept, Start, Offer}
-use Rattle.gateway.specs.SavedCalls.{AcceptCall, AcceptCalls, weakAt, strongAt, callsOf, OfferCall, OfferCalls, offersOf}
+use Rattle.gateway.specs.SavedCalls.{AcceptCall, AcceptCalls, weakAt, strongAt, sizeAt, callsOf, OfferCall, OfferCalls, offersOf}
 use Rattle.gateway.proofs.Inverse.{header-length, verdict-back}
 use Rattle.gateway.proofs.Sizes.{header-sized, decoded-header-back}
 use Rattle.gateway.proofs.Numbered.{not-zero}
@@ -49,9 +49,9 @@ saved-sound encoding table before t header x = decoded-sound encoding table (hea
 
 -- so with slices of their lengths a fresh estimator is never refused
 pub saved-fresh : (encoding table before t header estimator lent : List ℕ) (answer : ℕ) (s told : List ℕ) → Decode encoding table before 0 t header
-    → length estimator ≡ 144 → length lent ≡ 2 → Fresh t header estimator lent answer s told → answer ≡ 0
+    → length estimator ≡ 144 → length lent ≡ 3 → Fresh t header estimator lent answer s told → answer ≡ 0
 saved-fresh encoding table before t header estimator lent answer s told x e l (Fresh.size bad) =
-    absurd (bad (record { header-size = saved-length encoding table before t header x; estimator-size = e; verdicts-size = l }))
+    absurd (bad (record { header-size = saved-length encoding table before t header x; estimator-size = e; judgement-size = l }))
 saved-fresh encoding table before t header estimator lent answer s told x e l (Fresh.refused _ (Opening.malformed bad out)) =
     absurd (bad (saved-sound encoding table before t header x))
 saved-fresh encoding table before t header estimator lent answer s told x e l (Fresh.accepted _ opening saved) = refl
@@ -72,21 +72,21 @@ bounded notion p secret K trace (leak l) x = x .within
 
 -- THE SECOND POINT: a fresh call that answered 0, and any calls of accept on the bytes that the call before left
 pub saved-second-point : (t header before lent s told : List ℕ) (cs : List AcceptCall) (e : List ℕ) → Fresh t header before lent 0 s told → AcceptCalls t header s cs e
-    → verifier.Promise t (headerAt header) (weakAt told) (strongAt told) (callsOf cs) (estimatorAt e)
-saved-second-point t header before lent s told cs e (Fresh.accepted sizes {weak = v} {strong = w} {s = x} (Opening.opened so li exact) saved) f =
+    → verifier.Promise t (headerAt header) (weakAt told) (strongAt told) (sizeAt told) (callsOf cs) (estimatorAt e)
+saved-second-point t header before lent s told cs e (Fresh.accepted sizes {weak = v} {strong = w} {size = n} {s = x} (Opening.opened so li within exact) saved) f =
     let h = headerAt header in
     let p = automatonOf t h in
     let calls = accept-calls t header (sizes .header-size) s cs e (saved .size) f in
     rw (
       verdict-back (h .k) v (so .back) (bounded Weak p (h .secret) (h .k) [] v (exact .weak)),
       verdict-back (h .k) w (so .back) (bounded Strong p (h .secret) (h .k) [] w (exact .strong)),
-    ) (second-point t h v w x (callsOf cs) (estimatorAt e) (Opening.opened so li exact)
+    ) (second-point t h v w n x (callsOf cs) (estimatorAt e) (Opening.opened so li within exact)
     (subst (λ (y : Estimator). verifier.Calls t h y (callsOf cs) (estimatorAt e)) (saved .back) calls))
 
--- from the bytes of an encoding to the verdicts: what was decoded, a fresh estimator on it, and any calls of accept
+-- from the bytes of an encoding to the verdicts and the number: what was decoded, a fresh estimator on it, and any calls of accept
 pub encoded-second-point : (encoding table before t header estimator lent : List ℕ) (answer : ℕ) (s told : List ℕ) (cs : List AcceptCall) (e : List ℕ)
-    → Decode encoding table before 0 t header → length estimator ≡ 144 → length lent ≡ 2 → Fresh t header estimator lent answer s told → AcceptCalls t header s cs e
-    → (answer ≡ 0) × Decoding encoding table (headerAt header) accept t × verifier.Promise t (headerAt header) (weakAt told) (strongAt told) (callsOf cs) (estimatorAt e)
+    → Decode encoding table before 0 t header → length estimator ≡ 144 → length lent ≡ 3 → Fresh t header estimator lent answer s told → AcceptCalls t header s cs e
+    → (answer ≡ 0) × Decoding encoding table (headerAt header) accept t × verifier.Promise t (headerAt header) (weakAt told) (strongAt told) (sizeAt told) (callsOf cs) (estimatorAt e)
 encoded-second-point encoding table before t header estimator lent answer s told cs e x size size′ fresh f =
     let zero-is = saved-fresh encoding table before t header estimator lent answer s told x size size′ fresh in (
       zero-is,
@@ -106,10 +106,10 @@ saved-third-point t header notion before s cs e (Start.started sizes {s = x} (St
 -- WITHIN THE LIMITS AS THEY READ BACK: the bytes that an accepted event leaves, of a saved state within its limits, whatever it grew from
 pub accept-within : (t header : List ℕ) (symbol : ℕ) (before lent after told : List ℕ) → Accept t header symbol before lent 0 after told
     → (length after ≡ 144) × estimator.Limits (headerAt header .k) (estimatorAt after)
-accept-within t header symbol before lent after told (Accept.accepted sizes {s = s} (Accepting.accepted so li ob limits b c exact) saved) =
+accept-within t header symbol before lent after told (Accept.accepted sizes {s = s} (Accepting.accepted so li ob limits b c within exact) saved) =
     (saved .size, subst (estimator.Limits (headerAt header .k)) (sym (saved .back)) limits)
 
-pub offer-within : (t header : List ℕ) (symbol : ℕ) (before output lent after left released : List ℕ) → Offer t header symbol before output lent 0 after left released
+pub offer-within : (t header : List ℕ) (symbol : ℕ) (before output lent after left release : List ℕ) → Offer t header symbol before output lent 0 after left release
     → (length after ≡ 178) × (getD after 144 0 ≤ 1) × limits.Limits (headerAt header .k) (enforcerAt after)
-offer-within t header symbol before output lent after left released (Offer.released sizes {s = s} (Offering.accepted so li wide ob within bal front rest exact) saved) =
+offer-within t header symbol before output lent after left release (Offer.released sizes {s = s} (Offering.accepted so li wide ob within bal front rest size exact) saved) =
     (saved .size, saved .notion-known, subst (limits.Limits (headerAt header .k)) (sym (saved .back)) within)

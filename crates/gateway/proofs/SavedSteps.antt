@@ -13,14 +13,14 @@ use Rattle.enforcer.specs.declared.Enforcer.{Enforcer}
 use Rattle.enforcer.specs.Offerings as offering
 use Rattle.enforcer.specs.Offerings.{Offering}
 use Rattle.enforcer.specs.Offers.{Chain, Offers}
-use Rattle.gateway.specs.Layout.{headerAt, estimatorAt, enforcerAt, verdictByte}
+use Rattle.gateway.specs.Layout.{headerAt, estimatorAt, enforcerAt, judgementBytes}
 use Rattle.gateway.specs.Interface.{Accept, Offer}
 use Rattle.gateway.specs.SavedCalls.{AcceptCall, AcceptCalls, acceptSaid, callsOf, OfferCall, OfferCalls, offerSaid, offersOf}
 use Rattle.gateway.proofs.Inverse.{verdict-back}
 
--- two verdicts that were written are the two that are read
-told-back : (K : ℕ) (v w : Steps) → K ≤ 15 → Bounded K v → Bounded K w → acceptSaid 0 (verdictByte v ∷ verdictByte w ∷ []) ≡ verifier.verdicts v w
-told-back K v w h b c = ap₂ verifier.verdicts (verdict-back K v h b) (verdict-back K w h c)
+-- the judgement that was written is the one that is read
+told-back : (K : ℕ) (v w : Steps) (n : ℕ) → K ≤ 15 → Bounded K v → Bounded K w → acceptSaid 0 (judgementBytes v w n) ≡ verifier.verdicts v w n
+told-back K v w n h b c = ap₂ (λ (x y : Steps). verifier.verdicts x y n) (verdict-back K v h b) (verdict-back K w h c)
 
 module _ (t header : List ℕ) (header-size : length header ≡ 46) where
   abbrev pub head : Header
@@ -38,22 +38,22 @@ module _ (t header : List ℕ) (header-size : length header ≡ 46) where
     accepting : Accepting t head (estimatorAt s) symbol (acceptSaid answer told) (estimatorAt m)
     size : length m ≡ 144
 
-  one-accept : (s : List ℕ) (symbol : ℕ) (lent : List ℕ) (answer : ℕ) (m told : List ℕ) → length s ≡ 144 → length lent ≡ 2 → Accept t header symbol s lent answer m told → OneAccept s symbol answer m told
-  one-accept s symbol lent answer m told k two (Accept.size bad) = absurd (bad (record { header-size = header-size; estimator-size = k; verdicts-size = two }))
-  one-accept s symbol lent answer m told k two (Accept.refused sizes x) = record { accepting = refused-accept (estimatorAt s) symbol lent x; size = k }
-  one-accept s symbol lent answer m told k two (Accept.accepted sizes {weak = v} {strong = w} (Accepting.accepted so li ob after b c exact) saved) =
-      record { accepting = rw (told-back (head .k) v w (so .back) b c, saved .back) (Accepting.accepted so li ob after b c exact); size = saved .size }
+  one-accept : (s : List ℕ) (symbol : ℕ) (lent : List ℕ) (answer : ℕ) (m told : List ℕ) → length s ≡ 144 → length lent ≡ 3 → Accept t header symbol s lent answer m told → OneAccept s symbol answer m told
+  one-accept s symbol lent answer m told k three (Accept.size bad) = absurd (bad (record { header-size = header-size; estimator-size = k; judgement-size = three }))
+  one-accept s symbol lent answer m told k three (Accept.refused sizes x) = record { accepting = refused-accept (estimatorAt s) symbol lent x; size = k }
+  one-accept s symbol lent answer m told k three (Accept.accepted sizes {weak = v} {strong = w} {size = n} (Accepting.accepted so li ob after b c within exact) saved) =
+      record { accepting = rw (told-back (head .k) v w n (so .back) b c, saved .back) (Accepting.accepted so li ob after b c within exact); size = saved .size }
 
-  -- one that lends another number of verdict bytes
-  unsized-accept : (s : List ℕ) (symbol : ℕ) (lent : List ℕ) (answer : ℕ) (m told : List ℕ) → (length lent ≡ 2 → ⊥) → Accept t header symbol s lent answer m told → m ≡ s
+  -- one that lends another number of bytes for the judgement
+  unsized-accept : (s : List ℕ) (symbol : ℕ) (lent : List ℕ) (answer : ℕ) (m told : List ℕ) → (length lent ≡ 3 → ⊥) → Accept t header symbol s lent answer m told → m ≡ s
   unsized-accept s symbol lent answer m told n (Accept.size bad) = refl
   unsized-accept s symbol lent answer m told n (Accept.refused sizes x) = refl
-  unsized-accept s symbol lent answer m told n (Accept.accepted sizes x saved) = absurd (n (sizes .verdicts-size))
+  unsized-accept s symbol lent answer m told n (Accept.accepted sizes x saved) = absurd (n (sizes .judgement-size))
 
   pub accept-calls : (s : List ℕ) (cs : List AcceptCall) (e : List ℕ) → length s ≡ 144 → AcceptCalls t header s cs e → Calls t head (estimatorAt s) (callsOf cs) (estimatorAt e)
   accept-calls s cs e k AcceptCalls.done = Calls.done
-  accept-calls s cs e k (AcceptCalls.next {m = m} {c = c} {cs = rest} two a f) =
-      let x = one-accept s (c .symbol) (c .lent) (c .answer) m (c .told) k two a in
+  accept-calls s cs e k (AcceptCalls.next {m = m} {c = c} {cs = rest} three a f) =
+      let x = one-accept s (c .symbol) (c .lent) (c .answer) m (c .told) k three a in
       Calls.next (x .accepting) (accept-calls m rest e (x .size) f)
   accept-calls s cs e k (AcceptCalls.unsized {m = m} {c = c} n a f) =
       let same = unsized-accept s (c .symbol) (c .lent) (c .answer) m (c .told) n a in
@@ -65,37 +65,37 @@ module _ (t header : List ℕ) (header-size : length header ≡ 46) where
     pub known : getD s 144 0 ≤ 1
 
   -- a refusal has no number 0, and leaves the enforcer
-  refused-offer : (self : Enforcer) (symbol : ℕ) (output released : List ℕ) {n : ℕ} {after : Enforcer} {left : List ℕ} → Offering t head self symbol output (offering.refused n) after left
-      → Offering t head self symbol output (offerSaid n released) self left
-  refused-offer self symbol output released (Offering.malformed bad) = Offering.malformed bad
-  refused-offer self symbol output released (Offering.output-too-small so li few) = Offering.output-too-small so li few
-  refused-offer self symbol output released (Offering.not-observable so li wide never) = Offering.not-observable so li wide never
-  refused-offer self symbol output released (Offering.incompatible so li wide ob none) = Offering.incompatible so li wide ob none
+  refused-offer : (self : Enforcer) (symbol : ℕ) (output release : List ℕ) {n : ℕ} {after : Enforcer} {left : List ℕ} → Offering t head self symbol output (offering.refused n) after left
+      → Offering t head self symbol output (offerSaid n release) self left
+  refused-offer self symbol output release (Offering.malformed bad) = Offering.malformed bad
+  refused-offer self symbol output release (Offering.output-too-small so li few) = Offering.output-too-small so li few
+  refused-offer self symbol output release (Offering.not-observable so li wide never) = Offering.not-observable so li wide never
+  refused-offer self symbol output release (Offering.incompatible so li wide ob none) = Offering.incompatible so li wide ob none
 
   -- one call of offer
-  record OneOffer (s : List ℕ) (symbol : ℕ) (output : List ℕ) (answer : ℕ) (m left released : List ℕ) : Type 0 where
-    offering : Offering t head (enforcerAt s) symbol output (offerSaid answer released) (enforcerAt m) left
+  record OneOffer (s : List ℕ) (symbol : ℕ) (output : List ℕ) (answer : ℕ) (m left release : List ℕ) : Type 0 where
+    offering : Offering t head (enforcerAt s) symbol output (offerSaid answer release) (enforcerAt m) left
     keeps : KeepsEnforcer m
 
-  one-offer : (s : List ℕ) (symbol : ℕ) (output lent : List ℕ) (answer : ℕ) (m left released : List ℕ) → KeepsEnforcer s → length lent ≡ 1
-      → Offer t header symbol s output lent answer m left released → OneOffer s symbol output answer m left released
-  one-offer s symbol output lent answer m left released k one (Offer.size bad) =
-      absurd (bad (record { header-size = header-size; enforcer-size = k .size; notion-known = k .known; released-size = one }))
-  one-offer s symbol output lent answer m left released k one (Offer.refused sizes x) = record { offering = refused-offer (enforcerAt s) symbol output lent x; keeps = k }
-  one-offer s symbol output lent answer m left released k one (Offer.released sizes (Offering.accepted so li wide ob after bal front rest exact) saved) =
-      record { offering = rw (saved .back) (Offering.accepted so li wide ob after bal front rest exact); keeps = record { size = saved .size; known = saved .notion-known } }
+  one-offer : (s : List ℕ) (symbol : ℕ) (output lent : List ℕ) (answer : ℕ) (m left release : List ℕ) → KeepsEnforcer s → length lent ≡ 2
+      → Offer t header symbol s output lent answer m left release → OneOffer s symbol output answer m left release
+  one-offer s symbol output lent answer m left release k two (Offer.size bad) =
+      absurd (bad (record { header-size = header-size; enforcer-size = k .size; notion-known = k .known; release-size = two }))
+  one-offer s symbol output lent answer m left release k two (Offer.refused sizes x) = record { offering = refused-offer (enforcerAt s) symbol output lent x; keeps = k }
+  one-offer s symbol output lent answer m left release k two (Offer.released sizes (Offering.accepted so li wide ob after bal front rest within exact) saved) =
+      record { offering = rw (saved .back) (Offering.accepted so li wide ob after bal front rest within exact); keeps = record { size = saved .size; known = saved .notion-known } }
 
-  -- one that lends another number of bytes for the number of released events
-  unsized-offer : (s : List ℕ) (symbol : ℕ) (output lent : List ℕ) (answer : ℕ) (m left released : List ℕ) → (length lent ≡ 1 → ⊥) → Offer t header symbol s output lent answer m left released → m ≡ s
-  unsized-offer s symbol output lent answer m left released n (Offer.size bad) = refl
-  unsized-offer s symbol output lent answer m left released n (Offer.refused sizes x) = refl
-  unsized-offer s symbol output lent answer m left released n (Offer.released sizes x saved) = absurd (n (sizes .released-size))
+  -- one that lends another number of bytes for the release
+  unsized-offer : (s : List ℕ) (symbol : ℕ) (output lent : List ℕ) (answer : ℕ) (m left release : List ℕ) → (length lent ≡ 2 → ⊥) → Offer t header symbol s output lent answer m left release → m ≡ s
+  unsized-offer s symbol output lent answer m left release n (Offer.size bad) = refl
+  unsized-offer s symbol output lent answer m left release n (Offer.refused sizes x) = refl
+  unsized-offer s symbol output lent answer m left release n (Offer.released sizes x saved) = absurd (n (sizes .release-size))
 
   pub offer-calls : (s : List ℕ) (cs : List OfferCall) (e : List ℕ) → KeepsEnforcer s → OfferCalls t header s cs e → Offers t head (enforcerAt s) (offersOf cs) (enforcerAt e)
   offer-calls s cs e k OfferCalls.done = Chain.done
-  offer-calls s cs e k (OfferCalls.next {m = m} {c = c} {cs = rest} one a f) =
-      let x = one-offer s (c .symbol) (c .output) (c .lent) (c .answer) m (c .left) (c .released) k one a in
+  offer-calls s cs e k (OfferCalls.next {m = m} {c = c} {cs = rest} two a f) =
+      let x = one-offer s (c .symbol) (c .output) (c .lent) (c .answer) m (c .left) (c .release) k two a in
       Chain.next (x .offering) (offer-calls m rest e (x .keeps) f)
   offer-calls s cs e k (OfferCalls.unsized {m = m} {c = c} n a f) =
-      let same = unsized-offer s (c .symbol) (c .output) (c .lent) (c .answer) m (c .left) (c .released) n a in
+      let same = unsized-offer s (c .symbol) (c .output) (c .lent) (c .answer) m (c .left) (c .release) n a in
       subst (λ (y : List ℕ). Offers t head (enforcerAt y) (offersOf cs) (enforcerAt e)) same (offer-calls m cs e (subst KeepsEnforcer (sym same) k) f)

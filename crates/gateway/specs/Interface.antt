@@ -2,7 +2,7 @@
 -- lent slice as it was. A slice of another length than its layout has, and a notion that is none, get 9 before anything else.
 use Prim.Native.Nat.{ℕ, _≤_}
 use mathlib.Core.Path.{_≡_}
-use mathlib.Core.List.{List, [], _∷_}
+use mathlib.Core.List.{List}
 use lib.ListN.{length, getD}
 use Rattle.automaton.specs.declared.Header.{Header}
 use Rattle.encoding.specs.Decoding.{Decoding, accept, refuse}
@@ -13,7 +13,7 @@ use Rattle.verifier.specs.Replies.{Opening, Accepting}
 use Rattle.enforcer.specs.Offerings as offering
 use Rattle.enforcer.specs.Offerings.{Starting, Offering}
 use Rattle.enforcer.specs.declared.Enforcer.{Enforcer}
-use Rattle.gateway.specs.Layout.{headerAt, headerBytes, estimatorAt, estimatorBytes, notionAt, enforcerAt, enforcerBytes, verdictByte}
+use Rattle.gateway.specs.Layout.{headerAt, headerBytes, estimatorAt, estimatorBytes, notionAt, enforcerAt, enforcerBytes, judgementBytes, releaseBytes}
 
 -- decode: the answer, the table after and the header's bytes after
 pub data Decode (encoding table header : List ℕ) : ℕ → List ℕ → List ℕ → Type 0 where
@@ -22,10 +22,10 @@ pub data Decode (encoding table header : List ℕ) : ℕ → List ℕ → List �
   accepted : length header ≡ 46 → {h : Header} {after : List ℕ} → Decoding encoding table h accept after → Decode encoding table header 0 after (headerBytes h)
 
 -- the slices of a call of the verifier have the lengths of their layouts
-pub record VerifierSizes (header estimator verdicts : List ℕ) : Type 0 where
+pub record VerifierSizes (header estimator judgement : List ℕ) : Type 0 where
   pub header-size : length header ≡ 46
   pub estimator-size : length estimator ≡ 144
-  pub verdicts-size : length verdicts ≡ 2
+  pub judgement-size : length judgement ≡ 3
 
 -- the bytes that a call leaves for an estimator, whatever it grew from: they have their length, and read back as it is, so that what is said of it, its
 -- limits too, is said of the bytes
@@ -33,21 +33,21 @@ pub record EstimatorSaved (s : Estimator) : Type 0 where
   pub size : length (estimatorBytes s) ≡ 144
   pub back : estimatorAt (estimatorBytes s) ≡ s
 
--- fresh: the answer, the estimator's bytes after and the verdicts after, the weak one first
-pub data Fresh (t header estimator verdicts : List ℕ) : ℕ → List ℕ → List ℕ → Type 0 where
-  size : (VerifierSizes header estimator verdicts → ⊥) → Fresh t header estimator verdicts 9 estimator verdicts
-  refused : VerifierSizes header estimator verdicts → {n : ℕ} {s : Estimator} → Opening t (headerAt header) (verifier.refused n) s → Fresh t header estimator verdicts n estimator verdicts
-  accepted : VerifierSizes header estimator verdicts → {weak strong : Steps} {s : Estimator} → Opening t (headerAt header) (verifier.verdicts weak strong) s → EstimatorSaved s
-      → Fresh t header estimator verdicts 0 (estimatorBytes s) (verdictByte weak ∷ verdictByte strong ∷ [])
+-- fresh: the answer, the estimator's bytes after and the judgement's after
+pub data Fresh (t header estimator judgement : List ℕ) : ℕ → List ℕ → List ℕ → Type 0 where
+  size : (VerifierSizes header estimator judgement → ⊥) → Fresh t header estimator judgement 9 estimator judgement
+  refused : VerifierSizes header estimator judgement → {n : ℕ} {s : Estimator} → Opening t (headerAt header) (verifier.refused n) s → Fresh t header estimator judgement n estimator judgement
+  accepted : VerifierSizes header estimator judgement → {weak strong : Steps} {size : ℕ} {s : Estimator} → Opening t (headerAt header) (verifier.verdicts weak strong size) s → EstimatorSaved s
+      → Fresh t header estimator judgement 0 (estimatorBytes s) (judgementBytes weak strong size)
 
 -- accept: the same, of the estimator that the bytes hold and a symbol
-pub data Accept (t header : List ℕ) (symbol : ℕ) (estimator verdicts : List ℕ) : ℕ → List ℕ → List ℕ → Type 0 where
-  size : (VerifierSizes header estimator verdicts → ⊥) → Accept t header symbol estimator verdicts 9 estimator verdicts
-  refused : VerifierSizes header estimator verdicts → {n : ℕ} {s : Estimator} → Accepting t (headerAt header) (estimatorAt estimator) symbol (verifier.refused n) s
-      → Accept t header symbol estimator verdicts n estimator verdicts
-  accepted : VerifierSizes header estimator verdicts → {weak strong : Steps} {s : Estimator}
-      → Accepting t (headerAt header) (estimatorAt estimator) symbol (verifier.verdicts weak strong) s → EstimatorSaved s
-      → Accept t header symbol estimator verdicts 0 (estimatorBytes s) (verdictByte weak ∷ verdictByte strong ∷ [])
+pub data Accept (t header : List ℕ) (symbol : ℕ) (estimator judgement : List ℕ) : ℕ → List ℕ → List ℕ → Type 0 where
+  size : (VerifierSizes header estimator judgement → ⊥) → Accept t header symbol estimator judgement 9 estimator judgement
+  refused : VerifierSizes header estimator judgement → {n : ℕ} {s : Estimator} → Accepting t (headerAt header) (estimatorAt estimator) symbol (verifier.refused n) s
+      → Accept t header symbol estimator judgement n estimator judgement
+  accepted : VerifierSizes header estimator judgement → {weak strong : Steps} {size : ℕ} {s : Estimator}
+      → Accepting t (headerAt header) (estimatorAt estimator) symbol (verifier.verdicts weak strong size) s → EstimatorSaved s
+      → Accept t header symbol estimator judgement 0 (estimatorBytes s) (judgementBytes weak strong size)
 
 -- the slices of a start have the lengths of their layouts, and the notion is one
 pub record StartSizes (header : List ℕ) (notion : ℕ) (enforcer : List ℕ) : Type 0 where
@@ -70,17 +70,17 @@ pub data Start (t header : List ℕ) (notion : ℕ) (enforcer : List ℕ) : ℕ 
       → Start t header notion enforcer 0 (enforcerBytes s)
 
 -- the slices of an offer have the lengths of their layouts, and the saved notion is one
-pub record OfferSizes (header enforcer released : List ℕ) : Type 0 where
+pub record OfferSizes (header enforcer release : List ℕ) : Type 0 where
   pub header-size : length header ≡ 46
   pub enforcer-size : length enforcer ≡ 178
   pub notion-known : getD enforcer 144 0 ≤ 1
-  pub released-size : length released ≡ 1
+  pub release-size : length release ≡ 2
 
--- offer: the answer, the enforcer's bytes after, the output after and the number of released symbols after
-pub data Offer (t header : List ℕ) (symbol : ℕ) (enforcer output released : List ℕ) : ℕ → List ℕ → List ℕ → List ℕ → Type 0 where
-  size : (OfferSizes header enforcer released → ⊥) → Offer t header symbol enforcer output released 9 enforcer output released
-  refused : OfferSizes header enforcer released → {n : ℕ} {s : Enforcer}
-      → Offering t (headerAt header) (enforcerAt enforcer) symbol output (offering.refused n) s output → Offer t header symbol enforcer output released n enforcer output released
-  released : OfferSizes header enforcer released → {f : ℕ} {s : Enforcer} {left : List ℕ}
-      → Offering t (headerAt header) (enforcerAt enforcer) symbol output (offering.released f) s left → EnforcerSaved s
-      → Offer t header symbol enforcer output released 0 (enforcerBytes s) left (f ∷ [])
+-- offer: the answer, the enforcer's bytes after, the output after and the release's bytes after
+pub data Offer (t header : List ℕ) (symbol : ℕ) (enforcer output release : List ℕ) : ℕ → List ℕ → List ℕ → List ℕ → Type 0 where
+  size : (OfferSizes header enforcer release → ⊥) → Offer t header symbol enforcer output release 9 enforcer output release
+  refused : OfferSizes header enforcer release → {n : ℕ} {s : Enforcer}
+      → Offering t (headerAt header) (enforcerAt enforcer) symbol output (offering.refused n) s output → Offer t header symbol enforcer output release n enforcer output release
+  released : OfferSizes header enforcer release → {f size : ℕ} {s : Enforcer} {left : List ℕ}
+      → Offering t (headerAt header) (enforcerAt enforcer) symbol output (offering.released f size) s left → EnforcerSaved s
+      → Offer t header symbol enforcer output release 0 (enforcerBytes s) left (releaseBytes f size)

@@ -85,3 +85,11 @@ verdictAt byte = cond (eqb byte 255) none (leak byte)
 abbrev pub verdictByte : Steps → ℕ
 verdictByte none = 255
 verdictByte (leak l) = l
+
+-- what an accepted answer of the verifier holds: 3 bytes. The weak verdict, the strong one, how many states are possible
+abbrev pub judgementBytes : (weak strong : Steps) (size : ℕ) → List ℕ
+judgementBytes weak strong size = verdictByte weak ∷ verdictByte strong ∷ size ∷ []
+
+-- what an accepting answer of the enforcer holds: 2 bytes. How many symbols were released, how many states are possible
+abbrev pub releaseBytes : (count size : ℕ) → List ℕ
+releaseBytes count size = count ∷ size ∷ []

@@ -12,32 +12,35 @@ use Rattle.enforcer.specs.Offers as enforcer
 use Rattle.gateway.specs.Layout.{verdictAt}
 use Rattle.gateway.specs.Interface.{Accept, Offer}
 
--- one call of accept: the symbol, the bytes lent for the verdicts, the answer, and those bytes after it
+-- one call of accept: the symbol, the bytes lent for the judgement, the answer, and those bytes after it
 pub record AcceptCall : Type 0 where
   pub symbol : ℕ
   pub lent : List ℕ
   pub answer : ℕ
   pub told : List ℕ
 
--- calls of accept, one after another: the estimator's bytes before them, the calls that lent 2 bytes for the verdicts, and the estimator's bytes after them
+-- calls of accept, one after another: the estimator's bytes before them, the calls that lent 3 bytes for the judgement, and the estimator's bytes after them
 pub data AcceptCalls (t header : List ℕ) : List ℕ → List AcceptCall → List ℕ → Type 0 where
   done : {s : List ℕ} → AcceptCalls t header s [] s
-  next : {s m e : List ℕ} {c : AcceptCall} {cs : List AcceptCall} → length (c .lent) ≡ 2 → Accept t header (c .symbol) s (c .lent) (c .answer) m (c .told)
+  next : {s m e : List ℕ} {c : AcceptCall} {cs : List AcceptCall} → length (c .lent) ≡ 3 → Accept t header (c .symbol) s (c .lent) (c .answer) m (c .told)
       → AcceptCalls t header m cs e → AcceptCalls t header s (c ∷ cs) e
   -- a call that lent another number of bytes, and so got 9, may stand between them; it is not listed
-  unsized : {s m e : List ℕ} {c : AcceptCall} {cs : List AcceptCall} → (length (c .lent) ≡ 2 → ⊥) → Accept t header (c .symbol) s (c .lent) (c .answer) m (c .told)
+  unsized : {s m e : List ℕ} {c : AcceptCall} {cs : List AcceptCall} → (length (c .lent) ≡ 3 → ⊥) → Accept t header (c .symbol) s (c .lent) (c .answer) m (c .told)
       → AcceptCalls t header m cs e → AcceptCalls t header s cs e
 
--- the verdicts that two bytes hold
+-- the verdicts and the number that three bytes hold
 abbrev pub weakAt : List ℕ → Steps
 weakAt told = verdictAt (getD told 0 0)
 
 abbrev pub strongAt : List ℕ → Steps
 strongAt told = verdictAt (getD told 1 0)
 
--- what an answer says: 0 that the bytes hold the verdicts, and else the number of a refusal
+abbrev pub sizeAt : List ℕ → ℕ
+sizeAt told = getD told 2 0
+
+-- what an answer says: 0 that the bytes hold the verdicts and the number, and else the number of a refusal
 abbrev pub acceptSaid : ℕ → List ℕ → verifier.Said
-acceptSaid zero told = verifier.verdicts (weakAt told) (strongAt told)
+acceptSaid zero told = verifier.verdicts (weakAt told) (strongAt told) (sizeAt told)
 acceptSaid (suc n) told = verifier.refused (suc n)
 
 -- what was offered and said, as the verifier's promise has it
@@ -45,30 +48,30 @@ abbrev pub callsOf : List AcceptCall → List Call
 callsOf [] = []
 callsOf (c ∷ cs) = record { byte = c .symbol; says = acceptSaid (c .answer) (c .told) } ∷ callsOf cs
 
--- one call of offer: the symbol, the output and the byte lent for the number of released symbols, the answer, and both after it
+-- one call of offer: the symbol, the output and the bytes lent for the release, the answer, and both after it
 pub record OfferCall : Type 0 where
   pub symbol : ℕ
   pub output : List ℕ
   pub lent : List ℕ
   pub answer : ℕ
   pub left : List ℕ
-  pub released : List ℕ
+  pub release : List ℕ
 
--- calls of offer, one after another: the enforcer's bytes before them, the calls that lent 1 byte for the number, and the enforcer's bytes after them
+-- calls of offer, one after another: the enforcer's bytes before them, the calls that lent 2 bytes for the release, and the enforcer's bytes after them
 pub data OfferCalls (t header : List ℕ) : List ℕ → List OfferCall → List ℕ → Type 0 where
   done : {s : List ℕ} → OfferCalls t header s [] s
-  next : {s m e : List ℕ} {c : OfferCall} {cs : List OfferCall} → length (c .lent) ≡ 1
-      → Offer t header (c .symbol) s (c .output) (c .lent) (c .answer) m (c .left) (c .released) → OfferCalls t header m cs e → OfferCalls t header s (c ∷ cs) e
+  next : {s m e : List ℕ} {c : OfferCall} {cs : List OfferCall} → length (c .lent) ≡ 2
+      → Offer t header (c .symbol) s (c .output) (c .lent) (c .answer) m (c .left) (c .release) → OfferCalls t header m cs e → OfferCalls t header s (c ∷ cs) e
   -- a call that lent another number of bytes, and so got 9, may stand between them; it is not listed
-  unsized : {s m e : List ℕ} {c : OfferCall} {cs : List OfferCall} → (length (c .lent) ≡ 1 → ⊥)
-      → Offer t header (c .symbol) s (c .output) (c .lent) (c .answer) m (c .left) (c .released) → OfferCalls t header m cs e → OfferCalls t header s cs e
+  unsized : {s m e : List ℕ} {c : OfferCall} {cs : List OfferCall} → (length (c .lent) ≡ 2 → ⊥)
+      → Offer t header (c .symbol) s (c .output) (c .lent) (c .answer) m (c .left) (c .release) → OfferCalls t header m cs e → OfferCalls t header s cs e
 
--- what an answer says: 0 that the byte is the number of released symbols, and else the number of a refusal
+-- what an answer says: 0 that the bytes are the number of released symbols and that of possible states, and else the number of a refusal
 abbrev pub offerSaid : ℕ → List ℕ → offering.Said
-offerSaid zero released = offering.released (getD released 0 0)
-offerSaid (suc n) released = offering.refused (suc n)
+offerSaid zero release = offering.released (getD release 0 0) (getD release 1 0)
+offerSaid (suc n) release = offering.refused (suc n)
 
 -- what was offered, said and left, as the enforcer's promise has it
 abbrev pub offersOf : List OfferCall → List enforcer.Offer
 offersOf [] = []
-offersOf (c ∷ cs) = record { byte = c .symbol; output = c .output; says = offerSaid (c .answer) (c .released); left = c .left } ∷ offersOf cs
+offersOf (c ∷ cs) = record { byte = c .symbol; output = c .output; says = offerSaid (c .answer) (c .release); left = c .left } ∷ offersOf cs

@@ -4,20 +4,20 @@ use automaton::Header;
 use encoding::Answer as Decoded;
 use enforcer::Enforcer;
 use enforcer::OfferAnswer;
+use enforcer::Release;
 use enforcer::StartAnswer;
 use verifier::Answer;
 use verifier::Estimator;
+use verifier::Judgement;
 use verifier::Notion;
 use verifier::Verdict;
-use verifier::Verdicts;
 ghost use mathlib.Core.Path.{_≡_};
-ghost use mathlib.Core.List.{[], _∷_};
 ghost use Prim.Native.Nat.{ℕ, _+_, _*_, _≤_, _<_, _^_};
 ghost use lib.ListN.{length, getD, set};
 ghost use lib.Seq.{sets};
 ghost use Rattle.verifier.specs.Verdicts.{stepsOf};
 ghost use Rattle.gateway.specs.Interface.{Decode, Fresh, Accept, Start, Offer};
-ghost use Rattle.gateway.specs.Layout.{numberAt, bytesOf, wordsAt, wordsBytes, bytesAt, headerAt, headerBytes, estimatorAt, estimatorBytes, EstimatorSized, EnforcerSized, notionAt, notionByte, enforcerAt, enforcerBytes, verdictByte};
+ghost use Rattle.gateway.specs.Layout.{numberAt, bytesOf, wordsAt, wordsBytes, bytesAt, headerAt, headerBytes, estimatorAt, estimatorBytes, EstimatorSized, EnforcerSized, notionAt, notionByte, enforcerAt, enforcerBytes, verdictByte, judgementBytes, releaseBytes};
 
 fn wide(x: u8) -> u64
     ensures { λ r. ⌜ r ≡ x ⌝ }
@@ -219,14 +219,24 @@ fn verdict_byte(verdict: Verdict) -> u8
     }
 }
 
-fn write_verdicts(bytes: &mut [u8], verdicts: Verdicts)
-    requires { ⌜ length (now bytes) ≡ 2 ⌝ }
-    ensures { λ _. ⌜ now (bytes .exit) ≡ verdictByte (stepsOf (verdicts .weak)) ∷ verdictByte (stepsOf (verdicts .strong)) ∷ [] ⌝ }
+fn write_judgement(bytes: &mut [u8], judgement: Judgement)
+    requires { ⌜ length (now bytes) ≡ 3 ⌝ }
+    ensures { λ _. ⌜ now (bytes .exit) ≡ judgementBytes (stepsOf (judgement .verdicts .weak)) (stepsOf (judgement .verdicts .strong)) (judgement .size) ⌝ }
 {
+    let verdicts = judgement.verdicts;
     let weak = verdicts.weak;
     let strong = verdicts.strong;
     put(bytes, 0, verdict_byte(weak));
     put(bytes, 1, verdict_byte(strong));
+    put(bytes, 2, judgement.size);
+}
+
+fn write_release(bytes: &mut [u8], release: Release)
+    requires { ⌜ length (now bytes) ≡ 2 ⌝ }
+    ensures { λ _. ⌜ now (bytes .exit) ≡ releaseBytes (release .count) (release .size) ⌝ }
+{
+    put(bytes, 0, release.count);
+    put(bytes, 1, release.size);
 }
 
 fn notion_of(byte: u8) -> Notion
@@ -298,15 +308,15 @@ pub extern "C" fn opacity_decode(encoding: &[u8], table: &mut [u64], header: &mu
     }
 }
 
-// A fresh estimator: its 144 bytes, and the two verdicts of the empty trace.
+// A fresh estimator: its 144 bytes, and in 3 bytes the two verdicts of the empty trace and how many states are possible.
 #[no_mangle]
 pub extern "C" fn opacity_fresh(
     table: &[u64],
     header: &[u8],
     estimator: &mut [u8],
-    verdicts: &mut [u8],
+    judgement: &mut [u8],
 ) -> u8
-    ensures { λ r. ⌜ Fresh (now (table .entry)) (now (header .entry)) (now (estimator .entry)) (now (verdicts .entry)) r (now (estimator .exit)) (now (verdicts .exit)) ⌝ }
+    ensures { λ r. ⌜ Fresh (now (table .entry)) (now (header .entry)) (now (estimator .entry)) (now (judgement .entry)) r (now (estimator .exit)) (now (judgement .exit)) ⌝ }
 {
     if header.len() != 46 {
         return 9;
@@ -314,7 +324,7 @@ pub extern "C" fn opacity_fresh(
     if estimator.len() != 144 {
         return 9;
     }
-    if verdicts.len() != 2 {
+    if judgement.len() != 3 {
         return 9;
     }
     let reply = Estimator::fresh(table, read_header(header));
@@ -324,22 +334,22 @@ pub extern "C" fn opacity_fresh(
         Answer::Accepted(told) => {
             let after = reply.estimator;
             write_estimator(estimator, after);
-            write_verdicts(verdicts, told);
+            write_judgement(judgement, told);
             0
         }
     }
 }
 
-// Accepts one symbol: the estimator after it, and the two verdicts.
+// Accepts one symbol: the estimator after it, the two verdicts, and how many states are possible.
 #[no_mangle]
 pub extern "C" fn opacity_accept(
     table: &[u64],
     header: &[u8],
     symbol: u8,
     estimator: &mut [u8],
-    verdicts: &mut [u8],
+    judgement: &mut [u8],
 ) -> u8
-    ensures { λ r. ⌜ Accept (now (table .entry)) (now (header .entry)) symbol (now (estimator .entry)) (now (verdicts .entry)) r (now (estimator .exit)) (now (verdicts .exit)) ⌝ }
+    ensures { λ r. ⌜ Accept (now (table .entry)) (now (header .entry)) symbol (now (estimator .entry)) (now (judgement .entry)) r (now (estimator .exit)) (now (judgement .exit)) ⌝ }
 {
     if header.len() != 46 {
         return 9;
@@ -347,7 +357,7 @@ pub extern "C" fn opacity_accept(
     if estimator.len() != 144 {
         return 9;
     }
-    if verdicts.len() != 2 {
+    if judgement.len() != 3 {
         return 9;
     }
     let before = read_estimator(estimator);
@@ -358,7 +368,7 @@ pub extern "C" fn opacity_accept(
         Answer::Accepted(told) => {
             let after = reply.estimator;
             write_estimator(estimator, after);
-            write_verdicts(verdicts, told);
+            write_judgement(judgement, told);
             0
         }
     }
@@ -390,7 +400,7 @@ pub extern "C" fn opacity_start(table: &[u64], header: &[u8], notion: u8, enforc
     }
 }
 
-// Offers one symbol: the enforcer after it, the released symbols at the front of the output, and their number in one byte.
+// Offers one symbol: the enforcer after it, the released symbols at the front of the output, and in 2 bytes their number and how many states are possible.
 #[no_mangle]
 pub extern "C" fn opacity_offer(
     table: &[u64],
@@ -398,9 +408,9 @@ pub extern "C" fn opacity_offer(
     symbol: u8,
     enforcer: &mut [u8],
     output: &mut [u8],
-    released: &mut [u8],
+    release: &mut [u8],
 ) -> u8
-    ensures { λ r. ⌜ Offer (now (table .entry)) (now (header .entry)) symbol (now (enforcer .entry)) (now (output .entry)) (now (released .entry)) r (now (enforcer .exit)) (now (output .exit)) (now (released .exit)) ⌝ }
+    ensures { λ r. ⌜ Offer (now (table .entry)) (now (header .entry)) symbol (now (enforcer .entry)) (now (output .entry)) (now (release .entry)) r (now (enforcer .exit)) (now (output .exit)) (now (release .exit)) ⌝ }
 {
     if header.len() != 46 {
         return 9;
@@ -411,7 +421,7 @@ pub extern "C" fn opacity_offer(
     if 1 < enforcer[144] {
         return 9;
     }
-    if released.len() != 1 {
+    if release.len() != 2 {
         return 9;
     }
     let before = read_enforcer(enforcer);
@@ -419,10 +429,10 @@ pub extern "C" fn opacity_offer(
     let answer = given.answer;
     match answer {
         OfferAnswer::Refused(refusal) => automaton::number(refusal),
-        OfferAnswer::Released(count) => {
+        OfferAnswer::Released(told) => {
             let after = given.enforcer;
             write_enforcer(enforcer, after);
-            put(released, 0, count);
+            write_release(release, told);
             0
         }
     }

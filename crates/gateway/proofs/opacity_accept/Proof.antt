@@ -13,7 +13,7 @@ returns-2 : tie.Need-returns-2
 returns-2 c = Accept.size (λ s. c .if2 .taken (s .estimator-size))
 
 returns-3 : tie.Need-returns-3
-returns-3 c = Accept.size (λ s. c .if3 .taken (s .verdicts-size))
+returns-3 c = Accept.size (λ s. c .if3 .taken (s .judgement-size))
 
 read-estimator-requires : tie.Need-read-estimator-requires
 read-estimator-requires c κs = search needs
@@ -36,8 +36,8 @@ enum-known-answer-2 c = search needs
 write-estimator-requires : tie.Need-write-estimator-requires
 write-estimator-requires c κs = search needs
 
-write-verdicts-requires : tie.Need-write-verdicts-requires
-write-verdicts-requires c κs = search needs
+write-judgement-requires : tie.Need-write-judgement-requires
+write-judgement-requires c κs = search needs
 
 same-length : tie.Need-same-length
 same-length c = search needs
@@ -46,8 +46,8 @@ returns-4 : tie.Need-returns-4
 returns-4 c =
     let a = c .before .before .before .before .before .before .before .before .before .before .before .before .before .before .before .args in
     let called = c .before .before .before .before .accept in
-    accept-refused (now (a .table)) (now (a .header)) (now (a .estimator)) (now (a .verdicts)) (c .before .before .before .before .before .read-header .result) (called .result .estimator) (called .result .answer)
-    (record { header-size = c .before .before .before .before .before .before .before .before .before .before .if1 .left; estimator-size = c .before .before .before .before .before .before .before .before .before .if2 .left; verdicts-size = c .before .before .before .before .before .before .before .before .if3 .left }) (c .before .before .before .before .before .read-header .ensures)
+    accept-refused (now (a .table)) (now (a .header)) (now (a .estimator)) (now (a .judgement)) (c .before .before .before .before .before .read-header .result) (called .result .estimator) (called .result .answer)
+    (record { header-size = c .before .before .before .before .before .before .before .before .before .before .if1 .left; estimator-size = c .before .before .before .before .before .before .before .before .before .if2 .left; judgement-size = c .before .before .before .before .before .before .before .before .if3 .left }) (c .before .before .before .before .before .read-header .ensures)
     (a .symbol) (c .before .before .before .before .before .before .read-estimator .result) (c .before .before .before .before .before .before .read-estimator .ensures) (called .ensures)
     (c .before .before .answer .given .0 .0) _ (c .before .before .answer .given .1) (c .number .ensures)
 
@@ -61,10 +61,10 @@ returns-5 : tie.Need-returns-5
 returns-5 c =
     let a = c .before .before .before .before .before .before .before .before .before .before .before .before .before .before .before .before .before .before .before .before .before .before .before .args in
     let called = c .before .before .before .before .before .before .before .before .before .before .before .before .accept in
-    accept-accepted (now (a .table)) (now (a .header)) (now (a .estimator)) (now (a .verdicts)) (c .before .before .before .before .before .before .before .before .before .before .before .before .before .read-header .result) (called .result .estimator) (called .result .answer)
-    (record { header-size = c .before .before .before .before .before .before .before .before .before .before .before .before .before .before .before .before .before .before .if1 .left; estimator-size = c .before .before .before .before .before .before .before .before .before .before .before .before .before .before .before .before .before .if2 .left; verdicts-size = c .before .before .before .before .before .before .before .before .before .before .before .before .before .before .before .before .if3 .left }) (c .before .before .before .before .before .before .before .before .before .before .before .before .before .read-header .ensures)
+    accept-accepted (now (a .table)) (now (a .header)) (now (a .estimator)) (now (a .judgement)) (c .before .before .before .before .before .before .before .before .before .before .before .before .before .read-header .result) (called .result .estimator) (called .result .answer)
+    (record { header-size = c .before .before .before .before .before .before .before .before .before .before .before .before .before .before .before .before .before .before .if1 .left; estimator-size = c .before .before .before .before .before .before .before .before .before .before .before .before .before .before .before .before .before .if2 .left; judgement-size = c .before .before .before .before .before .before .before .before .before .before .before .before .before .before .before .before .if3 .left }) (c .before .before .before .before .before .before .before .before .before .before .before .before .before .read-header .ensures)
     (a .symbol) (c .before .before .before .before .before .before .before .before .before .before .before .before .before .before .read-estimator .result) (c .before .before .before .before .before .before .before .before .before .before .before .before .before .before .read-estimator .ensures) (called .ensures)
-    (c .before .before .before .before .before .before .before .before .before .before .answer2 .given .0 .0) _ _ (c .before .before .before .before .before .before .before .before .before .before .answer2 .given .1) (c .before .before .before .before .before .before .write-estimator .ensures) (c .before .before .write-verdicts .ensures)
+    (c .before .before .before .before .before .before .before .before .before .before .answer2 .given .0 .0) _ _ (c .before .before .before .before .before .before .before .before .before .before .answer2 .given .1) (c .before .before .before .before .before .before .write-estimator .ensures) (c .before .before .write-judgement .ensures)
 
 pub opacity-accept-spec : {M : Type 1} → statement M
 opacity-accept-spec =
@@ -80,7 +80,7 @@ opacity-accept-spec =
     number-requires
     enum-known-answer-2
     write-estimator-requires
-    write-verdicts-requires
+    write-judgement-requires
     same-length
     returns-4
     same-length-2

@@ -20,7 +20,7 @@ returns-3 : tie.Need-returns-3
 returns-3 c = Offer.size (λ s. omega (arith, c .if3 .taken, s .notion-known))
 
 returns-4 : tie.Need-returns-4
-returns-4 c = Offer.size (λ s. c .if4 .taken (s .released-size))
+returns-4 c = Offer.size (λ s. c .if4 .taken (s .release-size))
 
 read-enforcer-requires : tie.Need-read-enforcer-requires
 read-enforcer-requires c κs = search needs
@@ -43,8 +43,8 @@ enum-known-answer-2 c = search needs
 write-enforcer-requires : tie.Need-write-enforcer-requires
 write-enforcer-requires c κs = search needs
 
-put-requires : tie.Need-put-requires
-put-requires c κs = search needs
+write-release-requires : tie.Need-write-release-requires
+write-release-requires c κs = search needs
 
 same-length : tie.Need-same-length
 same-length c = search needs
@@ -56,9 +56,9 @@ returns-5 : tie.Need-returns-5
 returns-5 c =
     let a = c .before .before .before .before .before .before .before .before .before .before .before .before .before .before .before .before .before .before .before .before .before .args in
     let called = c .before .before .before .before .before .before .offer in
-    offer-refused (now (a .table)) (now (a .header)) (a .symbol) (now (a .enforcer)) (now (a .output)) (now (a .released)) _ (c .before .before .before .before .before .before .before .before .read-header .result) (c .before .before .before .before .before .before .before .before .before .read-enforcer .result)
+    offer-refused (now (a .table)) (now (a .header)) (a .symbol) (now (a .enforcer)) (now (a .output)) (now (a .release)) _ (c .before .before .before .before .before .before .before .before .read-header .result) (c .before .before .before .before .before .before .before .before .before .read-enforcer .result)
     (called .result .enforcer) (called .result .answer)
-    (record { header-size = c .before .before .before .before .before .before .before .before .before .before .before .before .before .before .before .if1 .left; enforcer-size = c .before .before .before .before .before .before .before .before .before .before .before .before .before .before .if2 .left; notion-known = omega (arith, c .before .before .before .before .before .before .before .before .before .before .before .before .if3 .left); released-size = c .before .before .before .before .before .before .before .before .before .before .before .if4 .left })
+    (record { header-size = c .before .before .before .before .before .before .before .before .before .before .before .before .before .before .before .if1 .left; enforcer-size = c .before .before .before .before .before .before .before .before .before .before .before .before .before .before .if2 .left; notion-known = omega (arith, c .before .before .before .before .before .before .before .before .before .before .before .before .if3 .left); release-size = c .before .before .before .before .before .before .before .before .before .before .before .if4 .left })
     (c .before .before .before .before .before .before .before .before .read-header .ensures) (c .before .before .before .before .before .before .before .before .before .read-enforcer .ensures) (called .ensures)
     (c .before .before .answer .given .0 .0) _ (c .before .before .answer .given .1) (c .number .ensures)
 
@@ -75,11 +75,11 @@ returns-6 : tie.Need-returns-6
 returns-6 c =
     let a = c .before .before .before .before .before .before .before .before .before .before .before .before .before .before .before .before .before .before .before .before .before .before .before .before .before .before .before .before .before .args in
     let called = c .before .before .before .before .before .before .before .before .before .before .before .before .before .before .offer in
-    offer-released (now (a .table)) (now (a .header)) (a .symbol) (now (a .enforcer)) (now (a .output)) (now (a .released)) _ (c .before .before .before .before .before .before .before .before .before .before .before .before .before .before .before .before .read-header .result) (c .before .before .before .before .before .before .before .before .before .before .before .before .before .before .before .before .before .read-enforcer .result)
+    offer-released (now (a .table)) (now (a .header)) (a .symbol) (now (a .enforcer)) (now (a .output)) (now (a .release)) _ (c .before .before .before .before .before .before .before .before .before .before .before .before .before .before .before .before .read-header .result) (c .before .before .before .before .before .before .before .before .before .before .before .before .before .before .before .before .before .read-enforcer .result)
     (called .result .enforcer) (called .result .answer)
-    (record { header-size = c .before .before .before .before .before .before .before .before .before .before .before .before .before .before .before .before .before .before .before .before .before .before .before .if1 .left; enforcer-size = c .before .before .before .before .before .before .before .before .before .before .before .before .before .before .before .before .before .before .before .before .before .before .if2 .left; notion-known = omega (arith, c .before .before .before .before .before .before .before .before .before .before .before .before .before .before .before .before .before .before .before .before .if3 .left); released-size = c .before .before .before .before .before .before .before .before .before .before .before .before .before .before .before .before .before .before .before .if4 .left })
+    (record { header-size = c .before .before .before .before .before .before .before .before .before .before .before .before .before .before .before .before .before .before .before .before .before .before .before .if1 .left; enforcer-size = c .before .before .before .before .before .before .before .before .before .before .before .before .before .before .before .before .before .before .before .before .before .before .if2 .left; notion-known = omega (arith, c .before .before .before .before .before .before .before .before .before .before .before .before .before .before .before .before .before .before .before .before .if3 .left); release-size = c .before .before .before .before .before .before .before .before .before .before .before .before .before .before .before .before .before .before .before .if4 .left })
     (c .before .before .before .before .before .before .before .before .before .before .before .before .before .before .before .before .read-header .ensures) (c .before .before .before .before .before .before .before .before .before .before .before .before .before .before .before .before .before .read-enforcer .ensures) (called .ensures)
-    (c .before .before .before .before .before .before .before .before .before .before .answer2 .given .0 .0) _ _ (c .before .before .before .before .before .before .before .before .before .before .answer2 .given .1) (c .before .before .before .before .before .before .write-enforcer .ensures) (c .before .before .put .ensures)
+    (c .before .before .before .before .before .before .before .before .before .before .answer2 .given .0 .0) _ _ (c .before .before .before .before .before .before .before .before .before .before .answer2 .given .1) (c .before .before .before .before .before .before .write-enforcer .ensures) (c .before .before .write-release .ensures)
 
 pub opacity-offer-spec : {M : Type 1} → statement M
 opacity-offer-spec =
@@ -97,7 +97,7 @@ opacity-offer-spec =
     number-requires
     enum-known-answer-2
     write-enforcer-requires
-    put-requires
+    write-release-requires
     same-length
     same-length-2
     returns-5

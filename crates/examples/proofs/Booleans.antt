@@ -3,8 +3,10 @@ use mathlib.Core.Path.{_≡_, refl, sym, subst, ap₂}
 use mathlib.Core.Bool.{Bool, true, false, not, _&&_, _||_, Bool·beq}
 use mathlib.Core.List.{List, [], _∷_}
 use mathlib.Core.Logic.{_⊎_, inl, inr}
-use Prim.Native.Nat.{ℕ}
+use Prim.Native.Nat.{ℕ, suc, _<_}
+use native.Mathlib.Omega.{arith}
 use lib.Dec.{T, eqb, eqb→eq, eqb-refl}
+use lib.ListN.{length, getD}
 
 pub and-left : (a b : Bool) → T (a && b) → T a
 and-left true b t = tt
@@ -116,3 +118,12 @@ module _ {A : Type 0} where
         | inl h ↦ record { item = x; first = and-left (f x) (every f xs) s; second = h }
         | inr h ↦ meet f g xs (and-right (f x) (every f xs) s) h
       ]
+
+-- a number that is listed has a place in the list
+pub any-place : (q : ℕ) (l : List ℕ) → T (any (eqb q) l) → (i : ℕ) × (i < length l) × (getD l i 0 ≡ q)
+any-place q [] t = absurd t
+any-place q (x ∷ l) t =
+    elim (or-cases (eqb q x) (any (eqb q) l) t) [
+      | inl h ↦ (0, omega arith, sym (eqb→eq q x h))
+      | inr h ↦ let w = any-place q l h in (suc (w .0), omega (arith, w .1), w .2)
+    ]

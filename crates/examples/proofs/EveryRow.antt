@@ -19,9 +19,9 @@ use Rattle.encoding.specs.Transitions.{Transition}
 use Rattle.verifier.specs.declared.Notion.{Notion}
 use Rattle.verifier.specs.declared.Notion.the-variants.{Weak, Strong}
 use Rattle.verifier.specs.Verdicts.{Steps, none, leak, Tells}
-use Rattle.verifier.specs.Replies.{Said, refused, verdicts}
+use Rattle.verifier.specs.Replies.{Said, refused, verdicts, SizeWithin}
 use Rattle.verifier.specs.Calls.{Call, takenBy, Right, Answered, AllAnswered}
-use Rattle.verifier.proofs.Exactness.{exactly}
+use Rattle.verifier.proofs.Exactness.{exactly, right-size}
 use Rattle.enforcer.specs.Offerings.{Begun, started, not-started}
 use Rattle.examples.specs.Meaning.{Question, verdicts-of, answers-after, start-of, releases-of, VerdictsAre, Opened, StartIs, ReleasedIs, EachReleases, Says, Example, Row, about, description, AboutHolds, RowHolds, All}
 use Rattle.examples.specs.StarredRows.{rows, EveryRowHolds}
@@ -29,7 +29,7 @@ use Rattle.examples.proofs.Booleans.{every, sameList, same-list, list-s
 use Rattle.examples.proofs.Checks.{Check, done, failed, checked, map, then, both, either, by, le?, eq?, all-below, some-below}
 use Rattle.examples.proofs.TableLaw.{inRange, some-table, sound}
 use Rattle.examples.proofs.Descriptions.{description?}
-use Rattle.examples.proofs.NotionChecks.{For, possible?, impossible?, tells?, longest?}
+use Rattle.examples.proofs.NotionChecks.{For, possible?, impossible?, size?, tells?, longest?}
 
 all-small : (observable : ℕ) (symbols : List ℕ) → length symbols ≡ 32 → ((e : ℕ) → e < 32 → getD symbols e 0 ≤ 31) → SmallSymbols observable symbols
 all-small observable symbols size small e i =
@@ -59,29 +59,33 @@ symbols? h =
     (both (eq? (length (h .symbols)) 32) (all-below {A = λ e. getD (h .symbols) e 0 ≤ 31} (λ e. le? (getD (h .symbols) e 0) 31) 32))
 
 -- by the definition, so exactly so in 01's words
-right : (t : List ℕ) (h : Header) (trace : List ℕ) (v w : Steps) → VerdictsAre t h trace v w → Right t h trace v w
-right t h trace v w told = record {
+right : (t : List ℕ) (h : Header) (trace : List ℕ) (v w : Steps) (n : ℕ) → SizeWithin n → VerdictsAre t h trace v w n → Right t h trace v w n
+right t h trace v w n within told = record {
   weak = exactly Weak (automatonOf t h) (h .secret) (h .k) trace v (told .weak);
   strong = exactly Strong (automatonOf t h) (h .secret) (h .k) trace w (told .strong);
+  size = right-size (automatonOf t h) trace n within (told .size);
 }
+
+abbrev within? : (n : ℕ) → Check (SizeWithin n)
+within? n = map (λ f. record { some = f .0; most = f .1 }) (both (le? 1 n) (le? n 64))
 
 module _ (ts : List Transition) (h : Header) (range : T (every inRange ts)) where
   abbrev told? : (notion : Notion) (trace : List ℕ) (v : Steps) → Check (For ts (λ t. Tells notion (automatonOf t h) (h .secret) (h .k) trace v))
   told? notion trace v = tells? ts h range (h .secret) (h .k) notion trace v
 
-  abbrev verdicts? : (trace : List ℕ) (v w : Steps) → Check (For ts (λ t. VerdictsAre t h trace v w))
-  verdicts? trace v w =
-      map (λ f x. record { possible = f .0 x; weak = f .1 .0 x; strong = f .1 .1 x })
-      (both (possible? ts h range trace) (both (told? Weak trace v) (told? Strong trace w)))
+  abbrev verdicts? : (trace : List ℕ) (v w : Steps) (n : ℕ) → Check (For ts (λ t. VerdictsAre t h trace v w n))
+  verdicts? trace v w n =
+      map (λ f x. record { possible = f .0 x; weak = f .1 .0 x; strong = f .1 .1 .0 x; size = f .1 .1 .1 x })
+      (both (possible? ts h range trace) (both (told? Weak trace v) (both (told? Strong trace w) (size? ts h range trace n))))
 
   abbrev answered? : (trace : List ℕ) (byte : ℕ) (s : Said) → Check (For ts (λ t. Answered t h trace byte s))
   answered? trace byte (refused n) =
       map (λ f x. ⊎-elim (λ a. inl a) (λ b. inr (b .0, b .1 .0, b .1 .1 x)) f)
       (either (both (eq? n 6) (not-observable? h byte))
       (both (eq? n 7) (both (observable? h byte) (impossible? ts h range (trace ++ byte ∷ [])))))
-  answered? trace byte (verdicts v w) =
-      map (λ f x. (f .0, f .1 x .possible, right (x .table) h (trace ++ byte ∷ []) v w (f .1 x)))
-      (both (observable? h byte) (verdicts? (trace ++ byte ∷ []) v w))
+  answered? trace byte (verdicts v w n) =
+      map (λ f x. (f .0, f .1 .1 x .possible, right (x .table) h (trace ++ byte ∷ []) v w n (f .1 .0) (f .1 .1 x)))
+      (both (observable? h byte) (both (within? n) (verdicts? (trace ++ byte ∷ []) v w n)))
 
   abbrev all-answered? : (calls : List Call) (trace : List ℕ) → Check (For ts (λ t. AllAnswered t h trace calls))
   all-answered? [] trace = done (λ x. AllAnswered.end)
@@ -114,7 +118,7 @@ module _ (ts : List Transition) (h : Header) (range : T (every inRange ts)) wher
       (both (released? notion (accepted ++ e ∷ []) (out ++ now)) (each-releases? notion rest later (accepted ++ e ∷ []) (out ++ now))))
 
   abbrev says? : (q : Question) → Check (For ts (λ t. Says t h q))
-  says? (verdicts-of trace v w) = verdicts? trace v w
+  says? (verdicts-of trace v w n) = verdicts? trace v w n
   says? (answers-after trace calls) =
       map (λ f x. record { possible = f .0 x; answered = f .1 x }) (both (possible? ts h range trace) (all-answered? calls trace))
   says? (start-of notion answer) = start? notion answer

@@ -1,12 +1,14 @@
--- Checks of verdicts and safe prefixes, each for every table that holds the listed transitions. Assumes nothing.
-use mathlib.Core.Bool.{Bool, true, false}
+-- Checks of verdicts, numbers of possible states and safe prefixes, each for every table that holds the listed transitions. Assumes nothing.
+use mathlib.Core.Path.{_≡_}
+use mathlib.Core.Bool.{Bool, true, false, not}
 use mathlib.Core.List.{List, []}
 use mathlib.Core.Logic.{inl, inr, ⊎-elim}
-use Prim.Native.Nat.{ℕ, suc, _+_, _-_, _≤_}
+use Prim.Native.Nat.{ℕ, suc, _+_, _-_, _≤_, _<_}
 use native.Mathlib.Omega.{arith}
-use lib.Dec.{T}
-use lib.ListN.{length, take}
+use lib.Dec.{T, eqb, T-not}
+use lib.ListN.{length, getD, take}
 use Rattle.automaton.specs.Run.{Automaton, automatonOf, shows, Possible, Impossible}
+use Rattle.automaton.specs.Reaching.{EstimateSize}
 use Rattle.automaton.specs.Notion.{SureAt, ClearFrom}
 use Rattle.automaton.specs.declared.Header.{Header}
 use Rattle.encoding.specs.Transitions.{Transition}
@@ -17,13 +19,13 @@ use Rattle.enforcer.specs.SafePrefix.{Excused, Safe, SafeByRuns, Unsafe}
 use Rattle.enforcer.specs.Queues.{Longest}
 use Rattle.enforcer.proofs.SafeLaws.{by-runs-safe, unsafe-not-safe}
 use Rattle.examples.specs.Meaning.{TableOf}
-use Rattle.examples.proofs.Booleans.{every}
-use Rattle.examples.proofs.Checks.{Check, map, both, either, by, le?, where-le, all-below, some-below, Below}
+use Rattle.examples.proofs.Booleans.{every, eq-eqb}
+use Rattle.examples.proofs.Checks.{Check, map, both, either, by, le?, eq?, where-le, all-below, some-below, Below}
 use Rattle.examples.proofs.Search as search
 use Rattle.examples.proofs.SearchLaws.{Flagged, Unflagged, none-sound, some-sound}
 use Rattle.examples.proofs.TableLaw.{inRange, listing}
 use Rattle.examples.proofs.NotionLaws as laws
-use Rattle.examples.proofs.NotionLaws.{nowhere, outAt, inFrom}
+use Rattle.examples.proofs.NotionLaws.{nowhere, endsAt, endsOutside, outAt, inFrom}
 
 -- a run that excuses the system from count n - K on
 pub excused : (p : Automaton) (secret K : ℕ) (first : List ℕ) (n : ℕ) → ClearFrom p secret first (n - K) → Excused p secret K first n
@@ -54,6 +56,19 @@ module _ (ts : List Transition) (h : Header) (range : T (every inRange ts)) wher
 
   abbrev pub impossible? : (trace : List ℕ) → Check (For ts (λ t. Impossible (automatonOf t h) trace))
   impossible? trace = map (λ r x. laws.impossible (M x) trace (r x)) (none? nowhere false trace)
+
+  abbrev different? : (states : List ℕ) (n : ℕ) → Check ((j : ℕ) → j < n → (i : ℕ) → i < j → getD states i 0 ≡ getD states j 0 → ⊥)
+  different? states n =
+      all-below (λ j. all-below
+      (λ i. by (not (eqb (getD states i 0) (getD states j 0))) (λ t same. T-not (eqb (getD states i 0) (getD states j 0)) t (eq-eqb (getD states i 0) (getD states j 0) same))) j) n
+
+  -- how many states are possible: the search lists them
+  abbrev pub size? : (trace : List ℕ) (n : ℕ) → Check (For ts (λ t. EstimateSize (automatonOf t h) trace n))
+  size? trace n =
+      let states : List ℕ = search.ends view nowhere ts (h .initial) trace in
+      map (λ f x. laws.size (M x) trace states n (f .0) (λ i l. f .1 .0 i l x) (f .1 .1 .0 x) (f .1 .1 .1))
+      (both (eq? (length states) n) (both (all-below (λ i. some? (endsAt (getD states i 0) (length trace)) true trace) n)
+      (both (none? (endsOutside states (length trace)) true trace) (different? states n))))
 
   module _ (secret : ℕ) where
     abbrev sure? : (notion : Notion) (trace : List ℕ) (j : ℕ) → Check (For ts (λ t. Sure notion (automatonOf t h) secret trace j))

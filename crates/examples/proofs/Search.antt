@@ -79,6 +79,14 @@ module _ (view : ℕ → List ℕ) (mark : ℕ → ℕ → Bool) where
     last c [] S = S
     last c (a ∷ rest) S = last (c + 1) rest (after a c S)
 
+    -- the states in which compatible runs end, as far as it finds them
+    abbrev statesOf : List Node → List ℕ
+    statesOf [] = []
+    statesOf (x ∷ xs) = x .state ∷ statesOf xs
+
+    abbrev pub ends : ℕ → List ℕ → List ℕ
+    ends initial trace = statesOf (last 0 trace (first initial))
+
     -- the run to a node whose flag, with its own position, is b
     abbrev pick : Bool → ℕ → List Node → List Step
     pick b n [] = []

@@ -4,6 +4,7 @@ use mathlib.Core.List.{List, [], _∷_, _++_}
 use Prim.Native.Nat.{ℕ}
 use lib.ListN.{length, take}
 use Rattle.automaton.specs.Run.{automatonOf, Possible, Observable, Sound}
+use Rattle.automaton.specs.Reaching.{EstimateSize}
 use Rattle.automaton.specs.declared.Header.{Header}
 use Rattle.encoding.specs.Transitions.{Transition}
 use Rattle.encoding.specs.Table.{Holds}
@@ -25,8 +26,8 @@ pub record Example : Type 0 where
   pub header : Header
 
 pub data Question : Type 0 where
-  -- the verdicts of a trace
-  verdicts-of : (trace : List ℕ) (weak strong : Steps) → Question
+  -- the verdicts of a trace, and how many states are possible after it
+  verdicts-of : (trace : List ℕ) (weak strong : Steps) (size : ℕ) → Question
   -- the answers to bytes that are offered one after another, once the trace is accepted
   answers-after : (trace : List ℕ) → List Call → Question
   -- the answer to a start of the enforcer
@@ -34,11 +35,13 @@ pub data Question : Type 0 where
   -- the symbols that an enforcer releases with each symbol of a trace
   releases-of : Notion → (trace : List ℕ) → List (List ℕ) → Question
 
--- the verdicts are those of the definition; some run is compatible with the trace, so that no leak is an empty statement
-pub record VerdictsAre (t : List ℕ) (h : Header) (trace : List ℕ) (v w : Steps) : Type 0 where
+-- the verdicts and the number of possible states are those of the definition; some run is compatible with the trace, so that no leak is an empty
+-- statement
+pub record VerdictsAre (t : List ℕ) (h : Header) (trace : List ℕ) (v w : Steps) (n : ℕ) : Type 0 where
   pub possible : Possible (automatonOf t h) trace
   pub weak : Tells Weak (automatonOf t h) (h .secret) (h .k) trace v
   pub strong : Tells Strong (automatonOf t h) (h .secret) (h .k) trace w
+  pub size : EstimateSize (automatonOf t h) trace n
 
 -- each byte gets the answer that the verifier owes it after the bytes accepted before it; a refused byte is not one of these
 pub record AnswersAre (t : List ℕ) (h : Header) (trace : List ℕ) (calls : List Call) : Type 0 where
@@ -72,7 +75,7 @@ pub record ReleasesAre (t : List ℕ) (h : Header) (notion : Notion) (trace : Li
   pub each : EachReleases t h notion [] [] trace events
 
 abbrev pub Says : List ℕ → Header → Question → Type 0
-Says t h (verdicts-of trace weak strong) = VerdictsAre t h trace weak strong
+Says t h (verdicts-of trace weak strong size) = VerdictsAre t h trace weak strong size
 Says t h (answers-after trace calls) = AnswersAre t h trace calls
 Says t h (start-of notion answer) = StartIs t h notion answer
 Says t h (releases-of notion trace events) = ReleasesAre t h notion trace events

@@ -1,4 +1,5 @@
--- The starred examples of 01's section "Feeds to try" as one table, and examples for 02's S-2.
+-- The starred examples of 01's section "Feeds to try" as one table, with the numbers of possible states (02, S-5: for P's four lines 2, 2, 2, 1), and
+-- examples for 02's S-2.
 use mathlib.Core.List.{List, [], _∷_, _++_}
 use lib.ListN.{take, replicate}
 use Prim.Native.Nat.{ℕ, _+_, _^_}
@@ -84,46 +85,46 @@ p-symbols-bytes =
 -- K 0 and U are shown under both notions, and P's description too
 abbrev pub rows : List Row
 rows =
-    about (P 2) (verdicts-of [] none none)
-    ∷ about (P 2) (verdicts-of (1 ∷ []) none none)
-    ∷ about (P 2) (verdicts-of (1 ∷ 2 ∷ []) (leak 1) (leak 1))
-    ∷ about (P 2) (verdicts-of (1 ∷ 2 ∷ 1 ∷ []) (leak 2) (leak 2))
-    ∷ about (P 2) (verdicts-of (1 ∷ 2 ∷ 1 ∷ 1 ∷ []) none none)
+    about (P 2) (verdicts-of [] none none 2)
+    ∷ about (P 2) (verdicts-of (1 ∷ []) none none 2)
+    ∷ about (P 2) (verdicts-of (1 ∷ 2 ∷ []) (leak 1) (leak 1) 2)
+    ∷ about (P 2) (verdicts-of (1 ∷ 2 ∷ 1 ∷ []) (leak 2) (leak 2) 2)
+    ∷ about (P 2) (verdicts-of (1 ∷ 2 ∷ 1 ∷ 1 ∷ []) none none 1)
     -- refused with 7, then as after 1 2 1
-    ∷ about (P 2) (answers-after (1 ∷ 2 ∷ []) (call 2 (refused 7) ∷ call 1 (verdicts (leak 2) (leak 2)) ∷ []))
+    ∷ about (P 2) (answers-after (1 ∷ 2 ∷ []) (call 2 (refused 7) ∷ call 1 (verdicts (leak 2) (leak 2) 2) ∷ []))
     ∷ about (P 2) (answers-after (1 ∷ 2 ∷ []) (call 0 (refused 6) ∷ call 200 (refused 6) ∷ []))
     ∷ about (P 1) (releases-of Weak (1 ∷ 2 ∷ 1 ∷ 1 ∷ []) ((1 ∷ []) ∷ [] ∷ (2 ∷ 1 ∷ []) ∷ (1 ∷ []) ∷ []))
     ∷ about (P 0) (releases-of Weak (1 ∷ 2 ∷ 1 ∷ 1 ∷ []) ((1 ∷ []) ∷ (2 ∷ []) ∷ (1 ∷ []) ∷ (1 ∷ []) ∷ []))
     ∷ about (P 0) (releases-of Strong (1 ∷ 2 ∷ 1 ∷ 1 ∷ []) ((1 ∷ []) ∷ (2 ∷ []) ∷ (1 ∷ []) ∷ (1 ∷ []) ∷ []))
-    ∷ about Q (verdicts-of (1 ∷ []) none (leak 0))
+    ∷ about Q (verdicts-of (1 ∷ []) none (leak 0) 2)
     ∷ description (q-bytes 0x04 0x04) (automaton Q)
     -- without its last byte; last byte 05; one more 00; fourth byte 05
     ∷ description (take 8 (q-bytes 0x04 0x04)) (refusal 1)
     ∷ description (q-bytes 0x04 0x05) (refusal 5)
     ∷ description (q-bytes 0x04 0x04 ++ 0x00 ∷ []) (refusal 5)
     ∷ description (q-bytes 0x05 0x04) (refusal 3)
-    ∷ about T (verdicts-of [] none (leak 0))
+    ∷ about T (verdicts-of [] none (leak 0) 2)
     ∷ about T (start-of Weak started)
     ∷ about T (start-of Strong (not-started 8))
-    ∷ about One (verdicts-of [] (leak 0) (leak 0))
+    ∷ about One (verdicts-of [] (leak 0) (leak 0) 1)
     ∷ about One (start-of Weak (not-started 8))
     ∷ about One (start-of Strong (not-started 8))
     ∷ about U (releases-of Weak (1 ∷ 1 ∷ []) ([] ∷ (1 ∷ 1 ∷ []) ∷ []))
     ∷ about U (releases-of Strong (1 ∷ 1 ∷ []) ([] ∷ (1 ∷ 1 ∷ []) ∷ []))
     ∷ description p-bytes (automaton (P 2))
-    ∷ about (Pumps 0 1) (verdicts-of (0 ∷ []) (leak 0) (leak 0))
-    ∷ about (Pumps 7 7) (verdicts-of (7 ∷ []) none none)
+    ∷ about (Pumps 0 1) (verdicts-of (0 ∷ []) (leak 0) (leak 0) 1)
+    ∷ about (Pumps 7 7) (verdicts-of (7 ∷ []) none none 2)
     -- 6 is judged by the symbols: an event's number that is none is refused
-    ∷ about (Pumps 7 7) (answers-after [] (call 0 (refused 6) ∷ call 7 (verdicts none none) ∷ call 7 (refused 7) ∷ []))
+    ∷ about (Pumps 7 7) (answers-after [] (call 0 (refused 6) ∷ call 7 (verdicts none none 2) ∷ call 7 (refused 7) ∷ []))
     ∷ about (Pumps 7 7) (releases-of Weak (7 ∷ []) ((7 ∷ []) ∷ []))
     -- without symbols; with one symbol for both; cut inside the first symbol
     ∷ description (0x08 ∷ 0x20 ∷ 0x00 ∷ 0x04 ∷ 0x58 ∷ 0x00 ∷ 0x04 ∷ 0x00 ∷ 0x84 ∷ []) (automaton (Pumps 0 1))
     ∷ description pumps-bytes (automaton (Pumps 7 7))
     ∷ description (take 5 pumps-bytes) (refusal 1)
-    ∷ about Later (verdicts-of (7 ∷ []) none none)
-    ∷ about Later (verdicts-of (7 ∷ 3 ∷ []) (leak 1) (leak 1))
+    ∷ about Later (verdicts-of (7 ∷ []) none none 2)
+    ∷ about Later (verdicts-of (7 ∷ 3 ∷ []) (leak 1) (leak 1) 1)
     ∷ about Later (releases-of Weak (7 ∷ 3 ∷ 7 ∷ 7 ∷ []) ((7 ∷ []) ∷ [] ∷ [] ∷ (3 ∷ 7 ∷ 7 ∷ []) ∷ []))
-    ∷ about PSymbols (verdicts-of (2 ∷ 0 ∷ 2 ∷ []) (leak 2) (leak 2))
+    ∷ about PSymbols (verdicts-of (2 ∷ 0 ∷ 2 ∷ []) (leak 2) (leak 2) 2)
     ∷ description p-symbols-bytes (automaton PSymbols)
     ∷ []
 

@@ -18,13 +18,13 @@ const HEADER: usize = 2;
 
 const ESTIMATOR: usize = 3;
 
-const VERDICTS: usize = 4;
+const JUDGEMENT: usize = 4;
 
 const ENFORCER: usize = 5;
 
 const OUTPUT: usize = 6;
 
-const RELEASED: usize = 7;
+const RELEASE: usize = 7;
 // What is lent where a function takes nothing; its size stays 0.
 const NONE: usize = 8;
 
@@ -242,7 +242,7 @@ fn show(memory: &[u64; 36864], sizes: &[usize; 9], slot: usize) {
     if slot < NONE {
         let size = size_of(sizes, slot);
         show_name(
-            b"table    encoding header   estimatorverdicts enforcer output   released ",
+            b"table    encoding header   estimatorjudgementenforcer output   release  ",
             slot,
         );
         io::write_all(1, b" ");
@@ -268,12 +268,12 @@ fn slots_of(call: u64) -> Slots {
     }
     if call == FRESH {
         slots.first = ESTIMATOR;
-        slots.second = VERDICTS;
+        slots.second = JUDGEMENT;
         slots.byte = false;
     }
     if call == ACCEPT {
         slots.first = ESTIMATOR;
-        slots.second = VERDICTS;
+        slots.second = JUDGEMENT;
     }
     if call == START {
         slots.first = ENFORCER;
@@ -281,7 +281,7 @@ fn slots_of(call: u64) -> Slots {
     if call == OFFER {
         slots.first = ENFORCER;
         slots.second = OUTPUT;
-        slots.third = RELEASED;
+        slots.third = RELEASE;
     }
     slots
 }
@@ -394,9 +394,19 @@ fn bounded(verdict: u8, k: u8) -> bool {
     verdict <= k
 }
 
-fn verdicts_allowed(memory: &[u64; 36864]) -> bool {
+// A number of states, 1 to 64.
+fn some_states(size: u8) -> bool {
+    if size == 0 {
+        return false;
+    }
+    size <= 64
+}
+
+fn judgement_allowed(memory: &[u64; 36864]) -> bool {
     let k = byte_of(memory, HEADER, 1);
-    bounded(byte_of(memory, VERDICTS, 0), k) & bounded(byte_of(memory, VERDICTS, 1), k)
+    let verdicts = bounded(byte_of(memory, JUDGEMENT, 0), k)
+        & bounded(byte_of(memory, JUDGEMENT, 1), k);
+    verdicts & some_states(byte_of(memory, JUDGEMENT, 2))
 }
 
 fn unchanged(memory: &[u64; 36864], slot: usize, before: &[u64; 36864]) -> bool {
@@ -404,10 +414,10 @@ fn unchanged(memory: &[u64; 36864], slot: usize, before: &[u64; 36864]) -> bool 
 }
 
 // Whether, of the symbols that were pending and the new one behind them, the first ones stand at the front of the output, with what it had behind
-// them, and the others are pending.
+// them, and the others are pending; and whether the number of states is one.
 fn release_allowed(memory: &[u64; 36864], symbol: u8, before: &[u64; 36864]) -> bool {
     let count = wide(byte_of(before, ENFORCER, PENDING));
-    let released = wide(byte_of(memory, RELEASED, 0));
+    let released = wide(byte_of(memory, RELEASE, 0));
     let pending = wide(byte_of(memory, ENFORCER, PENDING));
     if released + pending != count + 1 {
         return false;
@@ -438,7 +448,8 @@ fn release_allowed(memory: &[u64; 36864], symbol: u8, before: &[u64; 36864]) -> 
         PENDING + 1 + released,
         pending,
     );
-    front & behind & others
+    let states = some_states(byte_of(memory, RELEASE, 1));
+    front & behind & others & states
 }
 
 // Whether what a call answered and left is allowed.
@@ -461,7 +472,7 @@ fn allowed(
     if call == OFFER {
         return release_allowed(memory, symbol, before);
     }
-    verdicts_allowed(memory)
+    judgement_allowed(memory)
 }
 
 fn open_answer_of(call: u64, symbol: u8, memory: &mut [u64; 36864], sizes: &[usize; 9]) -> u8 {
@@ -670,10 +681,10 @@ fn slot_of(name: u64) -> usize {
         0x656e636f64696e67 => ENCODING,
         0x686561646572 => HEADER,
         0x7374696d61746f72 => ESTIMATOR,
-        0x7665726469637473 => VERDICTS,
+        0x756467656d656e74 => JUDGEMENT,
         0x656e666f72636572 => ENFORCER,
         0x6f7574707574 => OUTPUT,
-        0x72656c6561736564 => RELEASED,
+        0x72656c65617365 => RELEASE,
         _ => NONE,
     }
 }

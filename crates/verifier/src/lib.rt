@@ -4,10 +4,10 @@ use automaton::Refusal;
 ghost use mathlib.Core.Path.{_≡_};
 ghost use mathlib.Core.List.{List, [], _∷_, _++_};
 ghost use Prim.Native.Nat.{ℕ, _+_, _≤_, _<_, min};
-ghost use lib.ListN.{length, getD};
+ghost use lib.ListN.{length, getD, replicate};
 ghost use Rattle.stateset.specs.Set.{In, Is, Decided};
 ghost use Rattle.automaton.specs.Run.{Automaton, automatonOf, Possible, Sound};
-ghost use Rattle.automaton.specs.Reaching.{Enters, Arrives, Showing, Known, Gained, Closed};
+ghost use Rattle.automaton.specs.Reaching.{Enters, Arrives, Showing, Known, Gained, Closed, Entered};
 ghost use Rattle.automaton.specs.Relation.{Sub};
 ghost use Rattle.verifier.specs.declared.Notion.the-variants as notion;
 ghost use Rattle.verifier.specs.Estimators.{Limits, Grown};
@@ -223,7 +223,7 @@ fn weak_verdict(
     estimate: u64,
     last: u8,
 ) -> Verdict
-    requires { ⌜ Prepared (now table) header (now sets) estimator (now silent) (now back) states × (last ≤ estimator .count)
+    requires { ⌜ Prepared (now table) header (now sets) estimator (now silent) (now back) states last × (last ≤ estimator .count)
         × UnobservableReach (automatonOf (now table) header) (getD (estimator .entries) 0 0) estimate ⌝ }
     ensures { λ r. ⌜ Found notion.Weak (automatonOf (now (table .entry)) header) (header .secret) last estimator r ⌝ }
 {
@@ -268,7 +268,7 @@ fn strong_verdict(
     states: u64,
     last: u8,
 ) -> Verdict
-    requires { ⌜ Prepared (now table) header (now sets) estimator (now silent) (now back) states × (last ≤ estimator .count) ⌝ }
+    requires { ⌜ Prepared (now table) header (now sets) estimator (now silent) (now back) states last × (last ≤ estimator .count) ⌝ }
     ensures { λ r. ⌜ Found notion.Strong (automatonOf (now (table .entry)) header) (header .secret) last estimator r ⌝ }
 {
     let symbols = estimator.symbols;
@@ -303,7 +303,7 @@ fn judge(
     estimate: u64,
     asked: Asked,
 ) -> Verdicts
-    requires { ⌜ Prepared (now table) header (now sets) estimator (now silent) (now back) states
+    requires { ⌜ Prepared (now table) header (now sets) estimator (now silent) (now back) states (estimator .count)
         × UnobservableReach (automatonOf (now table) header) (getD (estimator .entries) 0 0) estimate ⌝ }
     ensures { λ r. ⌜ Judged (now (table .entry)) header estimator asked r ⌝ }
 {
@@ -332,6 +332,17 @@ fn judge(
     }
 }
 
+// The unobservable events the other way round, where a look back over `last` steps needs them: where it takes no step, it does not, and the array stays.
+fn turn_back(silent: &[u64], states: u64, last: u8, back: &mut [u64])
+    requires { ⌜ (length (now silent) ≡ 64) × (now back ≡ replicate 64 0) ⌝ }
+    ensures { λ _. ⌜ (0 < last → (p : Automaton) → Closed p states (now (silent .entry)) → Entered p states (now (back .exit))) ⌝ }
+{
+    if last == 0 {
+        return;
+    }
+    automaton::silent_back(silent, states, back);
+}
+
 // What an accepted answer holds, from the estimate that was worked out last: the verdicts of a look back, and the number of its states.
 fn assess(
     estimator: Estimator,
@@ -346,7 +357,7 @@ fn assess(
     ensures { λ r. ⌜ Judged (now (table .entry)) header estimator asked (r .verdicts) × (r .size ≡ estimate .size) ⌝ }
 {
     let mut back = [0u64; 64];
-    automaton::silent_back(silent, estimate.near, &mut back);
+    turn_back(silent, estimate.near, estimator.count, &mut back);
     let verdicts = judge(
         estimator,
         table,

@@ -74,7 +74,7 @@ begin u = u .before .before .before .before .before .before .before
 -- an automaton for which holds what was prepared for this call
 abbrev Good : tie.At-steps Inv-states μ-states Inv-steps μ-steps → Automaton → Type 0
 Good u p =
-    Looks p (begin u .args .table .now) (begin u .args .sets .now) (begin u .args .estimator .entries) (begin u .args .silent .now) (begin u .args .back .now) (begin u .args .states)
+    Looks p (begin u .args .table .now) (begin u .args .sets .now) (begin u .args .estimator .entries) (begin u .args .silent .now) (begin u .args .back .now) (begin u .args .states) (begin u .args .last)
 
 -- what holds for each of these and each trace that is remembered
 abbrev Each : tie.At-steps Inv-states μ-states Inv-steps μ-steps → (Automaton → List ℕ → Type 0) → Type 0
@@ -132,7 +132,7 @@ follows-next : (c : tie.After-backward-reach Inv-states μ-states Inv-steps μ-s
     Follows p (begin (c .before .before .before .before .before .before) .args .states) trace (c .before .before .before .before .before .before .steps .l + 1) (c .backward-reach .result))
 follows-next c p trace g m r =
     let s = c .before .before .before .before .before .before .steps in
-    follows-step p _ trace _ _ _ _ _ m (omega arith) (c .backward-reach .ensures p _ _ _ (g .table-is) (showing (c .before) p g) (g .back-are) (λ q i. i) (s .inv .1 p trace g m r))
+    follows-step p _ trace _ _ _ _ _ m (omega arith) (c .backward-reach .ensures p _ _ _ (g .table-is) (showing (c .before) p g) (g .back-are (omega arith)) (λ q i. i) (s .inv .1 p trace g m r))
 
 -- and the loop takes up step l + 1, with a part of m(l + 1) that decides
 steps-again : tie.Need-steps-again Inv-states μ-states Inv-steps μ-steps
@@ -203,7 +203,7 @@ events-with-requires c κs = begin (c .before .before .before .before) .pre .0 .
 backward-reach-requires : tie.Need-backward-reach-requires Inv-states μ-states Inv-steps μ-steps
 backward-reach-requires c κs =
     let a = begin (c .before .before .before .before .before) in
-    (a .pre .0 .sound .words, a .pre .0 .looks .back-are .size, λ e i. showing c _ (a .pre .0 .looks) .sound e i .0)
+    (a .pre .0 .sound .words, a .pre .0 .looks .back-are (omega arith) .size, λ e i. showing c _ (a .pre .0 .looks) .sound e i .0)
 
 add-l : tie.Need-add-l Inv-states μ-states Inv-steps μ-steps
 add-l c = omega arith

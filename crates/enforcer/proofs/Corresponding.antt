@@ -29,18 +29,19 @@ use Rattle.automaton.proofs.Spelling.{
   join-events,
   take-events,
   drop-events,
+  alike-agree,
   alike-possible,
   alike-impossible,
   distinct-alike,
   spelled-own,
   same-agree,
 }
-use Rattle.automaton.proofs.Agreeing.{possible-agree, impossible-agree}
+use Rattle.automaton.proofs.Agreeing.{possible-agree, impossible-agree, size-agree}
 use Rattle.automaton.proofs.Headers.{both-observable, own-sound, same-observable, same-sound, relabelled, same-header}
 use Rattle.verifier.specs.declared.Notion.{Notion}
 use Rattle.verifier.specs.Verdicts.{Steps, none, leak, Tells}
 use Rattle.verifier.proofs.Exactness.{in-words, exactly}
-use Rattle.verifier.proofs.Agreed.{alike-tells, same-tells}
+use Rattle.verifier.proofs.Agreed.{alike-tells, sizes-agree, same-tells}
 use Rattle.enforcer.specs.SafePrefix.{Safe}
 use Rattle.enforcer.specs.Queues.{Longest}
 use Rattle.enforcer.specs.Enforcers.{Grown}
@@ -58,7 +59,7 @@ use Rattle.enforcer.specs.Offers.{
   not-observable,
   incompatible,
   LetThrough,
-  ByTable,
+  Answered,
 }
 use Rattle.enforcer.specs.Paired.{SameOffered, SameAnswered, Corresponds, OffersFollow}
 use Rattle.enforcer.specs.declared.Enforcer.{Enforcer}
@@ -113,19 +114,25 @@ module _ (t : List ℕ) (h h′ : Header) (like : Alike (automatonOf t h) (autom
       taken : Same (takenBy r (o .byte)) (takenBy r′ (o′ .byte))
       says : countBy r ≡ countBy r′ → r ≡ r′
 
-    judged-alike : (r r′ : Said) → ByTable t h a o r → ByTable t h′ b o′ r′ → JudgedAlike r r′
+    judged-alike : (r r′ : Said) → Answered t h a o r → Answered t h′ b o′ r′ → JudgedAlike r r′
     judged-alike (refused m) (refused n) y z =
         record {
           taken = no-events _ _;
           says = λ c. ap refused (one-number t h′ b (o′ .byte) (o′ .output) m n (turned-too m (offered .bytes) y) z);
         }
-    judged-alike (refused m) (released f) y z = absurd (not-both t h′ b (o′ .byte) (o′ .output) m (turned-too m (offered .bytes) y) z)
-    judged-alike (released f) (refused n) y z = absurd (not-both t h′ b (o′ .byte) (o′ .output) n z (through-too (offered .bytes) y))
-    judged-alike (released f) (released g) y z = record { taken = taken (offered .bytes); says = λ c. ap released c }
+    judged-alike (refused m) (released f i) y z = absurd (not-both t h′ b (o′ .byte) (o′ .output) m (turned-too m (offered .bytes) y) (z .0))
+    judged-alike (released f i) (refused n) y z = absurd (not-both t h′ b (o′ .byte) (o′ .output) n z (through-too (offered .bytes) (y .0)))
+    judged-alike (released f i) (released g j) y z = record { taken = taken; says = λ c. ap₂ released c sizes }
       where
-        taken : SameByte t h h′ (o .byte) (o′ .byte) → Same (o .byte ∷ []) (o′ .byte ∷ [])
-        taken (of-event e) = one-event _ _ (o .byte) (o′ .byte) e
-        taken (of-none never never′) = absurd (never (y .observable))
+        one : SameByte t h h′ (o .byte) (o′ .byte) → Same (o .byte ∷ []) (o′ .byte ∷ [])
+        one (of-event e) = one-event _ _ (o .byte) (o′ .byte) e
+        one (of-none never never′) = absurd (never (y .0 .observable))
+
+        taken : Same (o .byte ∷ []) (o′ .byte ∷ [])
+        taken = one (offered .bytes)
+
+        sizes : i ≡ j
+        sizes = sizes-agree _ _ _ _ (alike-agree _ _ like _ _ (join-events _ _ a b _ _ x taken)) i j (y .1) (z .1)
 
   module _ (notion : Notion) (secret : h .secret ≡ h′ .secret) (k : h .k ≡ h′ .k) where
     -- enforcers of traces with the same events behind them have released as many
@@ -285,11 +292,12 @@ module _ (t : List ℕ) (h : Header) (symbols : List ℕ) (g : SameSymbols (auto
   offering-to self byte output r after left (Offering.incompatible so li wide ob nobody) =
       Offering.incompatible (sound-to so) li wide (same-observable t h other g byte .0 ob) (λ notion trace x.
       impossible-agree _ _ _ _ (same-agree _ _ g (trace ++ byte ∷ [])) (nobody notion trace (same-grown _ _ g notion (h .secret) (h .k) trace self .1 x)))
-  offering-to self byte output r after left (Offering.accepted so li wide ob la bal front rest exact) =
-      Offering.accepted (sound-to so) li wide (same-observable t h other g byte .0 ob) la bal front rest (λ notion trace x.
+  offering-to self byte output r after left (Offering.accepted {size = n} so li wide ob la bal front rest within exact) =
+      Offering.accepted (sound-to so) li wide (same-observable t h other g byte .0 ob) la bal front rest within (λ notion trace x.
       let y = exact notion trace (same-grown _ _ g notion (h .secret) (h .k) trace self .1 x) in
       record {
         possible = possible-agree _ _ _ _ (same-agree _ _ g (trace ++ byte ∷ [])) (y .possible);
+        size = size-agree _ _ _ _ (same-agree _ _ g (trace ++ byte ∷ [])) n (y .size);
         grown = same-grown _ _ g notion (h .secret) (h .k) (trace ++ byte ∷ []) after .0 (y .grown);
       })
 

@@ -1,9 +1,11 @@
 -- An offer's outcome, from what the verifier said and what was taken in. Assumes nothing.
+use mathlib.Core.Path.{sym, subst}
 use mathlib.Core.List.{List, [], _∷_, _++_}
 use Prim.Native.Nat.{ℕ, _+_, _≤_}
 use native.Mathlib.Omega.{arith}
 use lib.ListN.{length}
 use Rattle.automaton.specs.Run.{automatonOf, Sound}
+use Rattle.automaton.specs.Reaching.{EstimateSize}
 use Rattle.automaton.specs.declared.Header.{Header}
 use Rattle.automaton.proofs.SymbolSets.{observable-small}
 use Rattle.verifier.specs.declared.Notion.{Notion}
@@ -13,7 +15,7 @@ use Rattle.verifier.specs.declared.Verdicts.{Verdicts}
 use Rattle.verifier.specs.declared.Estimator.{Estimator}
 use Rattle.verifier.specs.Verdicts.{stepsOf, Tells}
 use Rattle.verifier.specs.Replies as verifier
-use Rattle.verifier.specs.Replies.{Accepting, Moved, TellsBy}
+use Rattle.verifier.specs.Replies.{SizeWithin, Accepting, Moved, TellsBy}
 use Rattle.enforcer.specs.Enforcers.{Limits}
 use Rattle.enforcer.specs.Offerings.{refused, said, Offering, Exact, not-observable, incompatible, accepted}
 use Rattle.verifier.specs.Replies.{chosen}
@@ -31,16 +33,17 @@ refused-outcome t h self byte output n s pending wide (Accepting.incompatible so
     incompatible so (limits-joined (h .k) self li pending) wide ob (λ notion trace g. none trace (g .estimator))
 
 -- the verdict by the notion
-pub chosen-tells : (notion : Notion) (t : List ℕ) (h : Header) (trace : List ℕ) (v : Verdicts) (s : Estimator) → verifier.Exact t h trace (stepsOf (v .weak)) (stepsOf (v .strong)) s
+pub chosen-tells : (notion : Notion) (t : List ℕ) (h : Header) (trace : List ℕ) (v : Verdicts) (n : ℕ) (s : Estimator)
+    → verifier.Exact t h trace (stepsOf (v .weak)) (stepsOf (v .strong)) n s
     → Tells notion (automatonOf t h) (h .secret) (h .k) trace (stepsOf (chosen notion v))
-chosen-tells Weak t h trace v s x = x .weak
-chosen-tells Strong t h trace v s x = x .strong
+chosen-tells Weak t h trace v n s x = x .weak
+chosen-tells Strong t h trace v n s x = x .strong
 
-pub taken-outcome : (t : List ℕ) (h : Header) (self : Enforcer) (byte : ℕ) (output : List ℕ) (v : Verdict) (s : Estimator) (r : OfferAnswer) (after : Enforcer) (left : List ℕ)
-    → Sound t h → Limits (h .k) self → 17 ≤ length output → Moved t h (self .estimator) byte s → TellsBy (self .notion) t h (self .estimator) byte (stepsOf v)
-    → Took (h .k) self s (waitOf (h .k) (stepsOf v)) byte output r after left → Offering t h self byte output (said r) after left
-taken-outcome t h self byte output v s (offer.Refused r) after left so li wide moved told took = absurd took
-taken-outcome t h self byte output v s (offer.Released f) after left so li wide moved told took =
+pub taken-outcome : (t : List ℕ) (h : Header) (self : Enforcer) (byte : ℕ) (output : List ℕ) (v : Verdict) (size : ℕ) (s : Estimator) (r : OfferAnswer) (after : Enforcer)
+    (left : List ℕ) → Sound t h → Limits (h .k) self → 17 ≤ length output → Moved t h (self .estimator) byte size s → TellsBy (self .notion) t h (self .estimator) byte (stepsOf v)
+    → Took (h .k) self s (waitOf (h .k) (stepsOf v)) size byte output r after left → Offering t h self byte output (said r) after left
+taken-outcome t h self byte output v size s (offer.Refused r) after left so li wide moved told took = absurd took
+taken-outcome t h self byte output v size s (offer.Released r) after left so li wide moved told (took, same) =
     let enough = took .shifted .ready .enough in
     let bal = took .shifted .balance in
     let ob = moved .observable in
@@ -49,11 +52,12 @@ taken-outcome t h self byte output v s (offer.Released f) after left so li wide 
       few = omega arith;
       small = took .small (observable-small t h byte so ob) (li .small);
     } in
-    accepted so li wide ob limits (took .shifted .balance) (took .front) (took .shifted .rest)
+    accepted so li wide ob limits (took .shifted .balance) (took .front) (took .shifted .rest) (subst SizeWithin (sym same) (moved .size-within))
     (λ notion trace g.
     let n = moved .grown trace (g .estimator) in
     let tells : Tells notion (automatonOf t h) (h .secret) (h .k) (trace ++ byte ∷ []) (stepsOf v) = rw (← g .under) (told .tells trace (g .estimator)) in
     record {
       possible = n .possible;
-      grown = grown-next notion (automatonOf t h) (h .secret) (h .k) trace self s (stepsOf v) byte output f after left g tells took (n .possible) n limits;
+      size = subst (EstimateSize (automatonOf t h) (trace ++ byte ∷ [])) (sym same) (moved .size trace (g .estimator));
+      grown = grown-next notion (automatonOf t h) (h .secret) (h .k) trace self s (stepsOf v) byte output (r .count) after left g tells took (n .possible) n limits;
     })

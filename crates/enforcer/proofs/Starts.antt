@@ -32,12 +32,12 @@ pub start-refused : (t : List ℕ) (h : Header) (notion : Notion) (n : ℕ) (e :
     → Starting t h notion (not-started n) s
 start-refused t h notion n e s (Opening.malformed bad out) c = Starting.malformed bad (unusable s c)
 
-pub start-open : (t : List ℕ) (h : Header) (notion : Notion) (v : Verdicts) (e : Estimator) (s : Enforcer) (l : ℕ)
-    → Opening t h (verifier.verdicts (stepsOf (v .weak)) (stepsOf (v .strong))) e → chosen notion v ≡ Leak l → s .count ≡ 255
+pub start-open : (t : List ℕ) (h : Header) (notion : Notion) (v : Verdicts) (n : ℕ) (e : Estimator) (s : Enforcer) (l : ℕ)
+    → Opening t h (verifier.verdicts (stepsOf (v .weak)) (stepsOf (v .strong)) n) e → chosen notion v ≡ Leak l → s .count ≡ 255
     → Starting t h notion (not-started 8) s
-start-open t h notion v e s l (Opening.opened so li x) is c =
+start-open t h notion v n e s l (Opening.opened so li within x) is c =
     let tells : Tells notion (automatonOf t h) (h .secret) (h .k) [] (leak l) =
-    subst (λ (w : Verdict). Tells notion (automatonOf t h) (h .secret) (h .k) [] (stepsOf w)) is (chosen-tells notion t h [] v e x) in
+    subst (λ (w : Verdict). Tells notion (automatonOf t h) (h .secret) (h .k) [] (stepsOf w)) is (chosen-tells notion t h [] v n e x) in
     let z : l ≡ 0 = omega (arith, tells .reached) in
     Starting.initial-leak so (subst (λ (k : ℕ). Tells notion (automatonOf t h) (h .secret) (h .k) [] (leak k)) z tells) (unusable s c)
 
@@ -55,12 +55,12 @@ fresh-grown notion p secret K e pending waits padded padded′ li observed-trace
       queue = queue-start (Safe notion p secret K) pending waits (safe-wait notion p secret K [] none tells 0 (omega arith) (omega arith));
     }
 
-pub start-ready : (t : List ℕ) (h : Header) (notion : Notion) (v : Verdicts) (e : Estimator) (pending waits : List ℕ) → Padded 16 0 pending → Padded 16 0 waits
-    → Opening t h (verifier.verdicts (stepsOf (v .weak)) (stepsOf (v .strong))) e → chosen notion v ≡ NoLeak
+pub start-ready : (t : List ℕ) (h : Header) (notion : Notion) (v : Verdicts) (n : ℕ) (e : Estimator) (pending waits : List ℕ) → Padded 16 0 pending → Padded 16 0 waits
+    → Opening t h (verifier.verdicts (stepsOf (v .weak)) (stepsOf (v .strong)) n) e → chosen notion v ≡ NoLeak
     → Starting t h notion started (record { estimator = e; notion = notion; count = 0; pending = pending; waits = waits })
-start-ready t h notion v e pending waits padded padded′ (Opening.opened so li x) is =
+start-ready t h notion v n e pending waits padded padded′ (Opening.opened so li within x) is =
     let tells : Tells notion (automatonOf t h) (h .secret) (h .k) [] none =
-    subst (λ (w : Verdict). Tells notion (automatonOf t h) (h .secret) (h .k) [] (stepsOf w)) is (chosen-tells notion t h [] v e x) in
+    subst (λ (w : Verdict). Tells notion (automatonOf t h) (h .secret) (h .k) [] (stepsOf w)) is (chosen-tells notion t h [] v n e x) in
     Starting.ready so tells (fresh-grown notion (automatonOf t h) (h .secret) (h .k) e pending waits padded padded′ li (x .possible) (x .grown) tells)
 
 outside : {t : List ℕ} {h : Header} {notion : Notion} {n : ℕ} {s : Enforcer} → Starting t h notion (not-started n) s → Unusable s
@@ -74,4 +74,4 @@ refused-start t h notion n s x t′ h′ byte output r m left (Offering.malforme
 refused-start t h notion n s x t′ h′ byte output r m left (Offering.output-too-small so li few) = absurd (outside x (h′ .k) (so .back) li)
 refused-start t h notion n s x t′ h′ byte output r m left (Offering.not-observable so li wide never) = absurd (outside x (h′ .k) (so .back) li)
 refused-start t h notion n s x t′ h′ byte output r m left (Offering.incompatible so li wide ob never) = absurd (outside x (h′ .k) (so .back) li)
-refused-start t h notion n s x t′ h′ byte output r m left (Offering.accepted so li wide ob after bal front rest exact) = absurd (outside x (h′ .k) (so .back) li)
+refused-start t h notion n s x t′ h′ byte output r m left (Offering.accepted so li wide ob after bal front rest within exact) = absurd (outside x (h′ .k) (so .back) li)

@@ -8,10 +8,11 @@ use lib.Seq.{length-take-le}
 use Rattle.automaton.specs.Run.{automatonOf, Sound}
 use Rattle.automaton.specs.declared.Header.{Header}
 use Rattle.verifier.specs.declared.Notion.{Notion}
+use Rattle.verifier.proofs.Exactness.{right-size}
 use Rattle.enforcer.specs.SafePrefix.{Safe}
 use Rattle.enforcer.specs.Enforcers.{Grown}
 use Rattle.enforcer.specs.Offerings.{Said, refused, started, Starting, Offering}
-use Rattle.enforcer.specs.Offers.{Offer, Offered, Offers, acceptedOf, releasedCount, releasedOf, TurnedBack, ByTable, Promise}
+use Rattle.enforcer.specs.Offers.{Offer, Offered, Offers, acceptedOf, releasedCount, releasedOf, TurnedBack, Answered, Promise}
 use Rattle.enforcer.specs.declared.Enforcer.{Enforcer}
 use Rattle.enforcer.proofs.SafeLaws.{safe-laws, safe-by-runs, not-safe-unsafe}
 use Rattle.automaton.proofs.Traces.{prefix-possible}
@@ -25,7 +26,7 @@ module _ (notion : Notion) (t : List ℕ) (h : Header) (sound : Sound t h) where
   GrownBy trace s = Grown notion (automatonOf t h) (h .secret) (h .k) trace s
 
   abbrev Table : List ℕ → Offer → Type 0
-  Table trace o = ByTable t h trace o (o .says)
+  Table trace o = Answered t h trace o (o .says)
 
   abbrev pendingCount : Enforcer → ℕ
   pendingCount s = s .count
@@ -45,12 +46,12 @@ module _ (notion : Notion) (t : List ℕ) (h : Header) (sound : Sound t h) where
   one trace s b output r m left g (Offering.output-too-small so li few) = turned trace s b output left 10 g (TurnedBack.output-too-small few)
   one trace s b output r m left g (Offering.not-observable so li wide never) = turned trace s b output left 6 g (TurnedBack.not-observable wide never)
   one trace s b output r m left g (Offering.incompatible so li wide ob none) = turned trace s b output left 7 g (TurnedBack.incompatible wide ob (none notion trace g))
-  one trace s b output r m left g (Offering.accepted {f = f} so li wide ob after bal front rest exact) =
+  one trace s b output r m left g (Offering.accepted {f = f} {size = n} so li wide ob after bal front rest within exact) =
       let x = exact notion trace g in
       record {
-        judged = record { room = wide; observable = ob; possible = x .possible };
+        judged = (record { room = wide; observable = ob; possible = x .possible }, right-size (automatonOf t h) _ n within (x .size));
         after = x .grown;
-        passes = passes-accepted (Safe notion (automatonOf t h) (h .secret) (h .k)) trace (s .count) (s .pending) (s .waits) b f output left (m .count) (g .queue) bal front;
+        passes = passes-accepted (Safe notion (automatonOf t h) (h .secret) (h .k)) trace (s .count) (s .pending) (s .waits) b f n output left (m .count) (g .queue) bal front;
       }
 
   promise : (s : Enforcer) (os : List Offer) (e : Enforcer) → GrownBy [] s → Offers t h s os e → Promise notion t h os e

@@ -49,6 +49,7 @@ pub record TookIn (K : ℕ) (self : Enforcer) (estimator : Estimator) (w byte : 
   pub waits-padded : Padded 16 (after .count) (after .waits)
   pub small : byte ≤ 31 → ((i : ℕ) → i < self .count → getD (self .pending) i 0 ≤ 31) → (i : ℕ) → i < after .count → getD (after .pending) i 0 ≤ 31
 
-abbrev pub Took : (K : ℕ) (self : Enforcer) (estimator : Estimator) (w byte : ℕ) (output : List ℕ) → OfferAnswer → Enforcer → List ℕ → Type 0
-Took K self estimator w byte output (Refused r) after left = ⊥
-Took K self estimator w byte output (Released f) after left = TookIn K self estimator w byte output f after left
+-- and the answer: how many go, and the number of possible states as it was given
+abbrev pub Took : (K : ℕ) (self : Enforcer) (estimator : Estimator) (w size byte : ℕ) (output : List ℕ) → OfferAnswer → Enforcer → List ℕ → Type 0
+Took K self estimator w size byte output (Refused r) after left = ⊥
+Took K self estimator w size byte output (Released r) after left = TookIn K self estimator w byte output (r .count) after left × (r .size ≡ size)

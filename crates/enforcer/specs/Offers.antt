@@ -6,6 +6,7 @@ use lib.ListN.{length, take}
 use Rattle.automaton.specs.Run.{automatonOf, Possible, Impossible, Observable}
 use Rattle.automaton.specs.declared.Header.{Header}
 use Rattle.verifier.specs.declared.Notion.{Notion}
+use Rattle.verifier.specs.Calls.{RightSize}
 use Rattle.published.specs.Source.{SafeToOutput}
 use Rattle.enforcer.specs.SafePrefix.{Safe, SafeByRuns, Unsafe}
 use Rattle.enforcer.specs.Enforcers.{Grown}
@@ -33,7 +34,7 @@ Offers t h s os e = Chain (Offered t h) s os e
 
 abbrev pub takenBy : Said → ℕ → List ℕ
 takenBy (refused n) b = []
-takenBy (released f) b = b ∷ []
+takenBy (released f size) b = b ∷ []
 
 -- the bytes whose offers were not refused
 abbrev pub acceptedOf : List Offer → List ℕ
@@ -42,7 +43,7 @@ acceptedOf (o ∷ os) = takenBy (o .says) (o .byte) ++ acceptedOf os
 
 abbrev pub countBy : Said → ℕ
 countBy (refused n) = 0
-countBy (released f) = f
+countBy (released f size) = f
 
 -- the sum of the released counts
 abbrev pub releasedCount : List Offer → ℕ
@@ -66,9 +67,11 @@ pub record LetThrough (t : List ℕ) (h : Header) (trace : List ℕ) (byte : ℕ
   pub observable : Observable h byte
   pub possible : Possible (automatonOf t h) (trace ++ byte ∷ [])
 
-abbrev pub ByTable : List ℕ → Header → List ℕ → Offer → Said → Type 0
-ByTable t h trace o (refused n) = TurnedBack t h trace (o .byte) (o .output) n
-ByTable t h trace o (released f) = LetThrough t h trace (o .byte) (o .output)
+-- the answer to an offer after these accepted symbols: refused exactly where the table turns the byte back; else it is let through, and the number of
+-- possible states is the one of the definition, after all accepted symbols
+abbrev pub Answered : List ℕ → Header → List ℕ → Offer → Said → Type 0
+Answered t h trace o (refused n) = TurnedBack t h trace (o .byte) (o .output) n
+Answered t h trace o (released f size) = LetThrough t h trace (o .byte) (o .output) × RightSize (automatonOf t h) (trace ++ o .byte ∷ []) size
 
 -- each offer of the list, judged with the bytes accepted before it
 pub data Each (Judged : List ℕ → Offer → Type 0) : List ℕ → List Offer → Type 0 where
@@ -77,8 +80,9 @@ pub data Each (Judged : List ℕ → Offer → Type 0) : List ℕ → List Offer
 
 -- the mission's third point, after the offers
 pub record Promise (notion : Notion) (t : List ℕ) (h : Header) (os : List Offer) (e : Enforcer) : Type 0 where
-  -- the accepted symbols (01: events) are exactly the offered bytes that the refusal table does not turn back; the others got the number that the table gives
-  pub accepted : Each (λ trace o. ByTable t h trace o (o .says)) [] os
+  -- the accepted symbols (01: events) are exactly the offered bytes that the refusal table does not turn back; the others got the number that the table
+  -- gives. Each accepting answer says how many states are then possible (02, S-5)
+  pub accepted : Each (λ trace o. Answered t h trace o (o .says)) [] os
   -- the symbols released so far are a prefix of the accepted ones, in their order
   pub prefix : releasedOf os ≡ take (releasedCount os) (acceptedOf os)
   -- nobody who reads only the released symbols can be sure of a secret state at most K accepted symbols back: in 01's words, and by runs in hand

@@ -14,7 +14,8 @@ pub record SameOffered (t : List ℕ) (h h′ : Header) (o o′ : Offer) : Type 
   pub bytes : SameByte t h h′ (o .byte) (o′ .byte)
   pub outputs : length (o .output) ≡ length (o′ .output)
 
--- two offers with the same answer: both refused with the same number, or both accepted with as many events released, and these are the same events
+-- two offers with the same answer: both refused with the same number, or both accepted with as many events released, which are the same events, and
+-- as many states possible
 pub record SameAnswered (p q : Automaton) (o o′ : Offer) : Type 0 where
   pub says : o .says ≡ o′ .says
   pub released : SameEvents p q (take (countBy (o .says)) (o .left)) (take (countBy (o′ .says)) (o′ .left))

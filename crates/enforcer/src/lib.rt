@@ -35,10 +35,16 @@ pub struct Start {
     pub answer: StartAnswer,
 }
 
-// How many symbols were released to the front of the output (01: freed, tray).
+// How many symbols were released to the front of the output (01: freed, tray), and how many states are possible after all that were accepted (02: how
+// many fit), 1 to 64.
+pub struct Release {
+    pub count: u8,
+    pub size: u8,
+}
+
 pub enum OfferAnswer {
     Refused(Refusal),
-    Released(u8),
+    Released(Release),
 }
 
 pub struct Given {
@@ -145,7 +151,7 @@ fn rest(a: &[u8], from: u8, n: u8) -> [u8; 16]
 }
 
 // The first `n` go to the front of the output.
-fn release(a: &[u8], n: u8, output: &mut [u8])
+fn write_front(a: &[u8], n: u8, output: &mut [u8])
     requires { ⌜ (n ≤ length (now a)) × (n ≤ length (now output)) ⌝ }
     ensures { λ r. ⌜ now (output .exit) ≡ take n (now (a .entry)) ++ drop n (now (output .entry)) ⌝ }
 {
@@ -177,8 +183,8 @@ impl Enforcer {
                 enforcer: none,
                 answer: StartAnswer::Refused(refusal),
             },
-            Answer::Accepted(verdicts) => {
-                let verdict = verifier::choose(notion, verdicts);
+            Answer::Accepted(judgement) => {
+                let verdict = verifier::choose(notion, judgement.verdicts);
                 let Verdict::NoLeak = verdict else {
                     return Start {
                         enforcer: none,
@@ -224,10 +230,18 @@ impl Enforcer {
         automaton::in_range(&pending, count)
     }
 
-    // The symbol that was accepted is put behind the pending ones, and what is safe is released.
-    fn take_in(self, k: u8, estimator: Estimator, w: u8, byte: u8, output: &mut [u8]) -> Given
+    // The symbol that was accepted is put behind the pending ones, and what is safe is released. The number of possible states is passed on.
+    fn take_in(
+        self,
+        k: u8,
+        estimator: Estimator,
+        w: u8,
+        size: u8,
+        byte: u8,
+        output: &mut [u8],
+    ) -> Given
         requires { ⌜ (k ≤ 15) × (self .count ≤ k + 1) × (17 ≤ length (now output)) ⌝ }
-        ensures { λ r. ⌜ Took k self estimator w byte (now (output .entry)) (r .answer) (r .enforcer) (now (output .exit)) ⌝ }
+        ensures { λ r. ⌜ Took k self estimator w size byte (now (output .entry)) (r .answer) (r .enforcer) (now (output .exit)) ⌝ }
     {
         let count = self.count;
         let notion = self.notion;
@@ -238,7 +252,7 @@ impl Enforcer {
         let mut soon = [0u8; 17];
         nearer(waits, count, w, &mut soon);
         let f = ready(&soon, count, k);
-        release(&symbols, f, output);
+        write_front(&symbols, f, output);
         let pending_after = rest(&symbols, f, count + 1);
         let waits_after = rest(&soon, f, count + 1);
         Given {
@@ -249,7 +263,10 @@ impl Enforcer {
                 pending: pending_after,
                 waits: waits_after,
             },
-            answer: OfferAnswer::Released(f),
+            answer: OfferAnswer::Released(Release {
+                count: f,
+                size: size,
+            }),
         }
     }
 
@@ -285,11 +302,12 @@ impl Enforcer {
                 enforcer: self,
                 answer: OfferAnswer::Refused(refusal),
             },
-            AnswerBy::Accepted(verdict) => {
+            AnswerBy::Accepted(judgement) => {
                 let next = reply.estimator;
                 let k = header.k;
+                let verdict = judgement.verdict;
                 let w = wait(k, verdict);
-                self.take_in(k, next, w, byte, output)
+                self.take_in(k, next, w, judgement.size, byte, output)
             }
         }
     }

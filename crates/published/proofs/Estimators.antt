@@ -225,6 +225,7 @@ verifier-gamma t h μ x r says =
     record {
       weak = right .weak;
       strong = right .strong;
+      size = right .size;
       said-is = right .said-is;
       gamma = subst (Gamma (estimatorAfter p (h .k) μ) (h .secret) (h .k)) e gamma;
     }

@@ -29,10 +29,11 @@ module _ (t : List ℕ) (h : Header) where
   abbrev RightAfter : List ℕ → Said → Type 0
   RightAfter μ r = RightVerdicts (automatonOf t h) (h .secret) (h .k) μ r
 
-  right-after : (μ : List ℕ) (v w : Steps) → Possible (automatonOf t h) μ → Right t h μ v w → RightAfter μ (verdicts v w)
-  right-after μ v w x right = record {
+  right-after : (μ : List ℕ) (v w : Steps) (n : ℕ) → Possible (automatonOf t h) μ → Right t h μ v w n → RightAfter μ (verdicts v w n)
+  right-after μ v w n x right = record {
     weak = v;
     strong = w;
+    size = n;
     said-is = refl;
     weak-right = right-verdict Weak (automatonOf t h) (h .secret) (h .k) μ v .0 (published (automatonOf t h) (h .secret) μ x Weak (h .k) v (right .weak));
     strong-right = right-verdict Strong (automatonOf t h) (h .secret) (h .k) μ w .0 (published (automatonOf t h) (h .secret) μ x Strong (h .k) w (right .strong));
@@ -43,7 +44,7 @@ module _ (t : List ℕ) (h : Header) where
       → (takenBy says byte ≡ byte ∷ []) × RightAfter (trace ++ byte ∷ []) says
   answer-right trace byte (refused n) (inl x) seen possible = absurd (x .1 seen)
   answer-right trace byte (refused n) (inr x) seen possible = absurd (x .2 (possible .run) (possible .compatible))
-  answer-right trace byte (verdicts v w) x seen possible = (refl, right-after (trace ++ byte ∷ []) v w possible (x .2))
+  answer-right trace byte (verdicts v w n) x seen possible = (refl, right-after (trace ++ byte ∷ []) v w n possible (x .2))
 
   event-seen : (trace : List ℕ) (byte : ℕ) (rest : List ℕ) → Possible (automatonOf t h) (trace ++ byte ∷ rest) → Observable h byte
   event-seen trace byte rest x =
@@ -74,8 +75,8 @@ module _ (t : List ℕ) (h : Header) where
 -- the trace's by both notions
 pub definition-6 : (t : List ℕ) (h : Header) → SoundComplete (automatonOf t h) (h .secret) (h .k) (SaysAfter t h)
 definition-6 t h μ x r y =
-    let promise = second-point t h (y .weak) (y .strong) (y .fresh) (y .calls) (y .last) (y .opening) (y .made) in
+    let promise = second-point t h (y .weak) (y .strong) (y .size) (y .fresh) (y .calls) (y .last) (y .opening) (y .made) in
     let start : Possible (automatonOf t h) [] = record { run = []; compatible = record { takes = tt; shown-is = refl } } in
-    let last = follow t h [] (verdicts (y .weak) (y .strong)) (y .calls) (right-after t h [] (y .weak) (y .strong) start (promise .opening)) (promise .answered)
+    let last = follow t h [] (verdicts (y .weak) (y .strong) (y .size)) (y .calls) (right-after t h [] (y .weak) (y .strong) (y .size) start (promise .opening)) (promise .answered)
     (subst (Possible (automatonOf t h)) (sym (y .events)) x) in
-    subst (RightAfter t h μ) (y .says) (subst (λ (l : List ℕ). RightAfter t h l (lastSaid (verdicts (y .weak) (y .strong)) (y .calls))) (y .events) last)
+    subst (RightAfter t h μ) (y .says) (subst (λ (l : List ℕ). RightAfter t h l (lastSaid (verdicts (y .weak) (y .strong) (y .size)) (y .calls))) (y .events) last)

@@ -98,5 +98,6 @@ Gamma m secret K (leak l) = (l ≤ K) × Within m l secret × ((k : ℕ) → k <
 pub record SaysGamma (t : List ℕ) (h : Header) (μ : List ℕ) (r : Said) : Type 0 where
   pub weak : Steps
   pub strong : Steps
-  pub said-is : r ≡ verdicts weak strong
+  pub size : ℕ
+  pub said-is : r ≡ verdicts weak strong size
   pub gamma : Gamma (estimatorAfter (automatonOf t h) (h .k) μ) (h .secret) (h .k) weak

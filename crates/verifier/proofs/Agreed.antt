@@ -1,6 +1,6 @@
 -- Verdicts agree where the compatible runs do; so where two automata tell the same observable events apart, they are the same over the events behind the
 -- symbols. Assumes nothing.
-use mathlib.Core.Path.{subst}
+use mathlib.Core.Path.{_≡_, refl, sym, subst}
 use mathlib.Core.List.{List}
 use mathlib.Core.Logic.{_↔_}
 use Prim.Native.Nat.{ℕ, _-_}
@@ -8,13 +8,14 @@ use native.Mathlib.Omega.{arith}
 use lib.ListN.{length, take}
 use Rattle.automaton.specs.Run.{Automaton}
 use Rattle.automaton.specs.Symbols.{WithoutSymbols, Distinct, SameButSymbols, Alike, SameSymbols, Events, symbolsOf, SameEvents, Agree}
-use Rattle.automaton.proofs.Agreeing.{agree-back, possible-agree, enters-agree, sureAt-agree, sureFrom-agree, clearAt-agree, clearFrom-agree}
+use Rattle.automaton.proofs.Agreeing.{agree-back, possible-agree, enters-agree, size-agree, sureAt-agree, sureFrom-agree, clearAt-agree, clearFrom-agree}
 use Rattle.automaton.proofs.Spelling.{alike-agree, distinct-alike, events-spelled, same-agree, same-back}
 use Rattle.verifier.specs.declared.Estimator.{Estimator}
 use Rattle.verifier.specs.Estimators.{Grown}
 use Rattle.verifier.specs.declared.Notion.{Notion}
 use Rattle.verifier.specs.declared.Notion.the-variants.{Weak, Strong}
 use Rattle.verifier.specs.Verdicts.{Steps, none, leak, Sure, Clear, Tells, LeakAt, Words}
+use Rattle.verifier.specs.Calls.{RightSize}
 
 module _ (p q : Automaton) (a b : List ℕ) (g : Agree p q a b) (secret : ℕ) where
   pub sure-agree : (notion : Notion) (j : ℕ) → Sure notion p secret a j → Sure notion q secret b j
@@ -52,6 +53,10 @@ words-agree p q a b g secret notion K (leak l) x = (
   leak-agree p q a b g secret notion K l (x .0),
   λ m h y. x .1 m h (leak-agree q p b a (agree-back p q a b g) secret notion K m y),
 )
+
+-- and the numbers of possible states
+pub sizes-agree : (p q : Automaton) (a b : List ℕ) → Agree p q a b → (m n : ℕ) → RightSize p a m → RightSize q b n → m ≡ n
+sizes-agree p q a b g m n x y = sym (y .exactly m .1 (size-agree p q a b g m (x .exactly m .0 refl)))
 
 -- two automata that tell the same observable events apart give traces with the same events behind them the same verdicts
 module _ (p q : Automaton) (like : Alike p q) (a b : List ℕ) (x : SameEvents p q a b) (secret K : ℕ) (notion : Notion) (v : Steps) where

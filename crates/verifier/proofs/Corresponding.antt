@@ -46,7 +46,7 @@ use Rattle.verifier.specs.Replies.{
 }
 use Rattle.verifier.specs.Calls.{Call, Calls, done, takenBy, Right, Answered, AllAnswered, end, more}
 use Rattle.verifier.specs.Paired.{SameCalled, Corresponds, CallsFollow}
-use Rattle.verifier.proofs.Agreed.{alike-words, same-tells, same-grown}
+use Rattle.verifier.proofs.Agreed.{alike-words, sizes-agree, same-tells, same-grown}
 use Rattle.verifier.proofs.SecondPoint.{second-point}
 
 module _ (t : List ℕ) (h h′ : Header) (like : Alike (automatonOf t h) (automatonOf t h′)) (secret : h .secret ≡ h′ .secret) (k : h .k ≡ h′ .k) where
@@ -63,7 +63,7 @@ module _ (t : List ℕ) (h h′ : Header) (like : Alike (automatonOf t h) (autom
 
   right-alike : (a b : List ℕ) (v w : Steps) (n : ℕ) (v′ w′ : Steps) (n′ : ℕ) → Same a b → Right t h a v w n → Right t h′ b v′ w′ n′ → verdicts v w n ≡ verdicts v′ w′ n′
   right-alike a b v w n v′ w′ n′ x y z =
-      let size = z .size n .1 (size-agree _ _ a b (alike-agree _ _ like a b x) n (y .size n .0 refl)) in
+      let size = sizes-agree _ _ a b (alike-agree _ _ like a b x) n n′ (y .size) (z .size) in
       let weak = exactly-alike _ a b v v′ x (y .weak) (z .weak) in
       let strong = exactly-alike _ a b w w′ x (y .strong) (z .strong) in
       cc

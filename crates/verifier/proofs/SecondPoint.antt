@@ -1,11 +1,9 @@
 -- The mission's second point, from what each call promises. Assumes nothing.
-use mathlib.Core.Path.{_≡_, refl, subst}
+use mathlib.Core.Path.{_≡_, refl}
 use mathlib.Core.List.{List, [], _++_, append-assoc, append-nil}
 use mathlib.Core.Logic.{inl, inr}
 use Prim.Native.Nat.{ℕ}
-use Rattle.stateset.proofs.Counting.{counts-one}
 use Rattle.automaton.specs.Run.{automatonOf, Sound}
-use Rattle.automaton.specs.Reaching.{EstimateSize}
 use Rattle.automaton.specs.declared.Header.{Header}
 use Rattle.verifier.specs.declared.Notion.the-variants.{Weak, Strong}
 use Rattle.verifier.specs.declared.Estimator.{Estimator}
@@ -13,7 +11,7 @@ use Rattle.verifier.specs.Verdicts.{Steps}
 use Rattle.verifier.specs.Estimators.{Grown}
 use Rattle.verifier.specs.Replies.{Said, refused, verdicts, SizeWithin, Exact, Opening, opened, Accepting, not-observable, incompatible, accepted}
 use Rattle.verifier.specs.Calls.{Call, Calls, done, next, takenBy, acceptedOf, Right, Answered, AllAnswered, end, more, Promise}
-use Rattle.verifier.proofs.Exactness.{exactly}
+use Rattle.verifier.proofs.Exactness.{exactly, right-size}
 use Rattle.verifier.proofs.Growing.{grown-limits}
 
 right : (t : List ℕ) (h : Header) (trace : List ℕ) (v w : Steps) (n : ℕ) (s : Estimator) → SizeWithin n → Exact t h trace v w n s → Right t h trace v w n
@@ -21,8 +19,7 @@ right t h trace v w n s within x =
     record {
       weak = exactly Weak _ _ _ trace v (x .weak);
       strong = exactly Strong _ _ _ trace w (x .strong);
-      size = λ m. (λ e. subst (EstimateSize (automatonOf t h) trace) e (x .size), λ y. counts-one n m (x .size) y);
-      size-within = within;
+      size = right-size (automatonOf t h) trace n within (x .size);
     }
 
 module _ (t : List ℕ) (h : Header) (sound : Sound t h) where

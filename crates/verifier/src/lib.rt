@@ -310,7 +310,17 @@ fn judge(
     let last = estimator.count;
     let mut weak = Verdict::NoLeak;
     if asked.weak {
-        weak = weak_verdict(estimator, table, header, sets, silent, back, states, estimate, last);
+        weak = weak_verdict(
+            estimator,
+            table,
+            header,
+            sets,
+            silent,
+            back,
+            states,
+            estimate,
+            last,
+        );
     }
     let mut strong = Verdict::NoLeak;
     if asked.strong {

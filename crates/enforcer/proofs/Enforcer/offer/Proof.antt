@@ -22,8 +22,8 @@ pending : (x : tie.Else3) → PendingWithin (x .before .before .before .before .
 pending x = holds (x .before .pending-within .result) (not-false _ (x .if3 .left)) (x .before .pending-within .ensures)
 
 -- and where the verifier has accepted the symbol, it has tested the rest
-all : (x : tie.After-answer2) → Moved (now (x .before .before .before .before .before .before .before .before .before .args .table)) (x .before .before .before .before .before .before .before .before .before .args .header) (x .before .before .before .before .before .before .before .before .before .args .self .estimator) (x .before .before .before .before .before .before .before .before .before .args .byte) (x .before .before .accept-by .result .estimator)
-    × TellsBy (x .before .before .before .before .before .before .before .before .before .args .self .notion) (now (x .before .before .before .before .before .before .before .before .before .args .table)) (x .before .before .before .before .before .before .before .before .before .args .header) (x .before .before .before .before .before .before .before .before .before .args .self .estimator) (x .before .before .before .before .before .before .before .before .before .args .byte) (stepsOf (x .answer2 .given .0 .0))
+all : (x : tie.After-answer2) → Moved (now (x .before .before .before .before .before .before .before .before .before .args .table)) (x .before .before .before .before .before .before .before .before .before .args .header) (x .before .before .before .before .before .before .before .before .before .args .self .estimator) (x .before .before .before .before .before .before .before .before .before .args .byte) (x .answer2 .given .0 .0 .size) (x .before .before .accept-by .result .estimator)
+    × TellsBy (x .before .before .before .before .before .before .before .before .before .args .self .notion) (now (x .before .before .before .before .before .before .before .before .before .args .table)) (x .before .before .before .before .before .before .before .before .before .args .header) (x .before .before .before .before .before .before .before .before .before .args .self .estimator) (x .before .before .before .before .before .before .before .before .before .args .byte) (stepsOf (x .answer2 .given .0 .0 .verdict))
 all x =
     let called = x .before .before in
     let a = x .before .before .before .before .before .before .before .before .before .args in
@@ -90,9 +90,9 @@ returns-5 c =
     let a = e3 .before .before .before .before .before .args in
     let taken = c .before .before .take-in in
     let moved = all after-answer .0 in
-    taken-outcome (now (a .table)) (a .header) (a .self) (a .byte) (now (a .output)) (after-answer .answer2 .given .0 .0) (called .accept-by .result .estimator) (taken .result .answer)
-    (taken .result .enforcer) (taken .last .1 .1 .1 .1 .1 .0) (moved .sound) (limits-joined (a .header .k) (a .self) (moved .limits) (pending e3)) (e3 .before .before .if1 .left) moved (all after-answer .1)
-    (subst (λ (n : ℕ). Took (a .header .k) (a .self) (called .accept-by .result .estimator) n (a .byte) (now (a .output)) (taken .result .answer) (taken .result .enforcer) (taken .last .1 .1 .1 .1 .1 .0))
+    taken-outcome (now (a .table)) (a .header) (a .self) (a .byte) (now (a .output)) (after-answer .answer2 .given .0 .0 .verdict) (after-answer .answer2 .given .0 .0 .size) (called .accept-by .result .estimator) (taken .result .answer)
+    (taken .result .enforcer) (taken .last .1 .1 .1 .1 .1 .1 .0) (moved .sound) (limits-joined (a .header .k) (a .self) (moved .limits) (pending e3)) (e3 .before .before .if1 .left) moved (all after-answer .1)
+    (subst (λ (n : ℕ). Took (a .header .k) (a .self) (called .accept-by .result .estimator) n (after-answer .answer2 .given .0 .0 .size) (a .byte) (now (a .output)) (taken .result .answer) (taken .result .enforcer) (taken .last .1 .1 .1 .1 .1 .1 .0))
     (after-wait .wait .ensures) (taken .ensures))
 
 pub offer-spec : {M : Type 1} → statement M

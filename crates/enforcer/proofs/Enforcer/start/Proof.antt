@@ -35,7 +35,7 @@ returns c =
     let after-fresh = after-answer .before .before .before in
     let a = after-fresh .before .before .args in
     let called = after-fresh .fresh in
-    start-open (now (a .table)) (a .header) (a .notion) (after-answer .answer2 .given .0 .0) (called .result .estimator) _ (c .enum-told2 .given .0 .0)
+    start-open (now (a .table)) (a .header) (a .notion) (after-answer .answer2 .given .0 .0 .verdicts) _ (called .result .estimator) _ (c .enum-told2 .given .0 .0)
     (subst (λ (x : Answer). Opening (now (a .table)) (a .header) (verifier.said x) (called .result .estimator)) (after-answer .answer2 .given .1) (called .ensures))
     (sym (after-choose .choose .ensures) ∙ c .enum-told2 .given .1) refl
 
@@ -54,7 +54,7 @@ returns-3 c =
     let after-fresh = after-answer .before .before .before in
     let a = after-fresh .before .before .args in
     let called = after-fresh .fresh in
-    start-ready (now (a .table)) (a .header) (a .notion) (after-answer .answer2 .given .0 .0) (called .result .estimator) _ _ (padded-zeros 16 0) (padded-zeros 16 0)
+    start-ready (now (a .table)) (a .header) (a .notion) (after-answer .answer2 .given .0 .0 .verdicts) _ (called .result .estimator) _ _ (padded-zeros 16 0) (padded-zeros 16 0)
     (subst (λ (x : Answer). Opening (now (a .table)) (a .header) (verifier.said x) (called .result .estimator)) (after-answer .answer2 .given .1) (called .ensures))
     (sym (after-choose .choose .ensures) ∙ c .enum-told .given .1)
 

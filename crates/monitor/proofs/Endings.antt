@@ -3,18 +3,18 @@ use mathlib.Core.Path.{_≡_, refl, sym, ap}
 use mathlib.Core.List.{List, [], _++_}
 use Prim.Native.Nat.{ℕ, zero, suc, _<_}
 use native.Mathlib.Omega.{arith}
-use Rattle.verifier.specs.declared.Verdicts.{Verdicts}
+use Rattle.verifier.specs.declared.Judgement.{Judgement}
 use Rattle.report.specs.Text.{idleLine, endLine}
 use Rattle.monitor.specs.Ending.{beforeLast, lastLines}
 use Rattle.monitor.specs.declared.Monitor.{Monitor}
 
-not-idle : (n : ℕ) (v : Verdicts) → 0 < n → beforeLast n v ≡ []
-not-idle zero v l = absurd (omega arith)
-not-idle (suc n) v l = refl
+not-idle : (n : ℕ) (j : Judgement) → 0 < n → beforeLast n j ≡ []
+not-idle zero j l = absurd (omega arith)
+not-idle (suc n) j l = refl
 
 -- none
 pub with-none : (m : Monitor) → m .offered ≡ 0
-    → idleLine (m .opening .weak) (m .opening .strong) ++ endLine (m .accepted) (m .released) (m .enforcer .count) ≡ lastLines m
+    → idleLine (m .opening .verdicts .weak) (m .opening .verdicts .strong) (m .opening .size) ++ endLine (m .accepted) (m .released) (m .enforcer .count) ≡ lastLines m
 with-none m e = ap (λ (n : ℕ). beforeLast n (m .opening) ++ endLine (m .accepted) (m .released) (m .enforcer .count)) (sym e)
 
 -- some

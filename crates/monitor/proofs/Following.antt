@@ -27,7 +27,7 @@ lines-one {t} {h} {m} {e} {byte} {text} s = subst (λ (l : List ℕ). Lines t h 
 counts-one : {t : List ℕ} {h : Header} {m e : Monitor} {byte : ℕ} {text : List ℕ} → Stepping t h m byte text e → e .offered ≡ m .offered + 1
 counts-one (not-verified r acc) = refl
 counts-one (not-enforced r acc wide off) = refl
-counts-one (accepted v acc wide off) = refl
+counts-one (accepted j acc wide off) = refl
 
 pub lines-count : {t : List ℕ} {h : Header} {m e : Monitor} {bytes text : List ℕ} → Lines t h m bytes text e → e .offered ≡ m .offered + length bytes
 lines-count done = omega arith

@@ -1,23 +1,25 @@
 -- The output of an idle log is one of two, by its automaton; and no log is refused by 11 (02, S-4). Assumes nothing.
-use mathlib.Core.Path.{_≡_, refl, sym, ap, subst}
-use mathlib.Core.List.{List, [], _∷_, _++_}
+use mathlib.Core.Path.{_≡_, refl, sym, ap, subst, _∙_}
+use mathlib.Core.List.{List, [], _∷_, _++_, append-assoc}
 use mathlib.Core.Logic.{_⊎_, inl, inr, _↔_}
 use Prim.Native.Nat.{ℕ}
 use native.Mathlib.Omega.{arith}
 use lib.ListN.{length}
 use Rattle.automaton.specs.Run.{automatonOf}
+use Rattle.automaton.specs.Reaching.{EstimateSize}
 use Rattle.automaton.specs.declared.Header.{Header}
+use Rattle.automaton.proofs.Estimates.{size-some, size-most}
 use Rattle.verifier.specs.declared.Notion.{Notion}
 use Rattle.verifier.specs.declared.Notion.the-variants.{Weak, Strong}
 use Rattle.verifier.specs.declared.Verdict.{Verdict}
 use Rattle.verifier.specs.declared.Verdict.the-variants.{NoLeak, Leak}
-use Rattle.verifier.specs.declared.Verdicts.{Verdicts}
 use Rattle.verifier.specs.Verdicts.{none, leak, stepsOf, LeakAt, Words}
-use Rattle.verifier.specs.Calls.{Right}
-use Rattle.verifier.proofs.Exactness.{words-exactly}
+use Rattle.verifier.specs.Calls.{Right, RightSize}
+use Rattle.verifier.proofs.Exactness.{words-exactly, right-size}
 use Rattle.encoding.proofs.Refusing.{decoding-never}
+use Rattle.encoding.proofs.Listing.{decoded-sound}
 use Rattle.report.specs.Text.{digits, decimal, idleLine, endLine}
-use Rattle.monitor.specs.Opening.{frontSize}
+use Rattle.monitor.specs.Opening.{frontSize, encodingOf}
 use Rattle.monitor.specs.Log.{OpeningLeak, Refused, truncated, not-decoded, initial-leak, Monitored, Output, refused, idle, ended}
 use Rattle.monitor.proofs.OneOutput.{one-automaton, not-both}
 
@@ -40,31 +42,45 @@ module _ (t : List ℕ) (h : Header) (notion : Notion) where
       let first = at-zero l (w .0) in
       inr (ap Leak first, subst (LeakAt notion (automatonOf t h) (h .secret) (h .k) []) first (w .0))
 
--- what an idle log that is not refused prints: `0 - - - -` or `0 - - 0 -`, by whether the opening leaks under strong, and `end 0 0 0`
+-- what an idle log that is not refused prints: `0 - - - n -` or `0 - - 0 n -`, by whether the opening leaks under strong, where n states are possible
+-- before any event, and `end 0 0 0`
 pub data Idle (t : List ℕ) (h : Header) : List ℕ → Type 0 where
-  clear : (OpeningLeak Strong t h → ⊥) → Idle t h (idleLine NoLeak NoLeak ++ endLine 0 0 0)
-  leaks : OpeningLeak Strong t h → Idle t h (idleLine NoLeak (Leak 0) ++ endLine 0 0 0)
+  clear : {n : ℕ} → EstimateSize (automatonOf t h) [] n → (OpeningLeak Strong t h → ⊥) → Idle t h (idleLine NoLeak NoLeak n ++ endLine 0 0 0)
+  leaks : {n : ℕ} → EstimateSize (automatonOf t h) [] n → OpeningLeak Strong t h → Idle t h (idleLine NoLeak (Leak 0) n ++ endLine 0 0 0)
 
 -- whose weak verdict is none, since it is not refused by 8
-idle-text : (t : List ℕ) (h : Header) (v : Verdicts) → (OpeningLeak Weak t h → ⊥) → Right t h [] (stepsOf (v .weak)) (stepsOf (v .strong))
-    → Idle t h (idleLine (v .weak) (v .strong) ++ endLine 0 0 0)
-idle-text t h v closed right =
-    by (opening-verdict t h Weak (v .weak) (right .weak (stepsOf (v .weak)) .0 refl)) (opening-verdict t h Strong (v .strong) (right .strong (stepsOf (v .strong)) .0 refl))
+idle-text : (t : List ℕ) (h : Header) (v w : Verdict) (n : ℕ) → (OpeningLeak Weak t h → ⊥) → Right t h [] (stepsOf v) (stepsOf w) n
+    → Idle t h (idleLine v w n ++ endLine 0 0 0)
+idle-text t h v w n closed right =
+    by (opening-verdict t h Weak v (right .weak (stepsOf v) .0 refl)) (opening-verdict t h Strong w (right .strong (stepsOf w) .0 refl)) (right .size .exactly n .0 refl)
   where
-    by : ((v .weak ≡ NoLeak) × (OpeningLeak Weak t h → ⊥)) ⊎ ((v .weak ≡ Leak 0) × OpeningLeak Weak t h)
-        → ((v .strong ≡ NoLeak) × (OpeningLeak Strong t h → ⊥)) ⊎ ((v .strong ≡ Leak 0) × OpeningLeak Strong t h) → Idle t h (idleLine (v .weak) (v .strong) ++ endLine 0 0 0)
-    by (inr x) y = absurd (closed (x .1))
-    by (inl x) (inl y) = subst (Idle t h) (λ i. idleLine (sym (x .0) i) (sym (y .0) i) ++ endLine 0 0 0) (clear (y .1))
-    by (inl x) (inr y) = subst (Idle t h) (λ i. idleLine (sym (x .0) i) (sym (y .0) i) ++ endLine 0 0 0) (leaks (y .1))
+    by : ((v ≡ NoLeak) × (OpeningLeak Weak t h → ⊥)) ⊎ ((v ≡ Leak 0) × OpeningLeak Weak t h)
+        → ((w ≡ NoLeak) × (OpeningLeak Strong t h → ⊥)) ⊎ ((w ≡ Leak 0) × OpeningLeak Strong t h) → EstimateSize (automatonOf t h) [] n
+        → Idle t h (idleLine v w n ++ endLine 0 0 0)
+    by (inr x) y size = absurd (closed (x .1))
+    by (inl x) (inl y) size = subst (Idle t h) (λ i. idleLine (sym (x .0) i) (sym (y .0) i) n ++ endLine 0 0 0) (clear size (y .1))
+    by (inl x) (inr y) size = subst (Idle t h) (λ i. idleLine (sym (x .0) i) (sym (y .0) i) n ++ endLine 0 0 0) (leaks size (y .1))
+
+-- the run without a step is compatible with no event, so that some state is possible, and at most 64 are
+opening-size : {input t : List ℕ} {h : Header} (n : ℕ) → Monitored input t h → EstimateSize (automatonOf t h) [] n → RightSize (automatonOf t h) [] n
+opening-size {input} {t} {h} n m size =
+    let d = m .decodes in
+    let sound = decoded-sound (encodingOf input) (d .before) h t (d .decoding) in
+    right-size (automatonOf t h) [] n record {
+      some = size-some (automatonOf t h) [] n (record { run = []; compatible = record { takes = tt; shown-is = refl } }) size;
+      most = size-most (automatonOf t h) [] n (sound .start) size;
+    } size
 
 text-idle : {input t text : List ℕ} {h : Header} → Monitored input t h → length input ≡ frontSize input → Idle t h text → Output input text
-text-idle {t = t} {h = h} m e (clear never) = idle (record { weak = NoLeak; strong = NoLeak }) m e record {
+text-idle {t = t} {h = h} m e (clear {n = n} size never) = idle (record { verdicts = record { weak = NoLeak; strong = NoLeak }; size = n }) m e record {
   weak = words-exactly Weak _ _ _ [] none (none-words t h Weak (m .closed));
   strong = words-exactly Strong _ _ _ [] none (none-words t h Strong never);
+  size = opening-size n m size;
 }
-text-idle {t = t} {h = h} m e (leaks x) = idle (record { weak = NoLeak; strong = Leak 0 }) m e record {
+text-idle {t = t} {h = h} m e (leaks {n = n} size x) = idle (record { verdicts = record { weak = NoLeak; strong = Leak 0 }; size = n }) m e record {
   weak = words-exactly Weak _ _ _ [] none (none-words t h Weak (m .closed));
   strong = words-exactly Strong _ _ _ [] (leak 0) (leak-words t h Strong x);
+  size = opening-size n m size;
 }
 
 -- THE OUTPUT OF AN IDLE LOG that is not refused
@@ -74,17 +90,23 @@ idle-exactly {input} {t} {h} m e text = (go, text-idle m e)
     go : {text : List ℕ} → Output input text → Idle t h text
     go (refused r x) = absurd (not-both x m)
     go (ended m′ l p) = absurd (omega arith)
-    go (idle v m′ e′ right) =
-        idle-text t h v (m .closed) (one-automaton (λ (x : List ℕ) (y : Header). Right x y [] (stepsOf (v .weak)) (stepsOf (v .strong))) (m′ .decodes) (m .decodes) right)
+    go (idle j m′ e′ right) =
+        idle-text t h (j .verdicts .weak) (j .verdicts .strong) (j .size) (m .closed)
+        (one-automaton (λ (x : List ℕ) (y : Header). Right x y [] (stepsOf (j .verdicts .weak)) (stepsOf (j .verdicts .strong)) (j .size)) (m′ .decodes) (m .decodes) right)
 
--- their bytes
-pub idle-none : idleLine NoLeak NoLeak ++ endLine 0 0 0 ≡ 48 ∷ 32 ∷ 45 ∷ 32 ∷ 45 ∷ 32 ∷ 45 ∷ 32 ∷ 45 ∷ 10 ∷ 101 ∷ 110 ∷ 100 ∷ 32 ∷ 48 ∷ 32 ∷ 48 ∷ 32 ∷ 48 ∷ 10 ∷ []
-unfolding decimal digits
-idle-none = refl
+-- their bytes: around the number's digits
+around : (ds rest : List ℕ) → ((ds ++ (32 ∷ 45 ∷ [])) ++ (10 ∷ [])) ++ rest ≡ ds ++ (32 ∷ 45 ∷ 10 ∷ rest)
+around ds rest = append-assoc (ds ++ (32 ∷ 45 ∷ [])) (10 ∷ []) rest ∙ append-assoc ds (32 ∷ 45 ∷ []) (10 ∷ rest)
 
-pub idle-leak : idleLine NoLeak (Leak 0) ++ endLine 0 0 0 ≡ 48 ∷ 32 ∷ 45 ∷ 32 ∷ 45 ∷ 32 ∷ 48 ∷ 32 ∷ 45 ∷ 10 ∷ 101 ∷ 110 ∷ 100 ∷ 32 ∷ 48 ∷ 32 ∷ 48 ∷ 32 ∷ 48 ∷ 10 ∷ []
+pub idle-none : (n : ℕ) → idleLine NoLeak NoLeak n ++ endLine 0 0 0
+    ≡ 48 ∷ 32 ∷ 45 ∷ 32 ∷ 45 ∷ 32 ∷ 45 ∷ 32 ∷ (decimal n ++ (32 ∷ 45 ∷ 10 ∷ 101 ∷ 110 ∷ 100 ∷ 32 ∷ 48 ∷ 32 ∷ 48 ∷ 32 ∷ 48 ∷ 10 ∷ []))
 unfolding decimal digits
-idle-leak = refl
+idle-none n = ap (λ (l : List ℕ). 48 ∷ 32 ∷ 45 ∷ 32 ∷ 45 ∷ 32 ∷ 45 ∷ 32 ∷ l) (around (decimal n) (endLine 0 0 0))
+
+pub idle-leak : (n : ℕ) → idleLine NoLeak (Leak 0) n ++ endLine 0 0 0
+    ≡ 48 ∷ 32 ∷ 45 ∷ 32 ∷ 45 ∷ 32 ∷ 48 ∷ 32 ∷ (decimal n ++ (32 ∷ 45 ∷ 10 ∷ 101 ∷ 110 ∷ 100 ∷ 32 ∷ 48 ∷ 32 ∷ 48 ∷ 32 ∷ 48 ∷ 10 ∷ []))
+unfolding decimal digits
+idle-leak n = ap (λ (l : List ℕ). 48 ∷ 32 ∷ 45 ∷ 32 ∷ 45 ∷ 32 ∷ 48 ∷ 32 ∷ l) (around (decimal n) (endLine 0 0 0))
 
 -- REFUSAL 11 IS GIVEN NO MORE
 pub never-eleven : {input : List ℕ} {n : ℕ} → Refused input n → n ≡ 11 → ⊥

@@ -215,7 +215,7 @@ ends-there input none whole = omega (arith, none)
 fresh-idle : {input t : List ℕ} {h : Header} {m : Monitor} → Monitored input t h → Fresh t h m → length input ≡ frontSize input → Output input (lastLines m)
 fresh-idle {input} {t} {h} {m} monitored f e =
     let pending : 0 ≡ m .enforcer .count = omega (arith, f .enforcer .queue .few) in
-    subst (Output input) ((λ i. idleLine (m .opening .weak) (m .opening .strong) ++ endLine (sym (f .accepted) i) (sym (f .released) i) (pending i)) ∙ with-none m (f .offered))
+    subst (Output input) ((λ i. idleLine (m .opening .verdicts .weak) (m .opening .verdicts .strong) (m .opening .size) ++ endLine (sym (f .accepted) i) (sym (f .released) i) (pending i)) ∙ with-none m (f .offered))
     (log.idle (m .opening) monitored e (f .opening))
 
 -- the lines of all events that a log may have, and the last lines

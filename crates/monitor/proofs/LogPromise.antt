@@ -9,15 +9,15 @@ use Rattle.automaton.specs.declared.Header.{Header}
 use Rattle.automaton.specs.declared.Refusal.{Refusal}
 use Rattle.automaton.specs.declared.Refusal.the-variants.{NotObservable, Incompatible}
 use Rattle.automaton.specs.Refusals.{numberOf}
-use Rattle.verifier.specs.declared.Notion.the-variants.{Weak, Strong}
+use Rattle.verifier.specs.declared.Notion.the-variants.{Weak}
 use Rattle.verifier.specs.declared.Estimator.{Estimator}
-use Rattle.verifier.specs.declared.Verdicts.{Verdicts}
+use Rattle.verifier.specs.declared.Judgement.{Judgement}
 use Rattle.verifier.specs.Verdicts.{Steps, stepsOf}
 use Rattle.verifier.specs.Estimators as estimators
 use Rattle.verifier.specs.Replies as verifier
 use Rattle.verifier.specs.Replies.{Accepting}
 use Rattle.verifier.specs.Calls.{Right}
-use Rattle.verifier.proofs.Exactness.{exactly}
+use Rattle.verifier.proofs.SecondPoint.{right}
 use Rattle.verifier.proofs.Growing.{grown-limits}
 use Rattle.encoding.proofs.Listing.{decoded-sound}
 use Rattle.enforcer.specs.declared.Enforcer.{Enforcer}
@@ -60,40 +60,40 @@ module _ (t : List ℕ) (h : Header) (sound : Sound t h) where
       subst (λ (l : List ℕ). Prints t h trace r (b ∷ bytes) (l ++ rest) after r′) (sym (refused-as b q Incompatible (sym e))) (log.incompatible ob (impossible trace (a .estimator)) p)
 
   -- the enforcer refuses nothing that the verifier accepts
-  agree : (trace : List ℕ) (r : ℕ) (m : Monitor) (b n : ℕ) (v w : Steps) (s : Estimator) (output left : List ℕ) (e : Enforcer) → After trace r m
-      → Accepting t h (m .estimator) b (verifier.verdicts v w) s → length output ≡ 17 → Offering t h (m .enforcer) b output (enforcer.refused n) e left → ⊥
-  agree trace r m b n v w s output left e a acc wide (Offering.malformed bad) = bad (sound, a .enforcer .limits)
-  agree trace r m b n v w s output left e a acc wide (Offering.output-too-small so li small) = omega arith
-  agree trace r m b n v w s output left e a (Accepting.accepted so li ob ls bw bs exact) wide (Offering.not-observable so′ li′ enough never) = never ob
-  agree trace r m b n v w s output left e a (Accepting.accepted so li ob ls bw bs exact) wide (Offering.incompatible so′ li′ enough ob′ impossible) =
+  agree : (trace : List ℕ) (r : ℕ) (m : Monitor) (b n : ℕ) (v w : Steps) (k : ℕ) (s : Estimator) (output left : List ℕ) (e : Enforcer) → After trace r m
+      → Accepting t h (m .estimator) b (verifier.verdicts v w k) s → length output ≡ 17 → Offering t h (m .enforcer) b output (enforcer.refused n) e left → ⊥
+  agree trace r m b n v w k s output left e a acc wide (Offering.malformed bad) = bad (sound, a .enforcer .limits)
+  agree trace r m b n v w k s output left e a acc wide (Offering.output-too-small so li small) = omega arith
+  agree trace r m b n v w k s output left e a (Accepting.accepted so li ob ls bw bs size exact) wide (Offering.not-observable so′ li′ enough never) = never ob
+  agree trace r m b n v w k s output left e a (Accepting.accepted so li ob ls bw bs size exact) wide (Offering.incompatible so′ li′ enough ob′ impossible) =
       let x = exact trace (a .estimator) in
       let p = x .grown .possible in
       impossible Weak trace (a .enforcer) (p .run) (p .compatible)
 
   -- an event that both accept
-  record Accepted (trace : List ℕ) (r : ℕ) (m : Monitor) (b : ℕ) (v : Verdicts) (s : Estimator) (f : ℕ) (e : Enforcer) (left : List ℕ) : Type 0 where
+  record Accepted (trace : List ℕ) (r : ℕ) (m : Monitor) (b : ℕ) (j : Judgement) (s : Estimator) (f : ℕ) (e : Enforcer) (left : List ℕ) : Type 0 where
     observable : Observable h b
     possible : Possible (automatonOf t h) (trace ++ b ∷ [])
-    right : Right t h (trace ++ b ∷ []) (stepsOf (v .weak)) (stepsOf (v .strong))
+    told : Right t h (trace ++ b ∷ []) (stepsOf (j .verdicts .weak)) (stepsOf (j .verdicts .strong)) (j .size)
     longest : Released t h (trace ++ b ∷ []) (r + f)
     piece : take f left ≡ take f (drop r (trace ++ b ∷ []))
     then : After (trace ++ b ∷ []) (r + f) (acceptedOnce m s e f)
 
-  by-both : (trace : List ℕ) (r : ℕ) (m : Monitor) (b : ℕ) (v : Verdicts) (s : Estimator) (f : ℕ) (e : Enforcer) (output left : List ℕ) → After trace r m
-      → Accepting t h (m .estimator) b (verifier.verdicts (stepsOf (v .weak)) (stepsOf (v .strong))) s → Offering t h (m .enforcer) b output (enforcer.released f) e left
-      → Accepted trace r m b v s f e left
-  by-both trace r m b v s f e output left a (Accepting.accepted so li ob ls bw bs exact) (Offering.accepted so′ li′ wide ob′ after bal front rest exact′) =
+  by-both : (trace : List ℕ) (r : ℕ) (m : Monitor) (b : ℕ) (j : Judgement) (s : Estimator) (f n : ℕ) (e : Enforcer) (output left : List ℕ) → After trace r m
+      → Accepting t h (m .estimator) b (verifier.verdicts (stepsOf (j .verdicts .weak)) (stepsOf (j .verdicts .strong)) (j .size)) s → Offering t h (m .enforcer) b output (enforcer.released f n) e left
+      → Accepted trace r m b j s f e left
+  by-both trace r m b j s f n e output left a (Accepting.accepted so li ob ls bw bs size exact) (Offering.accepted so′ li′ wide ob′ after bal front rest size′ exact′) =
       let x = exact trace (a .estimator) in
       let y = exact′ Weak trace (a .enforcer) in
       let c = m .enforcer .count in
       let len : length (trace ++ b ∷ []) ≡ length trace + 1 = length-append trace (b ∷ []) in
       let here : length trace - c ≡ r = omega (arith, a .pending) in
       let there : length (trace ++ b ∷ []) - e .count ≡ r + f = omega (arith, a .pending) in
-      let passes = passes-accepted (Safe Weak (automatonOf t h) (h .secret) (h .k)) trace c (m .enforcer .pending) (m .enforcer .waits) b f output left (e .count) (a .enforcer .queue) bal front in
+      let passes = passes-accepted (Safe Weak (automatonOf t h) (h .secret) (h .k)) trace c (m .enforcer .pending) (m .enforcer .waits) b f n output left (e .count) (a .enforcer .queue) bal front in
       record {
         observable = ob;
         possible = y .possible;
-        right = record { weak = exactly Weak _ _ _ (trace ++ b ∷ []) (stepsOf (v .weak)) (x .weak); strong = exactly Strong _ _ _ (trace ++ b ∷ []) (stepsOf (v .strong)) (x .strong) };
+        told = right t h (trace ++ b ∷ []) (stepsOf (j .verdicts .weak)) (stepsOf (j .verdicts .strong)) (j .size) s size x;
         longest = subst (Released t h (trace ++ b ∷ [])) there (y .grown .queue .longest);
         piece = passes .piece ∙ ap (λ (k : ℕ). take f (drop k (trace ++ b ∷ []))) here;
         then = record {
@@ -105,13 +105,13 @@ module _ (t : List ℕ) (h : Header) (sound : Sound t h) where
         };
       }
 
-  print-accepted : (trace : List ℕ) (r : ℕ) (m : Monitor) (b : ℕ) (v : Verdicts) (s : Estimator) (f : ℕ) (e : Enforcer) (left bytes rest after : List ℕ) (r′ : ℕ) → After trace r m
-      → Accepted trace r m b v s f e left → Prints t h (trace ++ b ∷ []) (r + f) bytes rest after r′
-      → Prints t h trace r (b ∷ bytes) (acceptedLine (m .accepted + 1) b (v .weak) (v .strong) (take f left) ++ rest) after r′
-  print-accepted trace r m b v s f e left bytes rest after r′ a x p =
-      subst (λ (l : List ℕ). Prints t h trace r (b ∷ bytes) (acceptedLine (m .accepted + 1) b (v .weak) (v .strong) l ++ rest) after r′) (sym (x .piece))
-      (subst (λ (k : ℕ). Prints t h trace r (b ∷ bytes) (acceptedLine (k + 1) b (v .weak) (v .strong) (take f (drop r (trace ++ b ∷ []))) ++ rest) after r′) (sym (a .accepted))
-      (log.accepted v f (x .observable) (x .possible) (x .right) (x .longest) p))
+  print-accepted : (trace : List ℕ) (r : ℕ) (m : Monitor) (b : ℕ) (j : Judgement) (s : Estimator) (f : ℕ) (e : Enforcer) (left bytes rest after : List ℕ) (r′ : ℕ) → After trace r m
+      → Accepted trace r m b j s f e left → Prints t h (trace ++ b ∷ []) (r + f) bytes rest after r′
+      → Prints t h trace r (b ∷ bytes) (acceptedLine (m .accepted + 1) b (j .verdicts .weak) (j .verdicts .strong) (j .size) (take f left) ++ rest) after r′
+  print-accepted trace r m b j s f e left bytes rest after r′ a x p =
+      subst (λ (l : List ℕ). Prints t h trace r (b ∷ bytes) (acceptedLine (m .accepted + 1) b (j .verdicts .weak) (j .verdicts .strong) (j .size) l ++ rest) after r′) (sym (x .piece))
+      (subst (λ (k : ℕ). Prints t h trace r (b ∷ bytes) (acceptedLine (k + 1) b (j .verdicts .weak) (j .verdicts .strong) (j .size) (take f (drop r (trace ++ b ∷ []))) ++ rest) after r′) (sym (a .accepted))
+      (log.accepted j f (x .observable) (x .possible) (x .told) (x .longest) p))
 
   -- all event bytes
   record Ended (trace : List ℕ) (r : ℕ) (bytes text : List ℕ) (e : Monitor) : Type 0 where
@@ -135,14 +135,14 @@ module _ (t : List ℕ) (h : Header) (sound : Sound t h) where
         accepted = y .accepted;
         pending = y .pending;
       }
-  follow trace r m bytes text e a (next {byte = b} (not-enforced q {v = v} {w = w} {s = s} {e = e′} {output = output} {left = left} acc wide off) ls) =
-      absurd (agree trace r m b (numberOf q) v w s output left e′ a acc wide off)
-  follow trace r m bytes text e a (next {byte = b} {bytes = bs} {rest = rest} (accepted v {s = s} {f = f} {e = e′} {output = output} {left = left} acc wide off) ls) =
-      let x = by-both trace r m b v s f e′ output left a acc off in
+  follow trace r m bytes text e a (next {byte = b} (not-enforced q {v = v} {w = w} {n = k} {s = s} {e = e′} {output = output} {left = left} acc wide off) ls) =
+      absurd (agree trace r m b (numberOf q) v w k s output left e′ a acc wide off)
+  follow trace r m bytes text e a (next {byte = b} {bytes = bs} {rest = rest} (accepted j {s = s} {f = f} {n = n} {e = e′} {output = output} {left = left} acc wide off) ls) =
+      let x = by-both trace r m b j s f n e′ output left a acc off in
       let y = follow (trace ++ b ∷ []) (r + f) (acceptedOnce m s e′ f) bs rest e (x .then) ls in
       record {
         after = y .after;
-        prints = print-accepted trace r m b v s f e′ left bs rest (y .after) (e .released) a x (y .prints);
+        prints = print-accepted trace r m b j s f e′ left bs rest (y .after) (e .released) a x (y .prints);
         accepted = y .accepted;
         pending = y .pending;
       }

@@ -5,12 +5,12 @@ use Prim.Native.Nat.{ℕ, _-_, _≤_, _<_}
 use native.Mathlib.Omega.{arith}
 use Rattle.automaton.specs.Run.{Sound}
 use Rattle.automaton.specs.declared.Header.{Header}
-use Rattle.verifier.specs.declared.Notion.the-variants.{Weak, Strong}
+use Rattle.verifier.specs.declared.Notion.the-variants.{Weak}
 use Rattle.verifier.specs.declared.Estimator.{Estimator}
-use Rattle.verifier.specs.declared.Verdicts.{Verdicts}
+use Rattle.verifier.specs.declared.Judgement.{Judgement}
 use Rattle.verifier.specs.Verdicts.{stepsOf}
 use Rattle.verifier.specs.Replies as verifier
-use Rattle.verifier.proofs.Exactness.{exactly}
+use Rattle.verifier.proofs.SecondPoint.{right}
 use lib.ListN.{length, take, drop}
 use Rattle.encoding.specs.Decoding.{Outcome, accept, Decoding}
 use Rattle.enforcer.specs.declared.Enforcer.{Enforcer}
@@ -24,13 +24,14 @@ pub not-begun : (t : List ℕ) (h : Header) (events n : ℕ) (e : Enforcer) (t�
 not-begun t h events n e t′ h′ m so (Starting.malformed bad out) b = absurd (bad so)
 not-begun t h events n e t′ h′ m so (Starting.initial-leak so′ tells out) b = leaks (Starting.initial-leak so′ tells out) b
 
-abbrev freshOf : Verdicts → Estimator → Enforcer → Monitor
-freshOf v s e = record { opening = v; estimator = s; enforcer = e; offered = 0; accepted = 0; released = 0 }
+abbrev freshOf : Judgement → Estimator → Enforcer → Monitor
+freshOf j s e = record { opening = j; estimator = s; enforcer = e; offered = 0; accepted = 0; released = 0 }
 
-pub is-begun : (t : List ℕ) (h : Header) (events : ℕ) (e : Enforcer) (v : Verdicts) (s : Estimator) → Starting t h Weak enforcer.started e
-    → verifier.Opening t h (verifier.verdicts (stepsOf (v .weak)) (stepsOf (v .strong))) s → Begun t h events (started events) t h (freshOf v s e)
-is-begun t h events e v s (Starting.ready so′ tells grown) (verifier.Opening.opened so li x) = begun record {
-  opening = record { weak = exactly Weak _ _ _ [] (stepsOf (v .weak)) (x .weak); strong = exactly Strong _ _ _ [] (stepsOf (v .strong)) (x .strong) };
+pub is-begun : (t : List ℕ) (h : Header) (events : ℕ) (e : Enforcer) (j : Judgement) (s : Estimator) → Starting t h Weak enforcer.started e
+    → verifier.Opening t h (verifier.verdicts (stepsOf (j .verdicts .weak)) (stepsOf (j .verdicts .strong)) (j .size)) s
+    → Begun t h events (started events) t h (freshOf j s e)
+is-begun t h events e j s (Starting.ready so′ tells grown) (verifier.Opening.opened so li within x) = begun record {
+  opening = right t h [] (stepsOf (j .verdicts .weak)) (stepsOf (j .verdicts .strong)) (j .size) s within x;
   estimator = x .grown;
   enforcer = grown;
   offered = refl;

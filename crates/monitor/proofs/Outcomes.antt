@@ -1,12 +1,8 @@
 -- A step's outcome, from what the verifier and the enforcer answered and what was printed. Assumes nothing.
-use mathlib.Core.Path.{_≡_, refl, sym, ap, subst, _∙_}
-use mathlib.Core.Bool.{Bool, true, false}
+use mathlib.Core.Path.{_≡_, refl, sym, ap, subst}
 use mathlib.Core.Logic.{inr}
 use mathlib.Core.List.{List}
-use lib.Dec.{eqb}
-use borrow.Author.Tests.{eqb-true, eqb-false}
-use Rattle.stateset.specs.Set.{Decided}
-use Prim.Native.Nat.{ℕ, _+_, _-_, _≤_, _<_}
+use Prim.Native.Nat.{ℕ, _+_, _-_, _≤_}
 use native.Mathlib.Omega.{arith}
 use lib.ListN.{length, take, length-take}
 use lib.Seq.{length-sets}
@@ -14,7 +10,7 @@ use Rattle.automaton.specs.declared.Header.{Header}
 use Rattle.automaton.specs.declared.Refusal.{Refusal}
 use Rattle.automaton.specs.Refusals.{numberOf}
 use Rattle.verifier.specs.declared.Estimator.{Estimator}
-use Rattle.verifier.specs.declared.Verdicts.{Verdicts}
+use Rattle.verifier.specs.declared.Judgement.{Judgement}
 use Rattle.verifier.specs.Verdicts.{Steps, stepsOf}
 use Rattle.verifier.specs.Estimators as estimators
 use Rattle.verifier.specs.Replies as verifier
@@ -26,7 +22,7 @@ use Rattle.enforcer.specs.Offerings.{Offering}
 use Rattle.report.specs.declared.Line.{Line}
 use Rattle.report.specs.Text.{acceptedLine, refusedLine}
 use Rattle.report.specs.Writing.{Written, no-room, written}
-use Rattle.monitor.specs.Stepping.{Balanced, Within, Countable, offeredOnce, acceptedOnce, not-verified, not-enforced, accepted, placeOf, Printed, Stepped}
+use Rattle.monitor.specs.Stepping.{Within, Countable, offeredOnce, acceptedOnce, not-verified, not-enforced, accepted, placeOf, Printed, Stepped}
 use Rattle.monitor.specs.Advancing.{Ready}
 use Rattle.monitor.specs.declared.Monitor.{Monitor}
 
@@ -51,16 +47,16 @@ pub by-verifier : (t : List ℕ) (h : Header) (m : Monitor) (byte : ℕ) (r : Re
 by-verifier t h m byte r s after {out} {out′} {at} {next} b acc e p = subst (λ (x : Monitor). Stepped t h m byte out at x next out′) (sym e)
     record { text = refusedLine byte r; steps = not-verified r acc; printed = p; within = refused-within t h m b }
 
-pub by-enforcer : (t : List ℕ) (h : Header) (m : Monitor) (byte : ℕ) (r : Refusal) (v w : Steps) (s : Estimator) (e : Enforcer) (output left : List ℕ) (after : Monitor)
-    {out out′ : List ℕ} {at next : ℕ} → Within t h m → Accepting t h (m .estimator) byte (verifier.verdicts v w) s
+pub by-enforcer : (t : List ℕ) (h : Header) (m : Monitor) (byte : ℕ) (r : Refusal) (v w : Steps) (n : ℕ) (s : Estimator) (e : Enforcer) (output left : List ℕ) (after : Monitor)
+    {out out′ : List ℕ} {at next : ℕ} → Within t h m → Accepting t h (m .estimator) byte (verifier.verdicts v w n) s
     → length output ≡ 17 → Offering t h (m .enforcer) byte output (enforcer.refused (numberOf r)) e left → after ≡ offeredOnce m → Printed out at (refusedLine byte r) next out′
     → Stepped t h m byte out at after next out′
-by-enforcer t h m byte r v w s e output left after {out} {out′} {at} {next} b acc wide off eq p = subst (λ (x : Monitor). Stepped t h m byte out at x next out′) (sym eq)
+by-enforcer t h m byte r v w n s e output left after {out} {out′} {at} {next} b acc wide off eq p = subst (λ (x : Monitor). Stepped t h m byte out at x next out′) (sym eq)
     record { text = refusedLine byte r; steps = not-enforced r acc wide off; printed = p; within = refused-within t h m b }
 
-accepted-limits : (t : List ℕ) (h : Header) (self : Estimator) (byte : ℕ) (v w : Steps) (s : Estimator) → Accepting t h self byte (verifier.verdicts v w) s
+accepted-limits : (t : List ℕ) (h : Header) (self : Estimator) (byte : ℕ) (v w : Steps) (n : ℕ) (s : Estimator) → Accepting t h self byte (verifier.verdicts v w n) s
     → estimators.Limits (h .k) s
-accepted-limits t h self byte v w s (Accepting.accepted so li ob after bw bs exact) = after
+accepted-limits t h self byte v w n s (Accepting.accepted so li ob after bw bs size exact) = after
 
 -- the counts of an offer
 record Counted (h : Header) (m : Monitor) (f : ℕ) (e : Enforcer) : Type 0 where
@@ -68,34 +64,35 @@ record Counted (h : Header) (m : Monitor) (f : ℕ) (e : Enforcer) : Type 0 wher
   kept : f + e .count ≡ m .enforcer .count + 1
   limits : enforcers.Limits (h .k) e
 
-counted : (t : List ℕ) (h : Header) (m : Monitor) (byte f : ℕ) (e : Enforcer) (output left : List ℕ) → Offering t h (m .enforcer) byte output (enforcer.released f) e left → Counted h m f e
-counted t h m byte f e output left (Offering.accepted so li wide ob after bal front rest exact) = record { few = omega (arith, li .few, so .back); kept = bal; limits = after }
+counted : (t : List ℕ) (h : Header) (m : Monitor) (byte f n : ℕ) (e : Enforcer) (output left : List ℕ) → Offering t h (m .enforcer) byte output (enforcer.released f n) e left → Counted h m f e
+counted t h m byte f n e output left (Offering.accepted so li wide ob after bal front rest size exact) = record { few = omega (arith, li .few, so .back); kept = bal; limits = after }
 
-pub countable : (t : List ℕ) (h : Header) (m : Monitor) (byte f : ℕ) (e : Enforcer) (output left : List ℕ) (out : List ℕ) (at : ℕ) → Within t h m → Ready m out at
-    → Offering t h (m .enforcer) byte output (enforcer.released f) e left → Countable m f
-countable t h m byte f e output left out at b ready off =
-    let c = counted t h m byte f e output left off in
+pub countable : (t : List ℕ) (h : Header) (m : Monitor) (byte f n : ℕ) (e : Enforcer) (output left : List ℕ) (out : List ℕ) (at : ℕ) → Within t h m → Ready m out at
+    → Offering t h (m .enforcer) byte output (enforcer.released f n) e left → Countable m f
+countable t h m byte f n e output left out at b ready off =
+    let c = counted t h m byte f n e output left off in
     record {
       few = c .few;
       accepted = omega (arith, b .balanced .among, ready .allowed);
       released = omega (arith, b .balanced .among, b .balanced .balance, ready .allowed, c .kept);
     }
 
-pub by-both : (t : List ℕ) (h : Header) (m : Monitor) (byte : ℕ) (v : Verdicts) (s : Estimator) (f : ℕ) (e : Enforcer) (output left : List ℕ) (after : Monitor)
-    {out out′ : List ℕ} {at next : ℕ} → Within t h m → Accepting t h (m .estimator) byte (verifier.verdicts (stepsOf (v .weak)) (stepsOf (v .strong))) s
-    → length output ≡ 17 → Offering t h (m .enforcer) byte output (enforcer.released f) e left → after ≡ acceptedOnce m s e f
-    → Printed out at (acceptedLine (m .accepted + 1) byte (v .weak) (v .strong) (take f left)) next out′
+pub by-both : (t : List ℕ) (h : Header) (m : Monitor) (byte : ℕ) (j : Judgement) (s : Estimator) (f n : ℕ) (e : Enforcer) (output left : List ℕ) (after : Monitor)
+    {out out′ : List ℕ} {at next : ℕ} → Within t h m
+    → Accepting t h (m .estimator) byte (verifier.verdicts (stepsOf (j .verdicts .weak)) (stepsOf (j .verdicts .strong)) (j .size)) s
+    → length output ≡ 17 → Offering t h (m .enforcer) byte output (enforcer.released f n) e left → after ≡ acceptedOnce m s e f
+    → Printed out at (acceptedLine (m .accepted + 1) byte (j .verdicts .weak) (j .verdicts .strong) (j .size) (take f left)) next out′
     → Stepped t h m byte out at after next out′
-by-both t h m byte v s f e output left after {out} {out′} {at} {next} b acc wide off eq p =
-    let c = counted t h m byte f e output left off in
+by-both t h m byte j s f n e output left after {out} {out′} {at} {next} b acc wide off eq p =
+    let c = counted t h m byte f n e output left off in
     subst (λ (x : Monitor). Stepped t h m byte out at x next out′) (sym eq)
     record {
-      text = acceptedLine (m .accepted + 1) byte (v .weak) (v .strong) (take f left);
-      steps = accepted v acc wide off;
+      text = acceptedLine (m .accepted + 1) byte (j .verdicts .weak) (j .verdicts .strong) (j .size) (take f left);
+      steps = accepted j acc wide off;
       printed = p;
       within = record {
         sound = b .sound;
-        estimator = accepted-limits t h (m .estimator) byte (stepsOf (v .weak)) (stepsOf (v .strong)) s acc;
+        estimator = accepted-limits t h (m .estimator) byte (stepsOf (j .verdicts .weak)) (stepsOf (j .verdicts .strong)) (j .size) s acc;
         enforcer = c .limits;
         balanced = record { among = omega (arith, b .balanced .among); balance = omega (arith, b .balanced .balance, c .kept) };
       };

@@ -1,13 +1,13 @@
 -- What `end` writes.
 use mathlib.Core.List.{List, [], _++_}
 use Prim.Native.Nat.{ℕ, zero, suc}
-use Rattle.verifier.specs.declared.Verdicts.{Verdicts}
+use Rattle.verifier.specs.declared.Judgement.{Judgement}
 use Rattle.report.specs.Text.{idleLine, endLine}
 use Rattle.monitor.specs.declared.Monitor.{Monitor}
 
 -- where no event byte was offered, the line of an idle log; else nothing, also where every byte was refused
-abbrev pub beforeLast : (offered : ℕ) → Verdicts → List ℕ
-beforeLast zero opening = idleLine (opening .weak) (opening .strong)
+abbrev pub beforeLast : (offered : ℕ) → Judgement → List ℕ
+beforeLast zero opening = idleLine (opening .verdicts .weak) (opening .verdicts .strong) (opening .size)
 beforeLast (suc n) opening = []
 
 -- and the last line, behind it

@@ -11,7 +11,7 @@ use Rattle.automaton.specs.declared.Refusal.{Refusal}
 use Rattle.encoding.specs.Decoding.{accept, refuse}
 use Rattle.verifier.specs.declared.Notion.{Notion}
 use Rattle.verifier.specs.declared.Notion.the-variants.{Weak}
-use Rattle.verifier.specs.declared.Verdicts.{Verdicts}
+use Rattle.verifier.specs.declared.Judgement.{Judgement}
 use Rattle.verifier.specs.Verdicts.{stepsOf, LeakAt}
 use Rattle.verifier.specs.Calls.{Right}
 use Rattle.report.specs.Text.{idleLine, refusedLog, endLine}
@@ -38,11 +38,13 @@ pub record Monitored (input t : List ℕ) (h : Header) : Type 0 where
   pub decodes : Decodes input h accept t
   pub closed : OpeningLeak Weak t h → ⊥
 
--- the output: the one line of a refused log; of an idle one, which has no event byte at all, the line of the opening verdicts (02, S-4: a chamber still in its
--- opening) and `end 0 0 0`; else a line for each event byte, in order, and last `end`, accepted, released and pending (01: freed, held)
+-- the output: the one line of a refused log; of an idle one, which has no event byte at all, the line of the opening verdicts with how many states are
+-- possible then (02, S-4: a chamber still in its opening; S-5) and `end 0 0 0`; else a line for each event byte, in order, and last `end`, accepted,
+-- released and pending (01: freed, held)
 pub data Output (input : List ℕ) : List ℕ → Type 0 where
   refused : (r : Refusal) → Refused input (numberOf r) → Output input (refusedLog r)
-  idle : {t : List ℕ} {h : Header} (v : Verdicts) → Monitored input t h → length input ≡ frontSize input → Right t h [] (stepsOf (v .weak)) (stepsOf (v .strong))
-      → Output input (idleLine (v .weak) (v .strong) ++ endLine 0 0 0)
+  idle : {t : List ℕ} {h : Header} (j : Judgement) → Monitored input t h → length input ≡ frontSize input
+      → Right t h [] (stepsOf (j .verdicts .weak)) (stepsOf (j .verdicts .strong)) (j .size)
+      → Output input (idleLine (j .verdicts .weak) (j .verdicts .strong) (j .size) ++ endLine 0 0 0)
   ended : {t text trace : List ℕ} {h : Header} {r : ℕ} → Monitored input t h → frontSize input < length input → Prints t h [] 0 (eventsOf input) text trace r
       → Output input (text ++ endLine (length trace) r (length trace - r))

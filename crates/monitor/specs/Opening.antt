@@ -36,9 +36,10 @@ frontSize log = 2 + (getD log 0 0 * 256 + getD log 1 0)
 abbrev pub encodingOf : List ℕ → List ℕ
 encodingOf log = take (frontSize log - 2) (drop 2 log)
 
--- a fresh monitor: the verdicts of the empty trace, a fresh estimator, an enforcer that a weak start has handed back, and no event so far
+-- a fresh monitor: the verdicts and the number of possible states of the empty trace, a fresh estimator, an enforcer that a weak start has handed back,
+-- and no event so far
 pub record Fresh (t : List ℕ) (h : Header) (m : Monitor) : Type 0 where
-  pub opening : Right t h [] (stepsOf (m .opening .weak)) (stepsOf (m .opening .strong))
+  pub opening : Right t h [] (stepsOf (m .opening .verdicts .weak)) (stepsOf (m .opening .verdicts .strong)) (m .opening .size)
   pub estimator : estimators.Grown (automatonOf t h) (h .k) [] (m .estimator)
   pub enforcer : enforcers.Grown Weak (automatonOf t h) (h .secret) (h .k) [] (m .enforcer)
   pub offered : m .offered ≡ 0
@@ -57,9 +58,9 @@ pub record NoMonitor (h : Header) (m : Monitor) : Type 0 where
   pub estimator : (K : ℕ) → K ≤ 15 → estimators.Limits K (m .estimator) → ⊥
   pub enforcer : Unusable (m .enforcer)
   pub counts : Balanced m → ⊥
-  -- it has had all event bytes that a log may have, so that its end is not that of an idle log; and it has no leak to tell
+  -- it has had all event bytes that a log may have, so that its end is not that of an idle log; and it has no leak and no state to tell
   pub spent : m .offered ≡ 4294967295
-  pub opening : m .opening ≡ record { weak = NoLeak; strong = NoLeak }
+  pub opening : m .opening ≡ record { verdicts = record { weak = NoLeak; strong = NoLeak }; size = 0 }
 
 -- the start of a log, in the order of its refusals: 1, those of the encoding, 8. What stands behind the encoding does not matter
 pub data Opening (log : List ℕ) : Said → (table : List ℕ) → Header → Monitor → Type 0 where

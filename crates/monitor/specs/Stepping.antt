@@ -10,7 +10,7 @@ use Rattle.automaton.specs.declared.Header.{Header}
 use Rattle.automaton.specs.declared.Refusal.{Refusal}
 use Rattle.automaton.specs.Refusals.{numberOf}
 use Rattle.verifier.specs.declared.Estimator.{Estimator}
-use Rattle.verifier.specs.declared.Verdicts.{Verdicts}
+use Rattle.verifier.specs.declared.Judgement.{Judgement}
 use Rattle.verifier.specs.Verdicts.{Steps, stepsOf}
 use Rattle.verifier.specs.Estimators as estimators
 use Rattle.verifier.specs.Replies as verifier
@@ -50,17 +50,18 @@ offeredOnce m = record { opening = m .opening; estimator = m .estimator; enforce
 abbrev pub acceptedOnce : Monitor → Estimator → Enforcer → ℕ → Monitor
 acceptedOnce m s e f = record { opening = m .opening; estimator = s; enforcer = e; offered = m .offered + 1; accepted = m .accepted + 1; released = m .released + f }
 
--- an event byte: the line, and the monitor after it. The byte is offered to the verifier, and where that accepts it to the enforcer, with an output of 17 bytes
+-- an event byte: the line, and the monitor after it. The byte is offered to the verifier, and where that accepts it to the enforcer, with an output of 17
+-- bytes. The verdicts and the number of possible states in the line are the verifier's
 pub data Stepping (t : List ℕ) (h : Header) (m : Monitor) (byte : ℕ) : List ℕ → Monitor → Type 0 where
   not-verified : (r : Refusal) {s : Estimator} → Accepting t h (m .estimator) byte (verifier.refused (numberOf r)) s
       → Stepping t h m byte (refusedLine byte r) (offeredOnce m)
-  not-enforced : (r : Refusal) {v w : Steps} {s : Estimator} {e : Enforcer} {output left : List ℕ} → Accepting t h (m .estimator) byte (verifier.verdicts v w) s
+  not-enforced : (r : Refusal) {v w : Steps} {n : ℕ} {s : Estimator} {e : Enforcer} {output left : List ℕ} → Accepting t h (m .estimator) byte (verifier.verdicts v w n) s
       → length output ≡ 17 → Offering t h (m .enforcer) byte output (enforcer.refused (numberOf r)) e left
       → Stepping t h m byte (refusedLine byte r) (offeredOnce m)
-  accepted : (v : Verdicts) {s : Estimator} {f : ℕ} {e : Enforcer} {output left : List ℕ}
-      → Accepting t h (m .estimator) byte (verifier.verdicts (stepsOf (v .weak)) (stepsOf (v .strong))) s
-      → length output ≡ 17 → Offering t h (m .enforcer) byte output (enforcer.released f) e left
-      → Stepping t h m byte (acceptedLine (m .accepted + 1) byte (v .weak) (v .strong) (take f left)) (acceptedOnce m s e f)
+  accepted : (j : Judgement) {s : Estimator} {f n : ℕ} {e : Enforcer} {output left : List ℕ}
+      → Accepting t h (m .estimator) byte (verifier.verdicts (stepsOf (j .verdicts .weak)) (stepsOf (j .verdicts .strong)) (j .size)) s
+      → length output ≡ 17 → Offering t h (m .enforcer) byte output (enforcer.released f n) e left
+      → Stepping t h m byte (acceptedLine (m .accepted + 1) byte (j .verdicts .weak) (j .verdicts .strong) (j .size) (take f left)) (acceptedOnce m s e f)
 
 -- event bytes one after another: their lines, and the monitor after them
 pub data Lines (t : List ℕ) (h : Header) : Monitor → List ℕ → List ℕ → Monitor → Type 0 where

@@ -7,6 +7,7 @@ use enforcer::StartAnswer;
 use report::Line;
 use verifier::Answer;
 use verifier::Estimator;
+use verifier::Judgement;
 use verifier::Notion;
 use verifier::Verdict;
 use verifier::Verdicts;
@@ -26,9 +27,10 @@ ghost use Rattle.monitor.specs.declared.OpenAnswer.the-variants as answe
 ghost use Rattle.monitor.specs.Advancing.{Advancing, Ready, said as advanced};
 ghost use Rattle.monitor.specs.Ending.{lastLines};
 
-// The opening verdicts, the verifier's and the enforcer's state, and how many event bytes were offered, events accepted, and events released.
+// The opening verdicts with how many states are possible, the verifier's and the enforcer's state, and how many event bytes were offered, events accepted,
+// and events released.
 pub struct Monitor {
-    pub opening: Verdicts,
+    pub opening: Judgement,
     pub estimator: Estimator,
     pub enforcer: Enforcer,
     pub offered: u32,
@@ -154,18 +156,18 @@ impl Monitor {
         estimator: Estimator,
         enforcer: Enforcer,
         byte: u8,
-        verdicts: Verdicts,
+        judgement: Judgement,
         released: &[u8],
         out: &mut [u8],
         at: usize,
     ) -> Entry
         requires { ⌜ Ready self (now out) at × Countable self (length (now released)) ⌝ }
         ensures { λ r. ⌜ (r .monitor ≡ acceptedOnce self estimator enforcer (length (now (released .entry))))
-            × Printed (now (out .entry)) at (acceptedLine (self .accepted + 1) byte (verdicts .weak) (verdicts .strong) (now (released .entry))) (r .next) (now (out .exit)) ⌝ }
+            × Printed (now (out .entry)) at (acceptedLine (self .accepted + 1) byte (judgement .verdicts .weak) (judgement .verdicts .strong) (judgement .size) (now (released .entry))) (r .next) (now (out .exit)) ⌝ }
     {
         let opening = self.opening;
         let accepted = self.accepted + 1;
-        let line = report::accepted(out, at, accepted, byte, verdicts, released);
+        let line = report::accepted(out, at, accepted, byte, judgement, released);
         Entry {
             monitor: Monitor {
                 opening: opening,
@@ -183,14 +185,14 @@ impl Monitor {
     fn enforce(
         self,
         estimator: Estimator,
-        verdicts: Verdicts,
+        judgement: Judgement,
         table: &[u64],
         header: Header,
         byte: u8,
         out: &mut [u8],
         at: usize,
     ) -> Entry
-        requires { ⌜ Within (now table) header self × Ready self (now out) at × Accepting (now table) header (self .estimator) byte (verifier.verdicts (stepsOf (verdicts .weak)) (stepsOf (verdicts .strong))) estimator ⌝ }
+        requires { ⌜ Within (now table) header self × Ready self (now out) at × Accepting (now table) header (self .estimator) byte (verifier.verdicts (stepsOf (judgement .verdicts .weak)) (stepsOf (judgement .verdicts .strong)) (judgement .size)) estimator ⌝ }
         ensures { λ r. ⌜ Stepped (now (table .entry)) header self byte (now (out .entry)) at (r .monitor) (r .next) (now (out .exit)) ⌝ }
     {
         let mut output = [0u8; 17];
@@ -199,10 +201,10 @@ impl Monitor {
         let answer = given.answer;
         match answer {
             OfferAnswer::Refused(refusal) => self.log_refused(byte, refusal, out, at),
-            OfferAnswer::Released(n) => {
+            OfferAnswer::Released(release) => {
                 let after = given.enforcer;
-                let m = n as usize;
-                self.log_accepted(estimator, after, byte, verdicts, &output[0..m], out, at)
+                let m = release.count as usize;
+                self.log_accepted(estimator, after, byte, judgement, &output[0..m], out, at)
             }
         }
     }
@@ -217,9 +219,9 @@ impl Monitor {
         let answer = reply.answer;
         match answer {
             Answer::Refused(refusal) => self.log_refused(byte, refusal, out, at),
-            Answer::Accepted(verdicts) => {
+            Answer::Accepted(judgement) => {
                 let after = reply.estimator;
-                self.enforce(after, verdicts, table, header, byte, out, at)
+                self.enforce(after, judgement, table, header, byte, out, at)
             }
         }
     }
@@ -261,7 +263,7 @@ impl Monitor {
 }
 
 impl Monitor {
-    // The last line of a log: how many events were accepted, released and are pending. Where no event byte was offered, the opening verdicts come before it.
+    // The last line of a log: how many events were accepted, released and are pending. Where no event byte was offered, the line of the opening comes before it.
     pub fn end(self, out: &mut [u8], at: usize) -> Line
         ensures { λ r. ⌜ Written roomAtEnd (now (out .entry)) at (lastLines self) r (now (out .exit)) ⌝ }
     {
@@ -321,9 +323,12 @@ fn refused(refusal: Refusal) -> Opened
             symbols: [0u8; 32],
         },
         monitor: Monitor {
-            opening: Verdicts {
-                weak: Verdict::NoLeak,
-                strong: Verdict::NoLeak,
+            opening: Judgement {
+                verdicts: Verdicts {
+                    weak: Verdict::NoLeak,
+                    strong: Verdict::NoLeak,
+                },
+                size: 0,
             },
             estimator: estimator,
             enforcer: enforcer,

@@ -91,9 +91,13 @@ flat-led (x ∷ xs) t = ap (λ (l : List ℕ). 32 ∷ l) (ap (λ (l : List ℕ).
 pub lined : (a : List ℕ) (fs : List (List ℕ)) → a ++ flat fs (10 ∷ []) ≡ line (a ∷ fs)
 lined a fs = ap (λ (l : List ℕ). a ++ l) (flat-led fs (10 ∷ [])) ∙ sym (append-assoc a (led 32 fs) (10 ∷ []))
 
--- a line with two verdicts in it
-pub verdicts-lined : (a b w s c : List ℕ) → a ++ ((32 ∷ b) ++ (((32 ∷ w) ++ (32 ∷ s)) ++ ((32 ∷ c) ++ (10 ∷ [])))) ≡ line (a ∷ b ∷ w ∷ s ∷ c ∷ [])
-verdicts-lined a b w s c = ap (λ (l : List ℕ). a ++ ((32 ∷ b) ++ l)) (append-assoc (32 ∷ w) (32 ∷ s) ((32 ∷ c) ++ (10 ∷ []))) ∙ lined a (b ∷ w ∷ s ∷ c ∷ [])
+-- a line with two verdicts and the number of possible states in it
+pub judgement-lined : (a b w s n c : List ℕ)
+    → a ++ ((32 ∷ b) ++ (((32 ∷ w) ++ ((32 ∷ s) ++ (32 ∷ n))) ++ ((32 ∷ c) ++ (10 ∷ [])))) ≡ line (a ∷ b ∷ w ∷ s ∷ n ∷ c ∷ [])
+judgement-lined a b w s n c =
+    let t = (32 ∷ c) ++ (10 ∷ []) in
+    ap (λ (l : List ℕ). a ++ ((32 ∷ b) ++ l)) (append-assoc (32 ∷ w) ((32 ∷ s) ++ (32 ∷ n)) t ∙ ap (λ (l : List ℕ). (32 ∷ w) ++ l) (append-assoc (32 ∷ s) (32 ∷ n) t))
+    ∙ lined a (b ∷ w ∷ s ∷ n ∷ c ∷ [])
 
 -- the answers of the public functions
 pub entered : {room at next : ℕ} {before after text : List ℕ} → at + room ≤ length before → Wrote room before at text after next → Written room before at text (Next next) after

@@ -54,13 +54,15 @@ abbrev pub symbols : List ℕ → List ℕ
 symbols [] = 45 ∷ []
 symbols (e ∷ es) = joined 44 (map decimal (e ∷ es))
 
--- an accepted event: its place from 1, its symbol (01: the event; 02: a lamp), the verdicts, the symbols that it released (01: freed)
-abbrev pub acceptedLine : ℕ → ℕ → Verdict → Verdict → List ℕ → List ℕ
-acceptedLine place symbol weak strong released = line (decimal place ∷ decimal symbol ∷ steps weak ∷ steps strong ∷ symbols released ∷ [])
+-- an accepted event: its place from 1, its symbol (01: the event; 02: a lamp), the verdicts, how many states are possible (02: how many fit), the
+-- symbols that it released (01: freed)
+abbrev pub acceptedLine : ℕ → ℕ → Verdict → Verdict → ℕ → List ℕ → List ℕ
+acceptedLine place symbol weak strong size released =
+    line (decimal place ∷ decimal symbol ∷ steps weak ∷ steps strong ∷ decimal size ∷ symbols released ∷ [])
 
--- a log without event bytes (02: a chamber still in its opening): `0`, `-`, the opening verdicts, `-`
-abbrev pub idleLine : Verdict → Verdict → List ℕ
-idleLine weak strong = line (decimal 0 ∷ (45 ∷ []) ∷ steps weak ∷ steps strong ∷ (45 ∷ []) ∷ [])
+-- a log without event bytes (02: a chamber still in its opening): `0`, `-`, the opening verdicts, how many states are possible then, `-`
+abbrev pub idleLine : Verdict → Verdict → ℕ → List ℕ
+idleLine weak strong size = line (decimal 0 ∷ (45 ∷ []) ∷ steps weak ∷ steps strong ∷ decimal size ∷ (45 ∷ []) ∷ [])
 
 -- a refused event: `!`, the byte, the number of the refusal
 abbrev pub refusedLine : ℕ → Refusal → List ℕ

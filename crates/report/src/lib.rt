@@ -1,7 +1,7 @@
 // The lines of the log program, written into a lent output. Bytes past the written ones stay as they were.
 use automaton::Refusal;
+use verifier::Judgement;
 use verifier::Verdict;
-use verifier::Verdicts;
 ghost use mathlib.Core.Path.{_≡_};
 ghost use mathlib.Core.List.{[], _∷_, _++_, map};
 ghost use Prim.Native.Nat.{_+_, _*_, _%_, _≤_, _<_};
@@ -96,13 +96,17 @@ fn verdict_field(out: &mut [u8], at: usize, verdict: Verdict) -> usize
     }
 }
 
-// A space and the weak verdict, a space and the strong one: for an event's line and for the line of an idle log.
-fn verdict_fields(out: &mut [u8], at: usize, weak: Verdict, strong: Verdict) -> usize
-    requires { ⌜ at + 22 ≤ length (now out) ⌝ }
-    ensures { λ r. ⌜ Wrote 22 (now (out .entry)) at ((32 ∷ steps weak) ++ (32 ∷ steps strong)) (now (out .exit)) r ⌝ }
+// A space and the weak verdict, a space and the strong one, a space and how many states are possible: for an event's line and for the line of an idle log.
+fn judgement_fields(out: &mut [u8], at: usize, judgement: Judgement) -> usize
+    requires { ⌜ at + 33 ≤ length (now out) ⌝ }
+    ensures { λ r. ⌜ Wrote 33 (now (out .entry)) at ((32 ∷ steps (judgement .verdicts .weak)) ++ ((32 ∷ steps (judgement .verdicts .strong)) ++ (32 ∷ decimal (judgement .size)))) (now (out .exit)) r ⌝ }
 {
-    let next = verdict_field(out, at, weak);
-    verdict_field(out, next, strong)
+    let verdicts = judgement.verdicts;
+    let weak = verdicts.weak;
+    let strong = verdicts.strong;
+    let a = verdict_field(out, at, weak);
+    let b = verdict_field(out, a, strong);
+    field(out, b, 32, wide(judgement.size))
 }
 
 // Each symbol with a comma in front of it.
@@ -144,30 +148,26 @@ fn put_accepted(
     at: usize,
     place: u32,
     symbol: u8,
-    verdicts: Verdicts,
+    judgement: Judgement,
     released: &[u8],
 ) -> usize
     requires { ⌜ at + roomFor (length (now released)) ≤ length (now out) ⌝ }
-    ensures { λ r. ⌜ Wrote (roomFor (length (now (released .entry)))) (now (out .entry)) at (acceptedLine place symbol (verdicts .weak) (verdicts .strong) (now (released .entry))) (now (out .exit)) r ⌝ }
+    ensures { λ r. ⌜ Wrote (roomFor (length (now (released .entry)))) (now (out .entry)) at (acceptedLine place symbol (judgement .verdicts .weak) (judgement .verdicts .strong) (judgement .size) (now (released .entry))) (now (out .exit)) r ⌝ }
 {
-    let weak = verdicts.weak;
-    let strong = verdicts.strong;
     let a = number(out, at, place);
     let b = field(out, a, 32, wide(symbol));
-    let c = verdict_fields(out, b, weak, strong);
+    let c = judgement_fields(out, b, judgement);
     let d = symbols_field(out, c, released);
     put(out, d, 10)
 }
 
-fn put_idle(out: &mut [u8], at: usize, opening: Verdicts) -> usize
+fn put_idle(out: &mut [u8], at: usize, opening: Judgement) -> usize
     requires { ⌜ at + roomFor 0 ≤ length (now out) ⌝ }
-    ensures { λ r. ⌜ Wrote (roomFor 0) (now (out .entry)) at (idleLine (opening .weak) (opening .strong)) (now (out .exit)) r ⌝ }
+    ensures { λ r. ⌜ Wrote (roomFor 0) (now (out .entry)) at (idleLine (opening .verdicts .weak) (opening .verdicts .strong) (opening .size)) (now (out .exit)) r ⌝ }
 {
-    let weak = opening.weak;
-    let strong = opening.strong;
     let a = number(out, at, 0);
     let b = dash(out, a);
-    let c = verdict_fields(out, b, weak, strong);
+    let c = judgement_fields(out, b, opening);
     let d = dash(out, c);
     put(out, d, 10)
 }
@@ -196,13 +196,13 @@ fn put_end(out: &mut [u8], at: usize, accepted: u32, released: u32, pending: u32
 fn put_idle_end(
     out: &mut [u8],
     at: usize,
-    opening: Verdicts,
+    opening: Judgement,
     accepted: u32,
     released: u32,
     pending: u32,
 ) -> usize
     requires { ⌜ at + roomAtEnd ≤ length (now out) ⌝ }
-    ensures { λ r. ⌜ Wrote roomAtEnd (now (out .entry)) at (idleLine (opening .weak) (opening .strong) ++ endLine accepted released pending) (now (out .exit)) r ⌝ }
+    ensures { λ r. ⌜ Wrote roomAtEnd (now (out .entry)) at (idleLine (opening .verdicts .weak) (opening .verdicts .strong) (opening .size) ++ endLine accepted released pending) (now (out .exit)) r ⌝ }
 {
     let next = put_idle(out, at, opening);
     put_end(out, next, accepted, released, pending)
@@ -244,19 +244,19 @@ fn has_room_at_end(out: &[u8], at: usize) -> bool
     false
 }
 
-// The line of an accepted event: its place, its symbol, the verdicts and the symbols that it released.
+// The line of an accepted event: its place, its symbol, the verdicts, how many states are possible, and the symbols that it released.
 pub fn accepted(
     out: &mut [u8],
     at: usize,
     place: u32,
     symbol: u8,
-    verdicts: Verdicts,
+    judgement: Judgement,
     released: &[u8],
 ) -> Line
-    ensures { λ r. ⌜ Written (roomFor (length (now (released .entry)))) (now (out .entry)) at (acceptedLine place symbol (verdicts .weak) (verdicts .strong) (now (released .entry))) r (now (out .exit)) ⌝ }
+    ensures { λ r. ⌜ Written (roomFor (length (now (released .entry)))) (now (out .entry)) at (acceptedLine place symbol (judgement .verdicts .weak) (judgement .verdicts .strong) (judgement .size) (now (released .entry))) r (now (out .exit)) ⌝ }
 {
     if has_room(out, at, released.len()) {
-        return Line::Next(put_accepted(out, at, place, symbol, verdicts, released));
+        return Line::Next(put_accepted(out, at, place, symbol, judgement, released));
     }
     Line::NoRoom
 }
@@ -281,16 +281,16 @@ pub fn ended(out: &mut [u8], at: usize, accepted: u32, released: u32, pending: u
     Line::NoRoom
 }
 
-// The lines of a log without event bytes: the opening verdicts, and the last line.
+// The lines of a log without event bytes: the opening verdicts with how many states are possible, and the last line.
 pub fn idle(
     out: &mut [u8],
     at: usize,
-    opening: Verdicts,
+    opening: Judgement,
     accepted: u32,
     released: u32,
     pending: u32,
 ) -> Line
-    ensures { λ r. ⌜ Written roomAtEnd (now (out .entry)) at (idleLine (opening .weak) (opening .strong) ++ endLine accepted released pending) r (now (out .exit)) ⌝ }
+    ensures { λ r. ⌜ Written roomAtEnd (now (out .entry)) at (idleLine (opening .verdicts .weak) (opening .verdicts .strong) (opening .size) ++ endLine accepted released pending) r (now (out .exit)) ⌝ }
 {
     if has_room_at_end(out, at) {
         return Line::Next(put_idle_end(out, at, opening, accepted, released, pending));

@@ -14,7 +14,8 @@ use Rattle.verifier.specs.Calls.{Call, Calls, done, next, takenBy, accep
 use Rattle.verifier.proofs.Exactness.{exactly, right-size}
 use Rattle.verifier.proofs.Growing.{grown-limits}
 
-right : (t : List ℕ) (h : Header) (trace : List ℕ) (v w : Steps) (n : ℕ) (s : Estimator) → SizeWithin n → Exact t h trace v w n s → Right t h trace v w n
+-- what an answer tells of a trace is right
+pub right : (t : List ℕ) (h : Header) (trace : List ℕ) (v w : Steps) (n : ℕ) (s : Estimator) → SizeWithin n → Exact t h trace v w n s → Right t h trace v w n
 right t h trace v w n s within x =
     record {
       weak = exactly Weak _ _ _ trace v (x .weak);

@@ -4,7 +4,7 @@ use native.Mathlib.Omega.{arith}
 use mathlib.Core.Path.{ap, _∙_}
 use mathlib.Core.List.{[], _∷_, _++_}
 use Rattle.report.specs.Text.{decimal, steps, symbols}
-use Rattle.report.proofs.Laws.{then, same, verdicts-lined}
+use Rattle.report.proofs.Laws.{then, same, judgement-lined}
 use Rattle.report.proofs.put_accepted.Statement.{statement}
 use Rattle.report.proofs.put_accepted.Tie as tie
 
@@ -17,8 +17,8 @@ wide-requires c κs = search needs
 field-requires : tie.Need-field-requires
 field-requires c κs = search needs
 
-verdict-fields-requires : tie.Need-verdict-fields-requires
-verdict-fields-requires c κs = search needs
+judgement-fields-requires : tie.Need-judgement-fields-requires
+judgement-fields-requires c κs = search needs
 
 symbols-field-requires : tie.Need-symbols-field-requires
 symbols-field-requires c κs = search needs
@@ -32,9 +32,10 @@ same-length c = search needs
 returns : tie.Need-returns
 returns c =
     let a = c .before .before .before .before .before .before .before .before .before .before .before .before .before .before .before .before .before .before .before .before .before .before .before .args in
-    same (ap (λ (k : ℕ). decimal (a .place) ++ ((32 ∷ decimal k) ++ (((32 ∷ steps (a .verdicts .weak)) ++ (32 ∷ steps (a .verdicts .strong))) ++ ((32 ∷ symbols (a .released .now)) ++ (10 ∷ []))))) (c .before .before .before .before .before .before .before .before .before .before .before .before .before .before .before .wide .ensures)
-    ∙ verdicts-lined (decimal (a .place)) (decimal (a .symbol)) (steps (a .verdicts .weak)) (steps (a .verdicts .strong)) (symbols (a .released .now))) (omega arith)
-    (then (c .before .before .before .before .before .before .before .before .before .before .before .before .before .before .before .before .before .before .before .number .ensures) (then (c .before .before .before .before .before .before .before .before .before .before .before .before .before .before .field .ensures) (then (c .before .before .before .before .before .before .before .before .before .before .verdict-fields .ensures) (then (c .before .before .before .before .before .before .symbols-field .ensures) (c .before .before .put .ensures)))))
+    let j = a .judgement in
+    same (ap (λ (k : ℕ). decimal (a .place) ++ ((32 ∷ decimal k) ++ (((32 ∷ steps (j .verdicts .weak)) ++ ((32 ∷ steps (j .verdicts .strong)) ++ (32 ∷ decimal (j .size)))) ++ ((32 ∷ symbols (a .released .now)) ++ (10 ∷ []))))) (c .before .before .before .before .before .before .before .before .before .before .before .before .before .before .before .wide .ensures)
+    ∙ judgement-lined (decimal (a .place)) (decimal (a .symbol)) (steps (j .verdicts .weak)) (steps (j .verdicts .strong)) (decimal (j .size)) (symbols (a .released .now))) (omega arith)
+    (then (c .before .before .before .before .before .before .before .before .before .before .before .before .before .before .before .before .before .before .before .number .ensures) (then (c .before .before .before .before .before .before .before .before .before .before .before .before .before .before .field .ensures) (then (c .before .before .before .before .before .before .before .before .before .before .judgement-fields .ensures) (then (c .before .before .before .before .before .before .symbols-field .ensures) (c .before .before .put .ensures)))))
 
 pub put-accepted-spec : {M : Type 1} → statement M
 put-accepted-spec =
@@ -43,7 +44,7 @@ put-accepted-spec =
     number-requires
     wide-requires
     field-requires
-    verdict-fields-requires
+    judgement-fields-requires
     symbols-field-requires
     put-requires
     same-length

@@ -2,7 +2,7 @@ use borrow.Author.Needs.{needs}
 use native.Mathlib.Omega.{arith}
 use mathlib.Core.List.{[], _∷_}
 use Rattle.report.specs.Text.{decimal, steps}
-use Rattle.report.proofs.Laws.{then, same, verdicts-lined}
+use Rattle.report.proofs.Laws.{then, same, judgement-lined}
 use Rattle.report.proofs.put_idle.Statement.{statement}
 use Rattle.report.proofs.put_idle.Tie as tie
 
@@ -12,8 +12,8 @@ number-requires c κs = search needs
 dash-requires : tie.Need-dash-requires
 dash-requires c κs = search needs
 
-verdict-fields-requires : tie.Need-verdict-fields-requires
-verdict-fields-requires c κs = search needs
+judgement-fields-requires : tie.Need-judgement-fields-requires
+judgement-fields-requires c κs = search needs
 
 dash-requires-2 : tie.Need-dash-requires-2
 dash-requires-2 c κs = search needs
@@ -26,11 +26,11 @@ same-length c = search needs
 
 returns : tie.Need-returns
 returns c =
-    let a = c .before .before .before .before .before .before .before .before .before .before .before .before .before .before .before .before .before .before .before .before .before .args in
-    same (verdicts-lined (decimal 0) (45 ∷ []) (steps (a .opening .weak)) (steps (a .opening .strong)) (45 ∷ [])) (omega arith)
-    (then (c .before .before .before .before .before .before .before .before .before .before .before .before .before .before .before .before .before .before .number .ensures) (then (c .before .before .before .before .before .before .before .before .before .before .before .before .before .before .dash .ensures) (then (c .before .before .before .before .before .before .before .before .before .before .verdict-fields .ensures) (then (c .before .before .before .before .before .before .dash2 .ensures) (c .before .before .put .ensures)))))
+    let a = c .before .before .before .before .before .before .before .before .before .before .before .before .before .before .before .before .before .before .before .before .before .args .opening in
+    same (judgement-lined (decimal 0) (45 ∷ []) (steps (a .verdicts .weak)) (steps (a .verdicts .strong)) (decimal (a .size)) (45 ∷ [])) (omega arith)
+    (then (c .before .before .before .before .before .before .before .before .before .before .before .before .before .before .before .before .before .before .number .ensures) (then (c .before .before .before .before .before .before .before .before .before .before .before .before .before .before .dash .ensures) (then (c .before .before .before .before .before .before .before .before .before .before .judgement-fields .ensures) (then (c .before .before .before .before .before .before .dash2 .ensures) (c .before .before .put .ensures)))))
 
 pub put-idle-spec : {M : Type 1} → statement M
 put-idle-spec =
     tie.close
-    (tie.spec number-requires dash-requires verdict-fields-requires dash-requires-2 put-requires same-length returns)
+    (tie.spec number-requires dash-requires judgement-fields-requires dash-requires-2 put-requires same-length returns)

@@ -18,10 +18,13 @@ abbrev left : tie.After-answer2 → List ℕ
 left x = x .before .before .before .offer .last .1 .1 .1 .1 .0
 
 abbrev count : tie.After-answer2 → ℕ
-count x = x .answer2 .given .0 .0
+count x = x .answer2 .given .0 .0 .count
+
+abbrev size : tie.After-answer2 → ℕ
+size x = x .answer2 .given .0 .0 .size
 
 offered : (x : tie.After-answer2) → Offering (now (x .before .before .before .before .before .before .before .before .args .table)) (x .before .before .before .before .before .before .before .before .args .header) (x .before .before .before .before .before .before .before .before .args .self .enforcer) (x .before .before .before .before .before .before .before .before .args .byte) (replicate 17 0)
-    (enforcer.released (count x)) (x .before .before .before .offer .result .enforcer) (left x)
+    (enforcer.released (count x) (size x)) (x .before .before .before .offer .result .enforcer) (left x)
 offered x =
     let a = x .before .before .before .before .before .before .before .before .args in
     let called = x .before .before .before .offer in
@@ -32,7 +35,7 @@ counts : (x : tie.After-answer2) → Countable (x .before .before .before .befor
 counts x =
     let a = x .before .before .before .before .before .before .before .before .args in
     let p = x .before .before .before .before .before .before .before .before .pre in
-    countable (now (a .table)) (a .header) (a .self) (a .byte) (count x) (x .before .before .before .offer .result .enforcer) (replicate 17 0) (left x) (now (a .out)) (a .at) (p .0) (p .1) (offered x)
+    countable (now (a .table)) (a .header) (a .self) (a .byte) (count x) (size x) (x .before .before .before .offer .result .enforcer) (replicate 17 0) (left x) (now (a .out)) (a .at) (p .0) (p .1) (offered x)
 
 within : (x : tie.After-answer2) → count x ≤ length (left x)
 within x = omega (arith, counts x .few)
@@ -62,13 +65,14 @@ part-log-accepted-start : tie.Need-part-log-accepted-start
 part-log-accepted-start c = search needs
 
 part-log-accepted-end : tie.Need-part-log-accepted-end
-part-log-accepted-end c = within (c .before .before .before)
+part-log-accepted-end c = within (c .before .before .before .before)
 
 log-accepted-requires : tie.Need-log-accepted-requires
-log-accepted-requires c κs = (
-  c .before .before .before .before .before .before .before .before .before .before .before .before .before .pre .1,
-  subst (Countable (c .before .before .before .before .before .before .before .before .before .before .before .before .before .args .self)) (sym (part-size (left (c .before .before .before .before .before)) (count (c .before .before .before .before .before)) (within (c .before .before .before .before .before)))) (counts (c .before .before .before .before .before)),
-)
+log-accepted-requires c κs =
+    let x = c .before .before .before .before .before .before in (
+      x .before .before .before .before .before .before .before .before .pre .1,
+      subst (Countable (x .before .before .before .before .before .before .before .before .args .self)) (sym (part-size (left x) (count x) (within x))) (counts x),
+    )
 
 same-length : tie.Need-same-length
 same-length c = search needs
@@ -80,7 +84,7 @@ returns c =
     let called = c .before .before .before .before .before .before .before .before .offer in
     let done = c .before .before .log-refused in
     let r = c .before .before .before .before .before .answer .given .0 .0 in
-    by-enforcer (now (a .table)) (a .header) (a .self) (a .byte) r _ _ (a .estimator) (called .result .enforcer) (replicate 17 0) (called .last .1 .1 .1 .1 .0) (done .result .monitor)
+    by-enforcer (now (a .table)) (a .header) (a .self) (a .byte) r _ _ _ (a .estimator) (called .result .enforcer) (replicate 17 0) (called .last .1 .1 .1 .1 .0) (done .result .monitor)
     (p .0) (p .2) refl
     (subst (λ (x : OfferAnswer). Offering (now (a .table)) (a .header) (a .self .enforcer) (a .byte) (replicate 17 0) (enforcer.said x) (called .result .enforcer) (called .last .1 .1 .1 .1 .0)) (c .before .before .before .before .before .answer .given .1) (called .ensures))
     (done .ensures .0) (done .ensures .1)
@@ -90,12 +94,12 @@ same-length-2 c = search needs
 
 returns-2 : tie.Need-returns-2
 returns-2 c =
-    let x = c .before .before .before .before .before .before .before .before in
-    let a = c .before .before .before .before .before .before .before .before .before .before .before .before .before .before .before .before .args in
-    let p = c .before .before .before .before .before .before .before .before .before .before .before .before .before .before .before .before .pre in
+    let x = c .before .before .before .before .before .before .before .before .before in
+    let a = x .before .before .before .before .before .before .before .before .args in
+    let p = x .before .before .before .before .before .before .before .before .pre in
     let done = c .before .before .log-accepted in
     let e = x .before .before .before .offer .result .enforcer in
-    by-both (now (a .table)) (a .header) (a .self) (a .byte) (a .verdicts) (a .estimator) (count x) e (replicate 17 0) (left x) (done .result .monitor)
+    by-both (now (a .table)) (a .header) (a .self) (a .byte) (a .judgement) (a .estimator) (count x) (size x) e (replicate 17 0) (left x) (done .result .monitor)
     (p .0) (p .2) refl (offered x)
     (subst (λ (k : ℕ). done .result .monitor ≡ acceptedOnce (a .self) (a .estimator) e k) (part-size (left x) (count x) (within x)) (done .ensures .0))
     (rw (part-is (left x) (count x)) at (done .ensures .1))

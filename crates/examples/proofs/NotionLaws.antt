@@ -6,12 +6,11 @@ use Prim.Native.Nat.{ℕ, _+_, _<_}
 use native.Mathlib.Omega.{arith}
 use lib.Dec.{T, eqb, leb, eqb→eq, leb→le, le→leb, T-not}
 use lib.ListN.{length, getD}
-use lib.Seq.{take-length}
 use Rattle.stateset.specs.Set.{bit}
 use Rattle.automaton.specs.Run.{Automaton, Step, shows, Position, count, stateAt, Possible, Impossible}
 use Rattle.automaton.specs.Reaching.{Arrives, EstimateSize}
 use Rattle.automaton.specs.Notion.{SureAt, SureFrom, ClearAt, ClearFrom}
-use Rattle.automaton.proofs.Positions.{part-run}
+use Rattle.automaton.proofs.Estimates.{delayed-arrives}
 use Rattle.examples.proofs.Booleans.{any, any-place, and-left, and-right, and-both, is-true, from-true, unless-false, unless-not, eq-eqb}
 use Rattle.examples.proofs.Search.{flagOf}
 use Rattle.examples.proofs.Marks.{flag-from, flag-to}
@@ -53,13 +52,13 @@ module _ (p : Automaton) (trace : List ℕ) where
   arrives q r =
       let h = flag-to p (endsAt q (length trace)) (r .run) (from-true (r .flagged)) in
       let m = h .position in
-      let n = eqb→eq (count p m) (length trace) (and-left (eqb (count p m) (length trace)) (eqb (stateAt p m) q) (h .marked)) in
-      let x = part-run p trace (length trace) (m .before) (m .after) (r .run) (m .splits) (r .compatible) n in
-      record {
-        run = m .before;
-        compatible = record { takes = x .front .takes; shown-is = x .front .shown-is ∙ take-length trace };
-        ends = eqb→eq (stateAt p m) q (and-right (eqb (count p m) (length trace)) (eqb (stateAt p m) q) (h .marked));
-      }
+      delayed-arrives p trace q (record {
+        run = r .run;
+        compatible = r .compatible;
+        position = m;
+        here = eqb→eq (count p m) (length trace) (and-left (eqb (count p m) (length trace)) (eqb (stateAt p m) q) (h .marked));
+        is = eqb→eq (stateAt p m) q (and-right (eqb (count p m) (length trace)) (eqb (stateAt p m) q) (h .marked));
+      })
 
   pub arrives-listed : (states : List ℕ) → Unflagged p (endsOutside states (length trace)) true trace → (q : ℕ) → Arrives p trace q → T (any (eqb q) states)
   arrives-listed states never q a =

@@ -8,10 +8,13 @@ use native.Mathlib.Omega.{arith}
 use native.Mathlib.Decide.{decLe, ℕ-discrete}
 use lib.ListN.{length, take, length-append}
 use lib.Seq.{take-length, length-take-le}
+use Rattle.stateset.specs.Set.{Counts}
+use Rattle.stateset.proofs.Counting.{counts-as}
 use Rattle.automaton.specs.declared.Header.{Header}
 use Rattle.automaton.specs.Run.{Automaton, automatonOf, Step, shows, shown, Compatible, Position, count, stateAt}
 use Rattle.automaton.specs.Notion.{SureAt}
-use Rattle.automaton.specs.Reaching.{DelayedEstimate}
+use Rattle.automaton.specs.Reaching.{Arrives, EstimateSize, DelayedEstimate}
+use Rattle.automaton.proofs.Estimates.{delayed-arrives, arrives-delayed}
 use Rattle.automaton.proofs.Positions.{part-run, estimate-sure, sure-estimate}
 use Rattle.verifier.specs.declared.Notion.the-variants.{Weak}
 use Rattle.verifier.specs.Verdicts.{Steps, none, leak, LeakAt, Tells, Words, Exactly}
@@ -129,6 +132,16 @@ module _ (p : Automaton) (K : ℕ) (μ : List ℕ) where
   -- m(i) is our delayed estimate i steps back. Where i is past |μ| both are the states before the first symbol: m_init repeats its state, and |μ| − i is 0
   pub estimator-delayed : (i q : ℕ) → i ≤ K → EstimateAt (estimatorAfter p K μ) i q ↔ DelayedEstimate p μ (length μ - i) q
   estimator-delayed i q h = (delayed i q h, estimated i q h)
+
+  -- so the number of possible states (02, S-5) is how many m(0) has, the states in which the system can be now
+  pub size-current : (n : ℕ) → EstimateSize p μ n ↔ Counts (EstimateAt (estimatorAfter p K μ) 0) n
+  size-current n =
+      let e : length μ ≡ length μ - 0 = omega arith in
+      let there : (q : ℕ) → Arrives p μ q → EstimateAt (estimatorAfter p K μ) 0 q =
+      λ q x. estimator-delayed 0 q (omega arith) .1 (subst (λ (j : ℕ). DelayedEstimate p μ j q) e (arrives-delayed p μ q x)) in
+      let back : (q : ℕ) → EstimateAt (estimatorAfter p K μ) 0 q → Arrives p μ q =
+      λ q x. delayed-arrives p μ q (subst (λ (j : ℕ). DelayedEstimate p μ j q) (sym e) (estimator-delayed 0 q (omega arith) .0 x)) in
+      (counts-as there back, counts-as back there)
 
   -- Proposition 3: of m = δ_D(m_init, μ), m(i) = δ(q_init, ⟦μ′/μ⟧), where μ′ is the first |μ| − i symbols of μ. There i is at most |μ| and K; here K alone, for
   -- past |μ| μ′ is empty. There μ is an observed trace; here it is any list, for where it is not observed neither side has a state

@@ -63,22 +63,22 @@ judged-exact t h trace s a v n weak strong g j size =
     }
 
 -- a fresh estimator's answer, from the estimate that was settled and what was judged
-pub opening-of : (t : List ℕ) (h : Header) (s : Estimator) (a : Asked) (j : Judgement) (silent : List ℕ) (e : Estimate) → Sound t h → Asks Weak a → Asks Strong a
-    → Grown (automatonOf t h) (h .k) [] s → Settled (automatonOf t h) (getD (s .entries) 0 0) silent e → Judged t h s a (j .verdicts) × (j .size ≡ e .size)
+pub opening-of : (t : List ℕ) (h : Header) (s : Estimator) (a : Asked) (j : Judgement) (from : ℕ) (silent : List ℕ) (e : Estimate) → Sound t h → Asks Weak a → Asks Strong a
+    → Grown (automatonOf t h) (h .k) [] s → Settled (automatonOf t h) from (getD (s .entries) 0 0) silent e → Judged t h s a (j .verdicts) × (j .size ≡ e .size)
     → Opening t h (said (answer.Accepted j)) s
-opening-of t h s a j silent e so weak strong g settled judged =
+opening-of t h s a j from silent e so weak strong g settled judged =
     let p = automatonOf t h in
-    let size = subst (EstimateSize p []) (sym (judged .1)) (settled-size p _ silent e [] settled (grown-entry p (h .k) [] s g)) in
+    let size = subst (EstimateSize p []) (sym (judged .1)) (settled-size p from _ silent e [] settled (grown-entry p (h .k) [] s g)) in
     opened so (grown-limits p (h .k) [] s g (so .symbols-small))
     (record { some = size-some p [] _ (g .possible) size; most = size-most p [] _ (so .start) size })
     (judged-exact t h [] s a (j .verdicts) (j .size) weak strong g (judged .0) size)
 
 -- an accepted symbol, from the estimate after it and the estimator with it pushed
-pub moved-by : (t : List ℕ) (h : Header) (self : Estimator) (symbol n : ℕ) (silent : List ℕ) (e : Estimate) (s : Estimator) → Sound t h → Limits (h .k) self
-    → Observable h symbol → Stepped (automatonOf t h) (getD (self .entries) 0 0) symbol silent e → n ≡ e .size → Limits (h .k) s
+pub moved-by : (t : List ℕ) (h : Header) (self : Estimator) (symbol n from : ℕ) (silent : List ℕ) (e : Estimate) (s : Estimator) → Sound t h → Limits (h .k) self
+    → Observable h symbol → Stepped (automatonOf t h) from (getD (self .entries) 0 0) symbol silent e → n ≡ e .size → Limits (h .k) s
     → ((trace : List ℕ) → Grown (automatonOf t h) (h .k) trace self → Is (e .entry) (Enters (automatonOf t h) (trace ++ symbol ∷ []))
     → Possible (automatonOf t h) (trace ++ symbol ∷ []) → Grown (automatonOf t h) (h .k) (trace ++ symbol ∷ []) s) → Moved t h self symbol n s
-moved-by t h self symbol n silent e s so li ob x is after push =
+moved-by t h self symbol n from silent e s so li ob x is after push =
     let p = automatonOf t h in
     record {
       sound = so;
@@ -89,7 +89,7 @@ moved-by t h self symbol n silent e s so li ob x is after push =
       grown = λ trace g. let E = grown-entry p (h .k) trace self g in push trace g (x .enters trace E) (x .possible trace E);
       size = λ trace g.
           subst (EstimateSize p (trace ++ symbol ∷ [])) (sym is)
-          (settled-size p _ silent e (trace ++ symbol ∷ []) (x .settled) (x .enters trace (grown-entry p (h .k) trace self g)));
+          (settled-size p from _ silent e (trace ++ symbol ∷ []) (x .settled) (x .enters trace (grown-entry p (h .k) trace self g)));
     }
 
 -- the verdict that was found for an estimator, as that of the event that led to it

@@ -5,12 +5,11 @@ use Prim.Native.Nat.{ℕ, _≤_, _<_, _^_}
 use native.Mathlib.Omega.{arith}
 use lib.Bits.{bitOr}
 use lib.Count.{trailingZeros}
-use lib.ListN.{getD}
 use Rattle.stateset.specs.Set.{In, Is, Counts}
-use Rattle.stateset.proofs.Bits.{in-lt, or-r, trailing-in}
+use Rattle.stateset.proofs.Bits.{in-lt, or-l, or-r, trailing-in}
 use Rattle.stateset.proofs.Counting.{counts-some, counts-below}
 use Rattle.automaton.specs.Run.{Automaton, Impossible}
-use Rattle.automaton.specs.Reaching.{Enters, Arrives, EstimateSize, Gained, Closed, Entered}
+use Rattle.automaton.specs.Reaching.{Enters, Arrives, EstimateSize, Gained, Closed}
 use Rattle.automaton.specs.Relation.{Sub}
 use Rattle.automaton.specs.declared.Reach.{Reach}
 use Rattle.automaton.proofs.Entering.{gained-closed}
@@ -19,18 +18,14 @@ use Rattle.automaton.proofs.Traces.{entry-possible}
 use Rattle.verifier.specs.declared.Estimate.{Estimate}
 use Rattle.verifier.specs.declared.NextEstimate.{NextEstimate}
 use Rattle.verifier.specs.declared.NextEstimate.the-variants.{States, Empty}
-use Rattle.verifier.specs.Inner.{Settled, Stepped, Next, some-run, no-run, Surrounded}
-
--- rows that are known for a set are known for its part
-pub gained-part : (p : Automaton) (part from : ℕ) (silent : List ℕ) (r : Reach) → Sub part from → Gained p from silent r → Gained p part silent r
-gained-part p part from silent r sub g = record { small = g .small; known-are = g .known-are; more = λ q i. g .more q (sub q i); within = g .within }
+use Rattle.verifier.specs.Inner.{UnobservableReach, Settled, Stepped, Next, some-run, no-run}
 
 -- the estimate, from what was explored, what the closure gave and what was counted
 pub settling : (p : Automaton) (from entry : ℕ) (silent : List ℕ) (r : Reach) (states size : ℕ) → p .initial ≤ 63 → entry < 2 ^ 64 → states < 2 ^ 64
     → Gained p (bitOr from entry) silent r
     → (Sub entry (r .states) → Sub entry states)
     → ((trace : List ℕ) → Closed p (r .states) silent → Sub entry (r .states) → Is entry (Enters p trace) → Is states (Arrives p trace))
-    → Counts (λ q. In q states) size → Settled p entry silent (record { entry = entry; states = states; size = size; near = r })
+    → Counts (λ q. In q states) size → Settled p from entry silent (record { entry = entry; states = states; size = size; near = r .states })
 settling p from entry silent r states size start small-entry small g within reach counted =
     let closed = gained-closed p (bitOr from entry) silent r g in
     let new : Sub entry (r .states) = λ q i. g .more q (or-r q from entry i) in
@@ -40,63 +35,47 @@ settling p from entry silent r states size start small-entry small g within reac
       size-is = counted;
       some = λ n. counts-some size (trailingZeros 64 entry) (within new (trailingZeros 64 entry) (trailing-in 64 entry (omega arith) small-entry)) counted;
       most = counts-below size 64 (λ q i. in-lt 64 q states small i) counted;
-      gained = gained-part p entry (bitOr from entry) silent r (λ q i. or-r q from entry i) g;
+      closed = closed;
+      old = λ q i. g .more q (or-l q from entry i);
+      new = new;
     }
 
 -- its number, for a trace by which the entry set was entered
-pub settled-size : (p : Automaton) (entry : ℕ) (silent : List ℕ) (e : Estimate) (trace : List ℕ) → Settled p entry silent e → Is entry (Enters p trace)
+pub settled-size : (p : Automaton) (from entry : ℕ) (silent : List ℕ) (e : Estimate) (trace : List ℕ) → Settled p from entry silent e → Is entry (Enters p trace)
     → EstimateSize p trace (e .size)
-settled-size p entry silent e trace s E = set-size p trace (e .states) (e .size) (s .reach .each trace E) (s .size-is)
+settled-size p from entry silent e trace s E = set-size p trace (e .states) (e .size) (s .reach .each trace E) (s .size-is)
 
 -- the estimate of an entry set that is not empty, as that after one more symbol
-pub stepping : (p : Automaton) (entry symbol new : ℕ) (silent : List ℕ) (e : Estimate) → Settled p new silent e → (new ≡ 0 → ⊥) → new < 2 ^ 64
-    → ((trace : List ℕ) → Is entry (Enters p trace) → Is new (Enters p (trace ++ symbol ∷ []))) → Stepped p entry symbol silent e
-stepping p entry symbol new silent e s some small N =
+pub stepping : (p : Automaton) (from entry symbol new : ℕ) (silent : List ℕ) (e : Estimate) → Settled p from new silent e → (new ≡ 0 → ⊥) → new < 2 ^ 64
+    → ((trace : List ℕ) → Is entry (Enters p trace) → Is new (Enters p (trace ++ symbol ∷ []))) → Stepped p from entry symbol silent e
+stepping p from entry symbol new silent e s some small N =
     let is = s .entry-is in
     let enters : (trace : List ℕ) → Is entry (Enters p trace) → Is (e .entry) (Enters p (trace ++ symbol ∷ [])) =
     λ trace E. subst (λ (x : ℕ). Is x (Enters p (trace ++ symbol ∷ []))) (sym is) (N trace E) in
     record {
-      settled = subst (λ (x : ℕ). Settled p x silent e) (sym is) s;
+      settled = subst (λ (x : ℕ). Settled p from x silent e) (sym is) s;
       size-within = record { some = s .some some; most = s .most };
       enters = enters;
       possible = λ trace E. entry-possible p (trace ++ symbol ∷ []) new small some (N trace E);
     }
 
-pub some-left : {p : Automaton} {entry symbol : ℕ} {silent : List ℕ} {r : NextEstimate} {e : Estimate} → Next p entry symbol silent r → r ≡ States e
-    → Stepped p entry symbol silent e
-some-left {p} {entry} {symbol} {silent} {r} {e} x is = go (subst (Next p entry symbol silent) is x)
+pub some-left : {p : Automaton} {from entry symbol : ℕ} {silent : List ℕ} {r : NextEstimate} {e : Estimate} → Next p from entry symbol silent r → r ≡ States e
+    → Stepped p from entry symbol silent e
+some-left {p} {from} {entry} {symbol} {silent} {r} {e} x is = go (subst (Next p from entry symbol silent) is x)
   where
-    go : Next p entry symbol silent (States e) → Stepped p entry symbol silent e
+    go : Next p from entry symbol silent (States e) → Stepped p from entry symbol silent e
     go (some-run y) = y
 
-pub none-left : {p : Automaton} {entry symbol : ℕ} {silent : List ℕ} {r : NextEstimate} → Next p entry symbol silent r → r ≡ Empty
+pub none-left : {p : Automaton} {from entry symbol : ℕ} {silent : List ℕ} {r : NextEstimate} → Next p from entry symbol silent r → r ≡ Empty
     → (trace : List ℕ) → Is entry (Enters p trace) → Impossible p (trace ++ symbol ∷ [])
-none-left {p} {entry} {symbol} {silent} {r} x is = go (subst (Next p entry symbol silent) is x)
+none-left {p} {from} {entry} {symbol} {silent} {r} x is = go (subst (Next p from entry symbol silent) is x)
   where
-    go : Next p entry symbol silent Empty → (trace : List ℕ) → Is entry (Enters p trace) → Impossible p (trace ++ symbol ∷ [])
+    go : Next p from entry symbol silent Empty → (trace : List ℕ) → Is entry (Enters p trace) → Impossible p (trace ++ symbol ∷ [])
     go (no-run y) = y
 
-pub settled-as : {p : Automaton} {entry newest : ℕ} {silent : List ℕ} {e : Estimate} → newest ≡ entry → Settled p entry silent e → Settled p newest silent e
-settled-as is s = rw is s
+pub reach-as : {p : Automaton} {entry newest estimate : ℕ} → newest ≡ entry → UnobservableReach p entry estimate → UnobservableReach p newest estimate
+reach-as e r = rw e r
 
--- what a look back needs: where it takes no step, what was explored is enough; else the rest was explored, and turned round
-pub around-none : (p : Automaton) (entries silent back : List ℕ) (r : Reach) (last : ℕ) → last ≡ 0 → Gained p (getD entries 0 0) silent r → Surrounded p entries silent back (r .states) last
-around-none p entries silent back r last z g =
-    record {
-      near = record {
-        closed = gained-closed p _ silent r g;
-        inside = λ l q h i.
-            let e : l ≡ 0 = omega arith in
-            g .more q (subst (λ (k : ℕ). In q (getD entries k 0)) e i);
-      };
-      back-are = λ some. absurd (omega arith);
-    }
-
-pub around-all : (p : Automaton) (entries silent back : List ℕ) (near entered : ℕ) (r : Reach) (last : ℕ) → last ≤ 15 → Gained p (bitOr near entered) silent r
-    → ((l q : ℕ) → l < 16 → In q (getD entries l 0) → In q entered) → (Closed p (r .states) silent → Entered p (r .states) back) → Surrounded p entries silent back (r .states) last
-around-all p entries silent back near entered r last few g inside turned =
-    let closed = gained-closed p _ silent r g in
-    record {
-      near = record { closed = closed; inside = λ l q h i. g .more q (or-r q near entered (inside l q (omega arith) i)) };
-      back-are = λ some. turned closed;
-    }
+-- rows that are known for a set are known for its part
+pub gained-part : (p : Automaton) (part from : ℕ) (silent : List ℕ) (r : Reach) → Sub part from → Gained p from silent r → Gained p part silent r
+gained-part p part from silent r sub g = record { small = g .small; known-are = g .known-are; more = λ q i. g .more q (sub q i); within = g .within }

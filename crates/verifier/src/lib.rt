@@ -7,13 +7,13 @@ ghost use Prim.Native.Nat.{ℕ, _+_, _≤_, _<_, min};
 ghost use lib.ListN.{length, getD, replicate};
 ghost use Rattle.stateset.specs.Set.{In, Is, Decided};
 ghost use Rattle.automaton.specs.Run.{Automaton, automatonOf, Possible, Sound};
-ghost use Rattle.automaton.specs.Reaching.{Enters, Arrives, Showing, BySymbol, Known, Gained, Closed};
+ghost use Rattle.automaton.specs.Reaching.{Enters, Arrives, Showing, Known, Gained, Closed, Entered};
 ghost use Rattle.automaton.specs.Relation.{Sub};
 ghost use Rattle.verifier.specs.declared.Notion.the-variants as notion;
 ghost use Rattle.verifier.specs.Estimators.{Limits, Grown};
 ghost use Rattle.verifier.specs.declared.Answer.the-variants as answer;
 ghost use Rattle.verifier.specs.Replies.{said, saidBy, chosen, Opening, Accepting, AcceptingBy};
-ghost use Rattle.verifier.specs.Inner.{Pushed, Settled, Next, Sampled, UnobservableReach, Surrounded, Prepared, Found, askFor, Judged, AcceptingAsked};
+ghost use Rattle.verifier.specs.Inner.{Inside, Pushed, Settled, Next, Sampled, UnobservableReach, Prepared, Explored, Found, askFor, Judged, AcceptingAsked};
 
 // 01's "none", or "leak" with its steps.
 pub enum Verdict {
@@ -76,13 +76,13 @@ struct Asked {
     strong: bool,
 }
 
-// The states that are possible: right after the last symbol, then with the unobservable transitions after it, and how many these are. And what was
-// explored for it, states that unobservable events do not leave.
+// The states that are possible: right after the last symbol, then with the unobservable transitions after it, and how many these are. And states
+// that unobservable events do not leave, with all of them among these.
 pub struct Estimate {
     pub entry: u64,
     pub states: u64,
     pub size: u8,
-    pub near: Reach,
+    pub near: u64,
 }
 
 // The states that are possible after one more symbol, if a run is left.
@@ -159,7 +159,7 @@ fn settle(
     entry: u64,
 ) -> Estimate
     requires { ⌜ (length (now table) ≡ 2048) × (header .initial ≤ 63) × Known (automatonOf (now table) header) known from (now silent) ⌝ }
-    ensures { λ r. ⌜ Settled (automatonOf (now (table .entry)) header) entry (now (silent .exit)) r ⌝ }
+    ensures { λ r. ⌜ Settled (automatonOf (now (table .entry)) header) from entry (now (silent .exit)) r ⌝ }
 {
     let reach = automaton::silent_rows(table, header, silent, known, from | entry);
     let states = automaton::unobservable_reach(silent, reach.states, entry);
@@ -167,7 +167,7 @@ fn settle(
         entry: entry,
         states: states,
         size: stateset::size(states),
-        near: reach,
+        near: reach.states,
     }
 }
 
@@ -183,7 +183,7 @@ fn next_estimate(
     requires { ⌜ (length (now table) ≡ 2048) × (header .initial ≤ 63) × ((e : ℕ) → In e events → e < 32)
         × Gained (automatonOf (now table) header) entry (now silent) near ⌝ }
     ensures { λ r. ⌜ ((symbol : ℕ) → Showing (automatonOf (now (table .entry)) header) symbol events
-        → Next (automatonOf (now (table .entry)) header) entry symbol (now (silent .exit)) r) ⌝ }
+        → Next (automatonOf (now (table .entry)) header) (near .states) entry symbol (now (silent .exit)) r) ⌝ }
 {
     let estimate = automaton::unobservable_reach(silent, near.states, entry);
     let after = automaton::observable_reach(table, events, estimate);
@@ -332,27 +332,15 @@ fn judge(
     }
 }
 
-// What a look back needs beside the estimate: states that it does not leave, and the unobservable events the other way round. Where it takes no step,
-// the states of the estimate are enough, and nothing is turned round.
-fn prepare(
-    estimator: Estimator,
-    table: &[u64],
-    header: Header,
-    silent: &mut [u64],
-    near: Reach,
-    back: &mut [u64],
-) -> u64
-    requires { ⌜ (length (now table) ≡ 2048) × Gained (automatonOf (now table) header) (getD (estimator .entries) 0 0) (now silent) near
-        × (estimator .count ≤ 15) × (now back ≡ replicate 64 0) ⌝ }
-    ensures { λ r. ⌜ Surrounded (automatonOf (now (table .entry)) header) (estimator .entries) (now (silent .exit)) (now (back .exit)) r (estimator .count) ⌝ }
+// The unobservable events the other way round, where a look back over `last` steps needs them: where it takes no step, it does not, and the array stays.
+fn turn_back(silent: &[u64], states: u64, last: u8, back: &mut [u64])
+    requires { ⌜ (length (now silent) ≡ 64) × (now back ≡ replicate 64 0) ⌝ }
+    ensures { λ _. ⌜ (0 < last → (p : Automaton) → Closed p states (now (silent .entry)) → Entered p states (now (back .exit))) ⌝ }
 {
-    if estimator.count == 0 {
-        return near.states;
+    if last == 0 {
+        return;
     }
-    let from = near.states | entered(estimator);
-    let reach = automaton::silent_rows(table, header, silent, near.known, from);
-    automaton::silent_back(silent, reach.states, back);
-    reach.states
+    automaton::silent_back(silent, states, back);
 }
 
 // What an accepted answer holds, from the estimate that was worked out last: the verdicts of a look back, and the number of its states.
@@ -361,17 +349,15 @@ fn assess(
     table: &[u64],
     header: Header,
     sets: &[u32],
-    silent: &mut [u64],
+    silent: &[u64],
     estimate: Estimate,
     asked: Asked,
 ) -> Judgement
-    requires { ⌜ Sound (now table) header × Limits (header .k) estimator × BySymbol (automatonOf (now table) header) (now sets)
-        × Settled (automatonOf (now table) header) (getD (estimator .entries) 0 0) (now silent) estimate ⌝ }
+    requires { ⌜ Explored (now table) header (now sets) estimator (now silent) estimate ⌝ }
     ensures { λ r. ⌜ Judged (now (table .entry)) header estimator asked (r .verdicts) × (r .size ≡ estimate .size) ⌝ }
 {
     let mut back = [0u64; 64];
-    let near = estimate.near;
-    let states = prepare(estimator, table, header, silent, near, &mut back);
+    turn_back(silent, estimate.near, estimator.count, &mut back);
     let verdicts = judge(
         estimator,
         table,
@@ -379,7 +365,7 @@ fn assess(
         sets,
         silent,
         &back,
-        states,
+        estimate.near,
         estimate.states,
         asked,
     );
@@ -459,7 +445,8 @@ impl Estimator {
     // With one symbol more, and the states right after it.
     fn push(self, k: u8, symbol: u8, entry: u64) -> Estimator
         requires { ⌜ (k ≤ 15) × (symbol ≤ 31) × Limits k self ⌝ }
-        ensures { λ r. ⌜ Limits k r × (getD (r .entries) 0 0 ≡ entry) × ((p : Automaton) (trace : List ℕ) → Grown p k trace self → Is entry (Enters p (trace ++ symbol ∷ []))
+        ensures { λ r. ⌜ Limits k r × (getD (r .entries) 0 0 ≡ entry) × ((states : ℕ) → Sub entry states → Inside (self .entries) states → Inside (r .entries) states)
+            × ((p : Automaton) (trace : List ℕ) → Grown p k trace self → Is entry (Enters p (trace ++ symbol ∷ []))
             → Possible p (trace ++ symbol ∷ []) → Grown p k (trace ++ symbol ∷ []) r) ⌝ }
     {
         let count = count_after(self.count, k);
@@ -495,15 +482,7 @@ impl Estimator {
             weak: true,
             strong: true,
         };
-        let judgement = assess(
-            estimator,
-            table,
-            header,
-            &sets,
-            &mut silent,
-            estimate,
-            asked,
-        );
+        let judgement = assess(estimator, table, header, &sets, &silent, estimate, asked);
         Reply {
             estimator: estimator,
             answer: Answer::Accepted(judgement),
@@ -535,14 +514,15 @@ impl Estimator {
             return self.refused(Refusal::NotObservable);
         }
         let mut silent = [0u64; 64];
+        let from = entered(self);
+        let near = automaton::silent_rows(table, header, &mut silent, 0, from);
         let newest = self.entries[0];
-        let near = automaton::silent_rows(table, header, &mut silent, 0, newest);
         let next = next_estimate(table, header, &mut silent, near, newest, shown);
         let NextEstimate::States(estimate) = next else {
             return self.refused(Refusal::Incompatible);
         };
         let after = self.push(header.k, symbol, estimate.entry);
-        let judgement = assess(after, table, header, &sets, &mut silent, estimate, asked);
+        let judgement = assess(after, table, header, &sets, &silent, estimate, asked);
         Reply {
             estimator: after,
             answer: Answer::Accepted(judgement),

@@ -60,7 +60,7 @@ steps-holds c =
     let few : a .args .last ≤ 15 = omega (arith, a .pre .1, a .pre .0 .limits .few, a .pre .0 .sound .back) in (
       λ p trace g m r. below-start Weak p _ trace,
       λ p trace g m r. follows-start p _ trace,
-      λ p trace g m r. estimate-by p _ trace _ _ _ _ _ _ (g .start) (g .around .near) m r,
+      λ p trace g m r. estimate-by p _ trace _ _ _ _ _ _ (g .start) few (g .near) m r,
       omega arith,
       few,
       a .fits .estimate .fits,
@@ -132,7 +132,7 @@ follows-next : (c : tie.After-backward-reach Inv-states μ-states Inv-steps μ-s
     Follows p (begin (c .before .before .before .before .before .before) .args .states) trace (c .before .before .before .before .before .before .steps .l + 1) (c .backward-reach .result))
 follows-next c p trace g m r =
     let s = c .before .before .before .before .before .before .steps in
-    follows-step p _ trace _ _ _ _ _ m (omega arith) (c .backward-reach .ensures p _ _ _ (g .table-is) (showing (c .before) p g) (g .around .back-are (omega arith)) (λ q i. i) (s .inv .1 p trace g m r))
+    follows-step p _ trace _ _ _ _ _ m (omega arith) (c .backward-reach .ensures p _ _ _ (g .table-is) (showing (c .before) p g) (g .back-are (omega arith)) (λ q i. i) (s .inv .1 p trace g m r))
 
 -- and the loop takes up step l + 1, with a part of m(l + 1) that decides
 steps-again : tie.Need-steps-again Inv-states μ-states Inv-steps μ-steps
@@ -144,8 +144,8 @@ steps-again c =
       follows-next (c .before),
       λ p trace g m r.
           delayed-by p _ trace (s .l + 1) _ _
-          (delayed-is p trace _ (s .l + 1) _ _ (g .start) next (remembers-inside p trace _ _ _ _ _ (g .around .near) m) (follows-next (c .before) p trace g m r))
-          (c .possible-states .ensures p _ (g .start) (g .around .near .closed) (λ q i. g .around .near .inside (s .l + 1) q next i) (m .entries-are (s .l + 1) next)),
+          (delayed-is p trace _ (s .l + 1) _ _ (g .start) next (remembers-inside p trace _ _ _ _ _ (s .inv .4) (g .near) m) (follows-next (c .before) p trace g m r))
+          (c .possible-states .ensures p _ (g .start) (g .near .closed) (λ q i. g .near .inside (s .l + 1) q (omega (arith, s .inv .4)) i) (m .entries-are (s .l + 1) next)),
       next,
       s .inv .4,
       omega arith,
@@ -203,7 +203,7 @@ events-with-requires c κs = begin (c .before .before .before .before) .pre .0 .
 backward-reach-requires : tie.Need-backward-reach-requires Inv-states μ-states Inv-steps μ-steps
 backward-reach-requires c κs =
     let a = begin (c .before .before .before .before .before) in
-    (a .pre .0 .sound .words, a .pre .0 .looks .around .back-are (omega arith) .size, λ e i. showing c _ (a .pre .0 .looks) .sound e i .0)
+    (a .pre .0 .sound .words, a .pre .0 .looks .back-are (omega arith) .size, λ e i. showing c _ (a .pre .0 .looks) .sound e i .0)
 
 add-l : tie.Need-add-l Inv-states μ-states Inv-steps μ-steps
 add-l c = omega arith
@@ -220,7 +220,7 @@ array-read-possible-states c = omega arith
 
 possible-states-requires :
     tie.Need-possible-states-requires Inv-states μ-states Inv-steps μ-steps
-possible-states-requires c κs = begin (c .before .before .before .before .before .before) .pre .0 .looks .around .near .closed .size
+possible-states-requires c κs = begin (c .before .before .before .before .before .before) .pre .0 .looks .near .closed .size
 
 steps-less : tie.Need-steps-less Inv-states μ-states Inv-steps μ-steps
 steps-less c = omega arith

@@ -14,7 +14,7 @@ use Rattle.automaton.proofs.Entering.{known-none}
 use Rattle.verifier.specs.Estimators.{Limits}
 use Rattle.verifier.specs.Replies.{Accepting, not-observable, incompatible, Moved}
 use Rattle.verifier.proofs.Judging.{grown-entry, moved-by, found-by, given-by, refused-asked}
-use Rattle.verifier.proofs.Settling.{some-left, none-left, settled-as}
+use Rattle.verifier.proofs.Settling.{some-left, none-left, reach-as, gained-part}
 use Rattle.verifier.proofs.Estimator.accept_asked.Statement.{statement}
 use Rattle.verifier.proofs.Estimator.accept_asked.Tie as tie
 
@@ -67,8 +67,8 @@ returns-2 c =
     refused-asked _ _ _ _ _ refusal.NotObservable _ (r .0) (r .1)
     (not-observable (o .0) (o .1) (none-observable (now (a .table)) (a .header) _ _ (showing v) (c .before .if2 .taken)))
 
-element-copy-out-newest : tie.Need-element-copy-out-newest
-element-copy-out-newest c = search needs
+entered-requires : tie.Need-entered-requires
+entered-requires c κs = search needs
 
 slice-aggregate-silent-rows : tie.Need-slice-aggregate-silent-rows
 slice-aggregate-silent-rows c = search needs
@@ -76,14 +76,18 @@ slice-aggregate-silent-rows c = search needs
 silent-rows-requires : tie.Need-silent-rows-requires
 silent-rows-requires c κs = (ok (c .before .before .before .before .before .before .before .before) .0 .words, known-none _ _)
 
+element-copy-out-newest : tie.Need-element-copy-out-newest
+element-copy-out-newest c = search needs
+
 slice-aggregate-next-estimate : tie.Need-slice-aggregate-next-estimate
 slice-aggregate-next-estimate c = search needs
 
 next-estimate-requires : tie.Need-next-estimate-requires
 next-estimate-requires c κs =
-    let e = c .before .before .before .before .before in
-    let o = ok (e .before .before .before .before .before .before) in
-    (o .0 .words, o .0 .start, λ x i. showing (e .before) .sound x i .0, c .before .before .silent-rows .ensures)
+    let g = c .before .before .before in
+    let f = g .before .before in
+    let o = ok (f .before .before .before .before .before .before .before) in
+    (o .0 .words, o .0 .start, λ x i. showing (f .before .before) .sound x i .0, gained-part _ _ _ _ _ (λ q i. f .entered .ensures 0 q (omega arith) i) (g .silent-rows .ensures))
 
 enum-known-next : tie.Need-enum-known-next
 enum-known-next c = search needs
@@ -97,20 +101,20 @@ refused-requires-3 c κs = search needs
 returns-3 : tie.Need-returns-3
 returns-3 c =
     let r = c .refused3 .ensures in
-    let e = c .before .before .before .before .before .before .before .before .before .before in
+    let e = c .before .before .before .before .before .before .before .before .before .before .before in
     let o = ok (e .before .before .before .before .before .before) in
     refused-asked _ _ _ _ _ refusal.Incompatible _ (r .0) (r .1)
     (incompatible (o .0) (o .1) (observed e)
-    (λ trace g. none-left (c .before .before .before .before .next-estimate .ensures _ (showing (e .before))) (c .before .enum-told .given .1) trace (grown-entry _ _ trace _ g)))
+    (λ trace g. none-left (c .before .before .before .before .next-estimate .ensures _ (showing (c .before .before .before .before .before .before .before .before .before .before .before .before))) (c .before .enum-told .given .1) trace (grown-entry _ _ trace _ g)))
 
 push-requires : tie.Need-push-requires
 push-requires c κs =
-    let e = c .before .before .before .before .before .before .before .before .before .before in
+    let e = c .before .before .before .before .before .before .before .before .before .before .before in
     let o = ok (e .before .before .before .before .before .before) in
     (o .0 .back, observable-small (now (e .before .before .before .before .before .before .before .before .before .args .table)) _ _ (o .0) (observed e), o .1)
 
 slice-aggregate-assess : tie.Need-slice-aggregate-assess
-slice-aggregate-assess c = sym (c .before .before .before .before .before .before .before .before .before .before .before .before .before .before .before .before .by-symbol .ensures [] .size)
+slice-aggregate-assess c = sym (c .before .before .before .before .before .before .before .before .before .before .before .before .before .before .before .before .before .by-symbol .ensures [] .size)
 
 slice-aggregate-assess-2 : tie.Need-slice-aggregate-assess-2
 slice-aggregate-assess-2 c = search needs
@@ -118,23 +122,33 @@ slice-aggregate-assess-2 c = search needs
 assess-requires : tie.Need-assess-requires
 assess-requires c κs =
     let k = c .before .before .before in
-    let e = k .before .before .before .before .before .before .before .before .before .before in
-    let x = some-left (k .before .before .before .before .next-estimate .ensures _ (showing (e .before))) (k .before .next .given .1) in
+    let x = some-left (k .before .before .before .before .next-estimate .ensures _ (showing (k .before .before .before .before .before .before .before .before .before .before .before .before))) (k .before .next .given .1) in
+    let f = k .before .before .before .before .before .before .before .before .before .before in
+    let e = f .before in
+    let o = ok (e .before .before .before .before .before .before) in
     let after = c .before .before .push .ensures in
-    (ok (e .before .before .before .before .before .before) .0, after .0, e .before .before .before .before .by-symbol .ensures _, settled-as (after .1) (x .settled))
+    record {
+      sound = o .0;
+      limits = after .0;
+      sets-are = e .before .before .before .before .by-symbol .ensures _;
+      near = record {
+        closed = x .settled .closed;
+        inside = after .2 _ (x .settled .new) (λ l q h i. x .settled .old q (k .before .before .before .before .before .before .before .before .silent-rows .ensures .more q (f .entered .ensures l q h i)));
+      };
+      reach = reach-as (after .1) (x .settled .reach);
+    }
 
 returns-4 : tie.Need-returns-4
 returns-4 c =
-    let pushed = c .before .before .before .before in
+    let pushed = c .before .before .before in
     let k = pushed .before in
-    let e = k .before .before .before .before .before .before .before .before .before .before in
+    let e = k .before .before .before .before .before .before .before .before .before .before .before in
     let a = e .before .before .before .before .before .before .before .before .before .args in
     let o = ok (e .before .before .before .before .before .before) in
     let after = pushed .push .ensures in
-    let moved : Moved (now (a .table)) (a .header) (a .t1) (a .symbol) (c .before .assess .result .size) (pushed .push .result) =
-    moved-by _ _ _ _ _ _ _ _ (o .0) (o .1) (observed e) (some-left (k .before .before .before .before .next-estimate .ensures _ (showing (e .before))) (k .before .next .given .1)) (c .before .assess .ensures .1)
-    (after .0) (λ trace g E y. after .2 _ trace g E y) in
-    (moved, λ notion. given-by (found-by notion _ _ _ _ _ _ _ moved) (c .before .assess .ensures .0 notion))
+    let moved : Moved (now (a .table)) (a .header) (a .t1) (a .symbol) (c .assess .result .size) (pushed .push .result) =
+    moved-by _ _ _ _ _ _ _ _ _ (o .0) (o .1) (observed e) (some-left (k .before .before .before .before .next-estimate .ensures _ (showing (k .before .before .before .before .before .before .before .before .before .before .before .before))) (k .before .next .given .1)) (c .assess .ensures .1) (after .0) (λ trace g E y. after .3 _ trace g E y) in
+    (moved, λ notion. given-by (found-by notion _ _ _ _ _ _ _ moved) (c .assess .ensures .0 notion))
 
 pub accept-asked-spec : {M : Type 1} → statement M
 accept-asked-spec =
@@ -149,9 +163,10 @@ accept-asked-spec =
     events-with-requires
     refused-requires-2
     returns-2
-    element-copy-out-newest
+    entered-requires
     slice-aggregate-silent-rows
     silent-rows-requires
+    element-copy-out-newest
     slice-aggregate-next-estimate
     next-estimate-requires
     enum-known-next

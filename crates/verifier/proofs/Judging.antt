@@ -22,12 +22,11 @@ use Rattle.verifier.specs.declared.Estimator.{Estimator}
 use Rattle.verifier.specs.Verdicts.{Steps, none, leak, stepsOf, Tells}
 use Rattle.verifier.specs.Estimators.{Limits, Grown}
 use Rattle.verifier.specs.Replies.{refused, said, refused-by, verdict, saidBy, chosen, Bounded, SizeWithin, Exact, Opening, opened, Accepting, accepted, Moved, TellsBy, AcceptingBy, turned-back, accepted-by}
-use Rattle.verifier.specs.Inner.{Settled, Stepped, Found, Asks, askFor, Given, Judged, AcceptingAsked}
+use Rattle.verifier.specs.Inner.{Settled, Stepped, Found, Asks, askFor, chosenAnswer, Given, Judged, AcceptingAsked}
 use Rattle.verifier.specs.declared.Reply.{Reply}
 use Rattle.verifier.specs.declared.Asked.{Asked}
 use Rattle.verifier.specs.declared.Answer.{Answer}
 use Rattle.verifier.specs.declared.Answer.the-variants as answer
-use Rattle.verifier.specs.declared.AnswerBy.the-variants as by
 use Rattle.verifier.proofs.Growing.{grown-remembers, grown-limits}
 use Rattle.verifier.proofs.Settling.{settled-size}
 
@@ -127,17 +126,10 @@ asks-one : (notion : Notion) → Asks notion (askFor notion)
 asks-one Weak = refl
 asks-one Strong = refl
 
-pub asked-refused : (notion : Notion) (t : List ℕ) (h : Header) (self : Estimator) (symbol : ℕ) (a : Asked) (r : Answer) (s : Estimator) (n : Refusal)
-    → AcceptingAsked a t h self symbol r s → r ≡ answer.Refused n → AcceptingBy notion t h self symbol (saidBy (by.Refused n)) s
-asked-refused notion t h self symbol a r s n x e = turned-back (subst (λ (y : Answer). AcceptingAsked a t h self symbol y s) e x)
-
-pub asked-one : (notion : Notion) (t : List ℕ) (h : Header) (self : Estimator) (symbol : ℕ) (a : Asked) (r : Answer) (s : Estimator) (j : Judgement) (v : Verdict)
-    → a ≡ askFor notion → AcceptingAsked a t h self symbol r s → r ≡ answer.Accepted j → v ≡ chosen notion (j .verdicts)
-    → AcceptingBy notion t h self symbol (verdict (stepsOf v) (j .size)) s
-asked-one notion t h self symbol a r s j v one x e is =
-    let y = subst (λ (z : Answer). AcceptingAsked a t h self symbol z s) e x in
-    let told = y .1 notion .found (subst (Asks notion) (sym one) (asks-one notion)) in
-    accepted-by (y .0) (subst (λ (z : Verdict). TellsBy notion t h self symbol (stepsOf z)) (sym is) told)
+pub asked-one : (notion : Notion) (t : List ℕ) (h : Header) (self : Estimator) (symbol : ℕ) (a : Asked) (r : Answer) (s : Estimator) → a ≡ askFor notion
+    → AcceptingAsked a t h self symbol r s → AcceptingBy notion t h self symbol (saidBy (chosenAnswer notion r)) s
+asked-one notion t h self symbol a (answer.Refused n) s one x = turned-back x
+asked-one notion t h self symbol a (answer.Accepted j) s one x = accepted-by (x .0) (x .1 notion .found (subst (Asks notion) (sym one) (asks-one notion)))
 
 -- and the other way round
 pub refused-of : {notion : Notion} {t : List ℕ} {h : Header} {self : Estimator} {symbol n : ℕ} {s : Estimator} → AcceptingBy notion t h self symbol (refused-by n) s

@@ -13,7 +13,7 @@ ghost use Rattle.verifier.specs.declared.Notion.the-variants as notion;
 ghost use Rattle.verifier.specs.Estimators.{Limits, Grown};
 ghost use Rattle.verifier.specs.declared.Answer.the-variants as answer;
 ghost use Rattle.verifier.specs.Replies.{said, saidBy, chosen, Opening, Accepting, AcceptingBy};
-ghost use Rattle.verifier.specs.Inner.{Inside, Pushed, Settled, Next, Sampled, UnobservableReach, Prepared, Explored, Found, askFor, Judged, AcceptingAsked};
+ghost use Rattle.verifier.specs.Inner.{Inside, Pushed, Settled, Next, Sampled, UnobservableReach, Prepared, Explored, Found, askFor, chosenAnswer, Judged, AcceptingAsked};
 
 // 01's "none", or "leak" with its steps.
 pub enum Verdict {
@@ -401,6 +401,22 @@ pub fn choose(notion: Notion, verdicts: Verdicts) -> Verdict
     }
 }
 
+// The answer with the verdict by the notion alone.
+fn choose_answer(notion: Notion, answer: Answer) -> AnswerBy
+    ensures { λ r. ⌜ r ≡ chosenAnswer notion answer ⌝ }
+{
+    match answer {
+        Answer::Refused(refusal) => AnswerBy::Refused(refusal),
+        Answer::Accepted(judgement) => {
+            let verdict = choose(notion, judgement.verdicts);
+            AnswerBy::Accepted(JudgementBy {
+                verdict: verdict,
+                size: judgement.size,
+            })
+        }
+    }
+}
+
 impl Estimator {
     // With no symbol: the initial state alone.
     fn initial(state: u8) -> Estimator
@@ -547,21 +563,10 @@ impl Estimator {
         let reply = self.accept_asked(table, header, symbol, ask(notion));
         let estimator = reply.estimator;
         let answer = reply.answer;
-        match answer {
-            Answer::Refused(refusal) => ReplyBy {
-                estimator: estimator,
-                answer: AnswerBy::Refused(refusal),
-            },
-            Answer::Accepted(judgement) => {
-                let verdict = choose(notion, judgement.verdicts);
-                ReplyBy {
-                    estimator: estimator,
-                    answer: AnswerBy::Accepted(JudgementBy {
-                        verdict: verdict,
-                        size: judgement.size,
-                    }),
-                }
-            }
+        let answer_by = choose_answer(notion, answer);
+        ReplyBy {
+            estimator: estimator,
+            answer: answer_by,
         }
     }
 }

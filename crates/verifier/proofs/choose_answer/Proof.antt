@@ -1,0 +1,25 @@
+-- `verifier::choose_answer` meets its contract: a refusal as it is, and the notion's own verdict.
+use mathlib.Core.Path.{_≡_, refl}
+use borrow.Author.Needs.{needs}
+use Rattle.verifier.specs.Inner.{chosenAnswer}
+use Rattle.verifier.proofs.choose_answer.Statement.{statement}
+use Rattle.verifier.proofs.choose_answer.Tie as tie
+
+enum-known-answer : tie.Need-enum-known-answer
+enum-known-answer c = search needs
+
+enum-known-answer-2 : tie.Need-enum-known-answer-2
+enum-known-answer-2 c = search needs
+
+choose-requires : tie.Need-choose-requires
+choose-requires c κs = search needs
+
+returns : tie.Need-returns
+returns c = rw (c .before .answer .given .1) refl
+
+returns-2 : tie.Need-returns-2
+returns-2 c = rw (c .before .before .answer2 .given .1, c .choose .ensures) refl
+
+pub choose-answer-spec : {M : Type 1} → statement M
+choose-answer-spec =
+    tie.close (tie.spec enum-known-answer enum-known-answer-2 choose-requires returns returns-2)

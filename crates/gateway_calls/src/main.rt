@@ -414,7 +414,7 @@ fn unchanged(memory: &[u64; 36864], slot: usize, before: &[u64; 36864]) -> bool 
 }
 
 // Whether, of the symbols that were pending and the new one behind them, the first ones stand at the front of the output, with what it had behind
-// them, and the others are pending; and whether the number of states is one.
+// them, and the others are pending; and whether the number of states is from 1 to 64.
 fn release_allowed(memory: &[u64; 36864], symbol: u8, before: &[u64; 36864]) -> bool {
     let count = wide(byte_of(before, ENFORCER, PENDING));
     let released = wide(byte_of(memory, RELEASE, 0));

@@ -241,4 +241,5 @@ verifier-gamma t h μ x r says =
       size = right .size;
       said-is = right .said-is;
       gamma = subst (Gamma (estimatorAfter p (h .k) μ) (h .secret) (h .k)) e gamma;
+      current = size-current p (h .k) μ (right .size) .0 (right .size-right);
     }

@@ -37,6 +37,7 @@ module _ (t : List ℕ) (h : Header) where
     said-is = refl;
     weak-right = right-verdict Weak (automatonOf t h) (h .secret) (h .k) μ v .0 (published (automatonOf t h) (h .secret) μ x Weak (h .k) v (right .weak));
     strong-right = right-verdict Strong (automatonOf t h) (h .secret) (h .k) μ w .0 (published (automatonOf t h) (h .secret) μ x Strong (h .k) w (right .strong));
+    size-right = right .size .exactly n .0 refl;
   }
 
   -- an event of an observed trace is not refused

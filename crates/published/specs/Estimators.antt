@@ -5,7 +5,7 @@ use mathlib.Core.Path.{_≡_}
 use mathlib.Core.List.{List, [], _∷_}
 use Prim.Native.Nat.{ℕ, suc, _+_, _-_, _≤_, _<_}
 use lib.ListN.{length, getD, take, replicate}
-use Rattle.stateset.specs.Set.{In}
+use Rattle.stateset.specs.Set.{In, Counts}
 use Rattle.automaton.specs.declared.Header.{Header}
 use Rattle.automaton.specs.Run.{Automaton, automatonOf, Step, Takes, endOf, shown, Compatible}
 use Rattle.automaton.specs.Reaching.{Arrives}
@@ -94,10 +94,11 @@ abbrev pub Gamma : Mapping → (secret K : ℕ) → Steps → Type 0
 Gamma m secret K none = (k : ℕ) → k ≤ K → Within m k secret → ⊥
 Gamma m secret K (leak l) = (l ≤ K) × Within m l secret × ((k : ℕ) → k < l → Within m k secret → ⊥)
 
--- our verifier's answer after the trace: a verdict by the weak notion, and it is Γ's
+-- our verifier's answer after the trace: a verdict by the weak notion, and it is Γ's; and how many states are possible, which is how many m(0) has
 pub record SaysGamma (t : List ℕ) (h : Header) (μ : List ℕ) (r : Said) : Type 0 where
   pub weak : Steps
   pub strong : Steps
   pub size : ℕ
   pub said-is : r ≡ verdicts weak strong size
   pub gamma : Gamma (estimatorAfter (automatonOf t h) (h .k) μ) (h .secret) (h .k) weak
+  pub current : Counts (EstimateAt (estimatorAfter (automatonOf t h) (h .k) μ) 0) size

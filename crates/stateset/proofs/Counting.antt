@@ -1,15 +1,15 @@
 -- How many numbers have a property: one number; with one more that has it; and the digits of a word that are set. Assumes nothing.
 use mathlib.Core.Path.{_≡_, refl, sym, ap, _∙_, subst}
-use mathlib.Core.List.{List, [], _∷_}
+use mathlib.Core.List.{[], _∷_}
 use mathlib.Core.Logic.{_⊎_, inl, inr, ⊎-elim}
 use Prim.Native.Nat.{ℕ, zero, suc, _+_, _-_, _/_, _%_, _^_, _≤_, _<_}
 use native.Mathlib.Omega.{arith}
 use native.Mathlib.Decide.{decLt, ℕ-discrete}
 use lib.Count.{ones, ones-step}
-use lib.ListN.{length, getD}
+use lib.ListN.{getD}
 use Rattle.stateset.specs.Set.{bit, In, Counts}
 use Rattle.stateset.proofs.Bits.{bit-0, bit-suc, empty}
-use Rattle.stateset.proofs.Pigeons.{no-more}
+use Rattle.stateset.proofs.Pigeonhole.{no-more}
 
 -- the same numbers have P and Q
 pub counts-as : {P Q : ℕ → Type 0} {n : ℕ} → ((q : ℕ) → P q → Q q) → ((q : ℕ) → Q q → P q) → Counts P n → Counts Q n

@@ -1,6 +1,6 @@
 -- Fresh estimators and lists of calls under two headers that are the same but for symbols. Where they tell the same observable events apart, they are
 -- answered alike, call by call; where they differ in the symbols of unobservable events alone, the contracts say the same. Assumes nothing.
-use mathlib.Core.Path.{_≡_, refl, ap, ap₂, sym, subst, _∙_}
+use mathlib.Core.Path.{_≡_, refl, ap, sym, subst, _∙_}
 use mathlib.Core.List.{List, [], _∷_, _++_}
 use mathlib.Core.Logic.{inl, inr, _↔_}
 use Prim.Native.Nat.{ℕ, _<_, _^_}

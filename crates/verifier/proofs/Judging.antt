@@ -1,7 +1,7 @@
 -- From the steps that an estimator remembers to K. Assumes nothing.
 use mathlib.Core.Path.{_≡_, refl, sym, ap, _∙_, subst}
 use mathlib.Core.List.{List, [], _∷_, _++_}
-use Prim.Native.Nat.{ℕ, _≤_, _<_, _-_, min}
+use Prim.Native.Nat.{ℕ, _≤_, _-_, min}
 use native.Mathlib.Omega.{arith}
 use lib.ListN.{length, getD, take}
 use lib.Seq.{take-length}
@@ -21,14 +21,14 @@ use Rattle.verifier.specs.declared.Estimate.{Estimate}
 use Rattle.verifier.specs.declared.Estimator.{Estimator}
 use Rattle.verifier.specs.Verdicts.{Steps, none, leak, stepsOf, Tells}
 use Rattle.verifier.specs.Estimators.{Limits, Grown}
-use Rattle.verifier.specs.Replies.{refused, said, refused-by, verdict, saidBy, chosen, Bounded, SizeWithin, Exact, Opening, opened, Accepting, accepted, Moved, TellsBy, AcceptingBy, turned-back, accepted-by}
-use Rattle.verifier.specs.Inner.{Settled, Stepped, Found, Asks, askFor, chosenAnswer, Given, Judged, AcceptingAsked}
+use Rattle.verifier.specs.Replies.{refused, said, refused-by, verdict, saidBy, Bounded, SizeWithin, Exact, Opening, opened, Accepting, accepted, Moved, TellsBy, AcceptingBy, turned-back, accepted-by}
+use Rattle.verifier.specs.Inner.{Estimated, Stepped, Found, Asks, askFor, chosenAnswer, Given, Judged, AcceptingAsked}
 use Rattle.verifier.specs.declared.Reply.{Reply}
 use Rattle.verifier.specs.declared.Asked.{Asked}
 use Rattle.verifier.specs.declared.Answer.{Answer}
 use Rattle.verifier.specs.declared.Answer.the-variants as answer
 use Rattle.verifier.proofs.Growing.{grown-remembers, grown-limits}
-use Rattle.verifier.proofs.Settling.{settled-size}
+use Rattle.verifier.proofs.Estimating.{estimated-size}
 
 -- the states right after the last event
 pub grown-entry : (p : Automaton) (K : ℕ) (trace : List ℕ) (s : Estimator) → Grown p K trace s → Is (getD (s .entries) 0 0) (Enters p trace)
@@ -61,13 +61,13 @@ judged-exact t h trace s a v n weak strong g j size =
       grown = g;
     }
 
--- a fresh estimator's answer, from the estimate that was settled and what was judged
+-- a fresh estimator's answer, from the estimate that was worked out and what was judged
 pub opening-of : (t : List ℕ) (h : Header) (s : Estimator) (a : Asked) (j : Judgement) (from : ℕ) (silent : List ℕ) (e : Estimate) → Sound t h → Asks Weak a → Asks Strong a
-    → Grown (automatonOf t h) (h .k) [] s → Settled (automatonOf t h) from (getD (s .entries) 0 0) silent e → Judged t h s a (j .verdicts) × (j .size ≡ e .size)
+    → Grown (automatonOf t h) (h .k) [] s → Estimated (automatonOf t h) from (getD (s .entries) 0 0) silent e → Judged t h s a (j .verdicts) × (j .size ≡ e .size)
     → Opening t h (said (answer.Accepted j)) s
-opening-of t h s a j from silent e so weak strong g settled judged =
+opening-of t h s a j from silent e so weak strong g estimate judged =
     let p = automatonOf t h in
-    let size = subst (EstimateSize p []) (sym (judged .1)) (settled-size p from _ silent e [] settled (grown-entry p (h .k) [] s g)) in
+    let size = subst (EstimateSize p []) (sym (judged .1)) (estimated-size p from _ silent e [] estimate (grown-entry p (h .k) [] s g)) in
     opened so (grown-limits p (h .k) [] s g (so .symbols-small))
     (record { some = size-some p [] _ (g .possible) size; most = size-most p [] _ (so .start) size })
     (judged-exact t h [] s a (j .verdicts) (j .size) weak strong g (judged .0) size)
@@ -88,7 +88,7 @@ moved-by t h self symbol n from silent e s so li ob x is after push =
       grown = λ trace g. let E = grown-entry p (h .k) trace self g in push trace g (x .enters trace E) (x .possible trace E);
       size = λ trace g.
           subst (EstimateSize p (trace ++ symbol ∷ [])) (sym is)
-          (settled-size p from _ silent e (trace ++ symbol ∷ []) (x .settled) (x .enters trace (grown-entry p (h .k) trace self g)));
+          (estimated-size p from _ silent e (trace ++ symbol ∷ []) (x .estimated) (x .enters trace (grown-entry p (h .k) trace self g)));
     }
 
 -- the verdict that was found for an estimator, as that of the event that led to it

@@ -1,7 +1,7 @@
 -- Laws that belong to no one function.
 pub mod Exactness
 pub mod Growing
-pub mod Settling
+pub mod Estimating
 pub mod Passing
 pub mod LookBack
 pub mod Judging

@@ -52,7 +52,7 @@ pub data Opening (t : List ℕ) (h : Header) : Said → Estimator → Type 0 whe
       → Opening t h (verdicts weak strong size) s
 
 -- a symbol offered to an estimator: the answer, and the estimator after it. Of one that is Grown by no trace only the limits are said, and that the number
--- of states is one
+-- is from 1 to 64
 pub data Accepting (t : List ℕ) (h : Header) (self : Estimator) (symbol : ℕ) : Said → Estimator → Type 0 where
   malformed : (Sound t h × Limits (h .k) self → ⊥) → Accepting t h self symbol (refused 9) self
   not-observable : Sound t h → Limits (h .k) self → (Observable h symbol → ⊥) → Accepting t h self symbol (refused 6) self

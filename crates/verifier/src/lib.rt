@@ -13,7 +13,7 @@ ghost use Rattle.verifier.specs.declared.Notion.the-variants as notion;
 ghost use Rattle.verifier.specs.Estimators.{Limits, Grown};
 ghost use Rattle.verifier.specs.declared.Answer.the-variants as answer;
 ghost use Rattle.verifier.specs.Replies.{said, saidBy, chosen, Opening, Accepting, AcceptingBy};
-ghost use Rattle.verifier.specs.Inner.{Inside, Pushed, Settled, Next, Sampled, UnobservableReach, Prepared, Explored, Found, askFor, chosenAnswer, Judged, AcceptingAsked};
+ghost use Rattle.verifier.specs.Inner.{Inside, Pushed, Estimated, Next, Sampled, UnobservableReach, Prepared, Explored, Found, askFor, chosenAnswer, Judged, AcceptingAsked};
 
 // 01's "none", or "leak" with its steps.
 pub enum Verdict {
@@ -138,7 +138,7 @@ fn count_after(count: u8, k: u8) -> u8
 
 // The states of all entry sets.
 fn entered(estimator: Estimator) -> u64
-    ensures { λ r. ⌜ ((l q : ℕ) → l < 16 → In q (getD (estimator .entries) l 0) → In q r) ⌝ }
+    ensures { λ r. ⌜ Inside (estimator .entries) r ⌝ }
 {
     let entries = estimator.entries;
     let mut r: u64 = 0;
@@ -150,7 +150,7 @@ fn entered(estimator: Estimator) -> u64
 
 // From the states right after a symbol to all that are possible, and their number: one step, for a fresh estimator and for an accepted symbol. What is
 // known of unobservable events, so far of the states that `from` leads to, grows with the states that matter.
-fn settle(
+fn estimate_from(
     table: &[u64],
     header: Header,
     silent: &mut [u64],
@@ -159,7 +159,7 @@ fn settle(
     entry: u64,
 ) -> Estimate
     requires { ⌜ (length (now table) ≡ 2048) × (header .initial ≤ 63) × Known (automatonOf (now table) header) known from (now silent) ⌝ }
-    ensures { λ r. ⌜ Settled (automatonOf (now (table .entry)) header) from entry (now (silent .exit)) r ⌝ }
+    ensures { λ r. ⌜ Estimated (automatonOf (now (table .entry)) header) from entry (now (silent .exit)) r ⌝ }
 {
     let reach = automaton::silent_rows(table, header, silent, known, from | entry);
     let states = automaton::unobservable_reach(silent, reach.states, entry);
@@ -190,7 +190,7 @@ fn next_estimate(
     if after == 0 {
         return NextEstimate::Empty;
     }
-    let next = settle(table, header, silent, near.known, near.states, after);
+    let next = estimate_from(table, header, silent, near.known, near.states, after);
     NextEstimate::States(next)
 }
 
@@ -333,7 +333,7 @@ fn judge(
 }
 
 // The unobservable events the other way round, where a look back over `last` steps needs them: where it takes no step, it does not, and the array stays.
-fn turn_back(silent: &[u64], states: u64, last: u8, back: &mut [u64])
+fn backward_rows(silent: &[u64], states: u64, last: u8, back: &mut [u64])
     requires { ⌜ (length (now silent) ≡ 64) × (now back ≡ replicate 64 0) ⌝ }
     ensures { λ _. ⌜ (0 < last → (p : Automaton) → Closed p states (now (silent .entry)) → Entered p states (now (back .exit))) ⌝ }
 {
@@ -357,7 +357,7 @@ fn assess(
     ensures { λ r. ⌜ Judged (now (table .entry)) header estimator asked (r .verdicts) × (r .size ≡ estimate .size) ⌝ }
 {
     let mut back = [0u64; 64];
-    turn_back(silent, estimate.near, estimator.count, &mut back);
+    backward_rows(silent, estimate.near, estimator.count, &mut back);
     let verdicts = judge(
         estimator,
         table,
@@ -491,7 +491,7 @@ impl Estimator {
         let estimator = Estimator::initial(header.initial);
         let entry = estimator.entries[0];
         let mut silent = [0u64; 64];
-        let estimate = settle(table, header, &mut silent, 0, 0, entry);
+        let estimate = estimate_from(table, header, &mut silent, 0, 0, entry);
         let mut sets = [0u32; 32];
         automaton::by_symbol(header, &mut sets);
         let asked = Asked {

@@ -4,11 +4,11 @@ use borrow.Author.Needs.{needs}
 use Rattle.verifier.proofs.assess.Statement.{statement}
 use Rattle.verifier.proofs.assess.Tie as tie
 
-slice-aggregate-turn-back : tie.Need-slice-aggregate-turn-back
-slice-aggregate-turn-back c = search needs
+slice-aggregate-backward-rows : tie.Need-slice-aggregate-backward-rows
+slice-aggregate-backward-rows c = search needs
 
-turn-back-requires : tie.Need-turn-back-requires
-turn-back-requires c κs = (c .before .before .before .before .pre .near .closed .size, search needs)
+backward-rows-requires : tie.Need-backward-rows-requires
+backward-rows-requires c κs = (c .before .before .before .before .pre .near .closed .size, search needs)
 
 slice-aggregate-judge : tie.Need-slice-aggregate-judge
 slice-aggregate-judge c = search needs
@@ -25,7 +25,7 @@ judge-requires c κs =
           symbols-small = x .sound .symbols-small;
           sets-are = x .sets-are;
           near = x .near;
-          back-are = λ some. c .before .before .turn-back .ensures some _ (x .near .closed);
+          back-are = λ some. c .before .before .backward-rows .ensures some _ (x .near .closed);
         };
       },
       x .reach,
@@ -38,8 +38,8 @@ pub assess-spec : {M : Type 1} → statement M
 assess-spec =
     tie.close
     (tie.spec
-    slice-aggregate-turn-back
-    turn-back-requires
+    slice-aggregate-backward-rows
+    backward-rows-requires
     slice-aggregate-judge
     judge-requires
     returns)

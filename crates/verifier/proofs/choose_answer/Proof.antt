@@ -1,7 +1,6 @@
 -- `verifier::choose_answer` meets its contract: a refusal as it is, and the notion's own verdict.
-use mathlib.Core.Path.{_≡_, refl}
+use mathlib.Core.Path.{refl}
 use borrow.Author.Needs.{needs}
-use Rattle.verifier.specs.Inner.{chosenAnswer}
 use Rattle.verifier.proofs.choose_answer.Statement.{statement}
 use Rattle.verifier.proofs.choose_answer.Tie as tie
 

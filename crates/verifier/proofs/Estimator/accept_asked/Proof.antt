@@ -14,7 +14,7 @@ use Rattle.automaton.proofs.Entering.{known-none}
 use Rattle.verifier.specs.Estimators.{Limits}
 use Rattle.verifier.specs.Replies.{Accepting, not-observable, incompatible, Moved}
 use Rattle.verifier.proofs.Judging.{grown-entry, moved-by, found-by, given-by, refused-asked}
-use Rattle.verifier.proofs.Settling.{some-left, none-left, reach-as, gained-part}
+use Rattle.verifier.proofs.Estimating.{some-left, none-left, reach-as, gained-part}
 use Rattle.verifier.proofs.Estimator.accept_asked.Statement.{statement}
 use Rattle.verifier.proofs.Estimator.accept_asked.Tie as tie
 
@@ -132,10 +132,10 @@ assess-requires c κs =
       limits = after .0;
       sets-are = e .before .before .before .before .by-symbol .ensures _;
       near = record {
-        closed = x .settled .closed;
-        inside = after .2 _ (x .settled .new) (λ l q h i. x .settled .old q (k .before .before .before .before .before .before .before .before .silent-rows .ensures .more q (f .entered .ensures l q h i)));
+        closed = x .estimated .closed;
+        inside = after .2 _ (x .estimated .new) (λ l q h i. x .estimated .old q (k .before .before .before .before .before .before .before .before .silent-rows .ensures .more q (f .entered .ensures l q h i)));
       };
-      reach = reach-as (after .1) (x .settled .reach);
+      reach = reach-as (after .1) (x .estimated .reach);
     }
 
 returns-4 : tie.Need-returns-4

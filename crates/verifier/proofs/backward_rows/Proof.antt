@@ -1,8 +1,8 @@
--- `verifier::turn_back` meets its contract: only where there is a step.
+-- `verifier::backward_rows` meets its contract: only where there is a step.
 use native.Mathlib.Omega.{arith}
 use borrow.Author.Needs.{needs}
-use Rattle.verifier.proofs.turn_back.Statement.{statement}
-use Rattle.verifier.proofs.turn_back.Tie as tie
+use Rattle.verifier.proofs.backward_rows.Statement.{statement}
+use Rattle.verifier.proofs.backward_rows.Tie as tie
 
 returns : tie.Need-returns
 returns c = λ some. absurd (omega (arith, some, c .if1 .taken))
@@ -16,5 +16,5 @@ same-length c = search needs
 returns-2 : tie.Need-returns-2
 returns-2 c = λ some. c .before .before .silent-back .ensures
 
-pub turn-back-spec : {M : Type 1} → statement M
-turn-back-spec = tie.close (tie.spec returns silent-back-requires same-length returns-2)
+pub backward-rows-spec : {M : Type 1} → statement M
+backward-rows-spec = tie.close (tie.spec returns silent-back-requires same-length returns-2)

@@ -18,15 +18,15 @@ use Rattle.automaton.proofs.Traces.{entry-possible}
 use Rattle.verifier.specs.declared.Estimate.{Estimate}
 use Rattle.verifier.specs.declared.NextEstimate.{NextEstimate}
 use Rattle.verifier.specs.declared.NextEstimate.the-variants.{States, Empty}
-use Rattle.verifier.specs.Inner.{UnobservableReach, Settled, Stepped, Next, some-run, no-run}
+use Rattle.verifier.specs.Inner.{UnobservableReach, Estimated, Stepped, Next, some-run, no-run}
 
 -- the estimate, from what was explored, what the closure gave and what was counted
-pub settling : (p : Automaton) (from entry : ℕ) (silent : List ℕ) (r : Reach) (states size : ℕ) → p .initial ≤ 63 → entry < 2 ^ 64 → states < 2 ^ 64
+pub estimated : (p : Automaton) (from entry : ℕ) (silent : List ℕ) (r : Reach) (states size : ℕ) → p .initial ≤ 63 → entry < 2 ^ 64 → states < 2 ^ 64
     → Gained p (bitOr from entry) silent r
     → (Sub entry (r .states) → Sub entry states)
     → ((trace : List ℕ) → Closed p (r .states) silent → Sub entry (r .states) → Is entry (Enters p trace) → Is states (Arrives p trace))
-    → Counts (λ q. In q states) size → Settled p from entry silent (record { entry = entry; states = states; size = size; near = r .states })
-settling p from entry silent r states size start small-entry small g within reach counted =
+    → Counts (λ q. In q states) size → Estimated p from entry silent (record { entry = entry; states = states; size = size; near = r .states })
+estimated p from entry silent r states size start small-entry small g within reach counted =
     let closed = gained-closed p (bitOr from entry) silent r g in
     let new : Sub entry (r .states) = λ q i. g .more q (or-r q from entry i) in
     record {
@@ -41,19 +41,19 @@ settling p from entry silent r states size start small-entry small g within reac
     }
 
 -- its number, for a trace by which the entry set was entered
-pub settled-size : (p : Automaton) (from entry : ℕ) (silent : List ℕ) (e : Estimate) (trace : List ℕ) → Settled p from entry silent e → Is entry (Enters p trace)
+pub estimated-size : (p : Automaton) (from entry : ℕ) (silent : List ℕ) (e : Estimate) (trace : List ℕ) → Estimated p from entry silent e → Is entry (Enters p trace)
     → EstimateSize p trace (e .size)
-settled-size p from entry silent e trace s E = set-size p trace (e .states) (e .size) (s .reach .each trace E) (s .size-is)
+estimated-size p from entry silent e trace s E = set-size p trace (e .states) (e .size) (s .reach .each trace E) (s .size-is)
 
 -- the estimate of an entry set that is not empty, as that after one more symbol
-pub stepping : (p : Automaton) (from entry symbol new : ℕ) (silent : List ℕ) (e : Estimate) → Settled p from new silent e → (new ≡ 0 → ⊥) → new < 2 ^ 64
+pub stepping : (p : Automaton) (from entry symbol new : ℕ) (silent : List ℕ) (e : Estimate) → Estimated p from new silent e → (new ≡ 0 → ⊥) → new < 2 ^ 64
     → ((trace : List ℕ) → Is entry (Enters p trace) → Is new (Enters p (trace ++ symbol ∷ []))) → Stepped p from entry symbol silent e
 stepping p from entry symbol new silent e s some small N =
     let is = s .entry-is in
     let enters : (trace : List ℕ) → Is entry (Enters p trace) → Is (e .entry) (Enters p (trace ++ symbol ∷ [])) =
     λ trace E. subst (λ (x : ℕ). Is x (Enters p (trace ++ symbol ∷ []))) (sym is) (N trace E) in
     record {
-      settled = subst (λ (x : ℕ). Settled p from x silent e) (sym is) s;
+      estimated = subst (λ (x : ℕ). Estimated p from x silent e) (sym is) s;
       size-within = record { some = s .some some; most = s .most };
       enters = enters;
       possible = λ trace E. entry-possible p (trace ++ symbol ∷ []) new small some (N trace E);

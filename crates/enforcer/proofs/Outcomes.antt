@@ -1,5 +1,5 @@
 -- An offer's outcome, from what the verifier said and what was taken in. Assumes nothing.
-use mathlib.Core.Path.{sym, subst}
+use mathlib.Core.Path.{_≡_, sym, subst}
 use mathlib.Core.List.{List, [], _∷_, _++_}
 use Prim.Native.Nat.{ℕ, _+_, _≤_}
 use native.Mathlib.Omega.{arith}
@@ -7,6 +7,8 @@ use lib.ListN.{length}
 use Rattle.automaton.specs.Run.{automatonOf, Sound}
 use Rattle.automaton.specs.Reaching.{EstimateSize}
 use Rattle.automaton.specs.declared.Header.{Header}
+use Rattle.automaton.specs.declared.Refusal.{Refusal}
+use Rattle.automaton.specs.Refusals.{numberOf}
 use Rattle.automaton.proofs.SymbolSets.{observable-small}
 use Rattle.verifier.specs.declared.Notion.{Notion}
 use Rattle.verifier.specs.declared.Notion.the-variants.{Weak, Strong}
@@ -21,6 +23,7 @@ use Rattle.enforcer.specs.Offerings.{refused, said, Offering, Exact, not
 use Rattle.verifier.specs.Replies.{chosen}
 use Rattle.enforcer.specs.Inner.{PendingWithin, waitOf, Took}
 use Rattle.enforcer.specs.declared.Enforcer.{Enforcer}
+use Rattle.enforcer.specs.declared.Given.{Given}
 use Rattle.enforcer.specs.declared.OfferAnswer.{OfferAnswer}
 use Rattle.enforcer.specs.declared.OfferAnswer.the-variants as offer
 use Rattle.enforcer.proofs.TakingIn.{limits-joined, grown-next}
@@ -31,6 +34,11 @@ refused-outcome t h self byte output n s pending wide (Accepting.malformed bad) 
 refused-outcome t h self byte output n s pending wide (Accepting.not-observable so li never) = not-observable so (limits-joined (h .k) self li pending) wide never
 refused-outcome t h self byte output n s pending wide (Accepting.incompatible so li ob none) =
     incompatible so (limits-joined (h .k) self li pending) wide ob (λ notion trace g. none trace (g .estimator))
+
+-- a refusal that is handed back
+pub refused-given : (t : List ℕ) (h : Header) (self : Enforcer) (byte : ℕ) (output : List ℕ) (refusal : Refusal) (r : Given) → r .enforcer ≡ self → r .answer ≡ offer.Refused refusal
+    → Offering t h self byte output (refused (numberOf refusal)) self output → Offering t h self byte output (said (r .answer)) (r .enforcer) output
+refused-given t h self byte output refusal r e f x = rw (e, f) x
 
 -- the verdict by the notion
 pub chosen-tells : (notion : Notion) (t : List ℕ) (h : Header) (trace : List ℕ) (v : Verdicts) (n : ℕ) (s : Estimator)

@@ -13,6 +13,7 @@ ghost use Rattle.stateset.specs.Set.{Decided};
 ghost use Rattle.automaton.specs.Run.{Sound};
 ghost use Rattle.verifier.specs.Verdicts.{stepsOf};
 ghost use Rattle.enforcer.specs.Enforcers.{Limits, Padded};
+ghost use Rattle.enforcer.specs.declared.OfferAnswer.the-variants as answer;
 ghost use Rattle.enforcer.specs.Offerings.{begun, said, Starting, Offering};
 ghost use Rattle.enforcer.specs.Inner.{PendingWithin, waitOf, Ready, Took};
 
@@ -230,6 +231,16 @@ impl Enforcer {
         automaton::in_range(&pending, count)
     }
 
+    // As it was, with the reason.
+    fn refused(self, refusal: Refusal) -> Given
+        ensures { λ r. ⌜ (r .enforcer ≡ self) × (r .answer ≡ answer.Refused refusal) ⌝ }
+    {
+        Given {
+            enforcer: self,
+            answer: OfferAnswer::Refused(refusal),
+        }
+    }
+
     // The symbol that was accepted is put behind the pending ones, and what is safe is released. The number of possible states is passed on.
     fn take_in(
         self,
@@ -277,31 +288,19 @@ impl Enforcer {
     {
         if output.len() < 17 {
             if !self.sound(table, header) {
-                return Given {
-                    enforcer: self,
-                    answer: OfferAnswer::Refused(Refusal::Malformed),
-                };
+                return self.refused(Refusal::Malformed);
             }
-            return Given {
-                enforcer: self,
-                answer: OfferAnswer::Refused(Refusal::OutputTooSmall),
-            };
+            return self.refused(Refusal::OutputTooSmall);
         }
         if !self.pending_within(header.k) {
-            return Given {
-                enforcer: self,
-                answer: OfferAnswer::Refused(Refusal::Malformed),
-            };
+            return self.refused(Refusal::Malformed);
         }
         let estimator = self.estimator;
         let notion = self.notion;
         let reply = estimator.accept_by(table, header, byte, notion);
         let answer = reply.answer;
         match answer {
-            AnswerBy::Refused(refusal) => Given {
-                enforcer: self,
-                answer: OfferAnswer::Refused(refusal),
-            },
+            AnswerBy::Refused(refusal) => self.refused(refusal),
             AnswerBy::Accepted(judgement) => {
                 let next = reply.estimator;
                 let k = header.k;

@@ -31,10 +31,11 @@ pub struct Verdicts {
     pub strong: Verdict,
 }
 
-// What an accepted answer holds: the verdicts, and how many states are possible (02: how many fit), 1 to 64.
+// What an accepted answer holds: how many states are possible (02: how many fit), 1 to 64, and the verdicts. (The number stands first: an answer is
+// copied as one byte and four, and so are the number and the verdicts read.)
 pub struct Judgement {
-    pub verdicts: Verdicts,
     pub size: u8,
+    pub verdicts: Verdicts,
 }
 
 pub enum Answer {

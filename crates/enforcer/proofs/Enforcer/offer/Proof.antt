@@ -11,7 +11,8 @@ use borrow.Author.Tests.{not-true, not-false}
 use Rattle.stateset.proofs.Decides.{holds, fails}
 use Rattle.enforcer.specs.Offerings.{Offering, output-too-small}
 use Rattle.automaton.specs.Refusals.{numberOf}
-use Rattle.enforcer.proofs.Outcomes.{refused-outcome, taken-outcome}
+use Rattle.automaton.specs.declared.Refusal.the-variants as refusal
+use Rattle.enforcer.proofs.Outcomes.{refused-given, refused-outcome, taken-outcome}
 use Rattle.enforcer.proofs.TakingIn.{limits-joined}
 use borrow.Author.Needs.{needs}
 use Rattle.enforcer.proofs.Enforcer.offer.Statement.{statement}
@@ -34,21 +35,37 @@ all x =
 sound-requires : tie.Need-sound-requires
 sound-requires c κs = search needs
 
+refused-requires : tie.Need-refused-requires
+refused-requires c κs = search needs
+
 returns : tie.Need-returns
-returns c = Offering.malformed (fails (c .before .sound .result) (not-true _ (c .if2 .taken)) (c .before .sound .ensures))
+returns c =
+    let r = c .refused .ensures in
+    let s = c .before .before .sound in
+    refused-given _ _ _ _ _ refusal.Malformed _ (r .0) (r .1) (Offering.malformed (fails (s .result) (not-true _ (c .before .if2 .taken)) (s .ensures)))
+
+refused-requires-2 : tie.Need-refused-requires-2
+refused-requires-2 c κs = search needs
 
 returns-2 : tie.Need-returns-2
 returns-2 c =
-    let good = holds (c .before .sound .result) (not-false _ (c .if2 .left)) (c .before .sound .ensures) in
-    output-too-small (good .0) (good .1) (c .before .before .if1 .taken)
+    let r = c .refused2 .ensures in
+    let s = c .before .before .sound in
+    let good = holds (s .result) (not-false _ (c .before .if2 .left)) (s .ensures) in
+    refused-given _ _ _ _ _ refusal.OutputTooSmall _ (r .0) (r .1) (output-too-small (good .0) (good .1) (c .before .before .before .if1 .taken))
 
 pending-within-requires : tie.Need-pending-within-requires
 pending-within-requires c κs = search needs
 
+refused-requires-3 : tie.Need-refused-requires-3
+refused-requires-3 c κs = search needs
+
 returns-3 : tie.Need-returns-3
 returns-3 c =
-    let bad = fails (c .before .pending-within .result) (not-true _ (c .if3 .taken)) (c .before .pending-within .ensures) in
-    Offering.malformed (λ both. bad (record { few = both .1 .few; small = both .1 .small }))
+    let r = c .refused3 .ensures in
+    let w = c .before .before .pending-within in
+    let bad = fails (w .result) (not-true _ (c .before .if3 .taken)) (w .ensures) in
+    refused-given _ _ _ _ _ refusal.Malformed _ (r .0) (r .1) (Offering.malformed (λ both. bad (record { few = both .1 .few; small = both .1 .small })))
 
 accept-by-requires : tie.Need-accept-by-requires
 accept-by-requires c κs = search needs
@@ -67,16 +84,22 @@ take-in-requires c κs =
     let e3 = c .before .before .before .before .before .before .before .before in
     (all (c .before .before .before .before) .0 .sound .back, pending e3 .few, e3 .before .before .if1 .left)
 
+refused-requires-4 : tie.Need-refused-requires-4
+refused-requires-4 c κs = search needs
+
 returns-4 : tie.Need-returns-4
 returns-4 c =
-    let called = c .before .before .before in
+    let r = c .refused4 .ensures in
+    let told = c .before .before .answer .given in
+    let called = c .before .before .before .before in
     let e3 = called .before .before in
     let a = e3 .before .before .before .before .before .args in
-    refused-outcome (now (a .table)) (a .header) (a .self) (a .byte) (now (a .output)) (numberOf (c .before .answer .given .0 .0)) (called .accept-by .result .estimator)
+    refused-given _ _ _ _ _ (told .0 .0) _ (r .0) (r .1)
+    (refused-outcome (now (a .table)) (a .header) (a .self) (a .byte) (now (a .output)) (numberOf (told .0 .0)) (called .accept-by .result .estimator)
     (pending e3) (e3 .before .before .if1 .left)
     (refused-of
     (subst (λ (x : AnswerBy). AcceptingBy (a .self .notion) (now (a .table)) (a .header) (a .self .estimator) (a .byte) (saidBy x) (called .accept-by .result .estimator))
-    (c .before .answer .given .1) (called .accept-by .ensures)))
+    (told .1) (called .accept-by .ensures))))
 
 same-length : tie.Need-same-length
 same-length c = search needs
@@ -100,12 +123,16 @@ offer-spec =
     tie.close
     (tie.spec
     sound-requires
+    refused-requires
     returns
+    refused-requires-2
     returns-2
     pending-within-requires
+    refused-requires-3
     returns-3
     accept-by-requires
     enum-known-answer
+    refused-requires-4
     enum-known-answer-2
     wait-requires
     take-in-requires

@@ -351,21 +351,21 @@ fn assess(
     header: Header,
     sets: &[u32],
     silent: &[u64],
+    back: &mut [u64],
     estimate: Estimate,
     asked: Asked,
 ) -> Judgement
-    requires { ⌜ Explored (now table) header (now sets) estimator (now silent) estimate ⌝ }
+    requires { ⌜ Explored (now table) header (now sets) estimator (now silent) estimate × (now back ≡ replicate 64 0) ⌝ }
     ensures { λ r. ⌜ Judged (now (table .entry)) header estimator asked (r .verdicts) × (r .size ≡ estimate .size) ⌝ }
 {
-    let mut back = [0u64; 64];
-    backward_rows(silent, estimate.near, estimator.count, &mut back);
+    backward_rows(silent, estimate.near, estimator.count, back);
     let verdicts = judge(
         estimator,
         table,
         header,
         sets,
         silent,
-        &back,
+        back,
         estimate.near,
         estimate.states,
         asked,
@@ -499,7 +499,17 @@ impl Estimator {
             weak: true,
             strong: true,
         };
-        let judgement = assess(estimator, table, header, &sets, &silent, estimate, asked);
+        let mut back = [0u64; 64];
+        let judgement = assess(
+            estimator,
+            table,
+            header,
+            &sets,
+            &silent,
+            &mut back,
+            estimate,
+            asked,
+        );
         Reply {
             estimator: estimator,
             answer: Answer::Accepted(judgement),
@@ -539,7 +549,17 @@ impl Estimator {
             return self.refused(Refusal::Incompatible);
         };
         let after = self.push(header.k, symbol, estimate.entry);
-        let judgement = assess(after, table, header, &sets, &silent, estimate, asked);
+        let mut back = [0u64; 64];
+        let judgement = assess(
+            after,
+            table,
+            header,
+            &sets,
+            &silent,
+            &mut back,
+            estimate,
+            asked,
+        );
         Reply {
             estimator: after,
             answer: Answer::Accepted(judgement),

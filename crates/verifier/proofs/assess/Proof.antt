@@ -4,18 +4,12 @@ use borrow.Author.Needs.{needs}
 use Rattle.verifier.proofs.assess.Statement.{statement}
 use Rattle.verifier.proofs.assess.Tie as tie
 
-slice-aggregate-backward-rows : tie.Need-slice-aggregate-backward-rows
-slice-aggregate-backward-rows c = search needs
-
 backward-rows-requires : tie.Need-backward-rows-requires
-backward-rows-requires c κs = (c .before .before .before .before .pre .near .closed .size, search needs)
-
-slice-aggregate-judge : tie.Need-slice-aggregate-judge
-slice-aggregate-judge c = search needs
+backward-rows-requires c κs = let x = c .before .before .before .before .before .pre in (x .0 .near .closed .size, x .1)
 
 judge-requires : tie.Need-judge-requires
 judge-requires c κs =
-    let x = c .before .before .before .before .before .before .before .pre in (
+    let x = c .before .before .before .before .before .before .before .before .before .pre .0 in (
       record {
         sound = x .sound;
         limits = x .limits;
@@ -25,21 +19,17 @@ judge-requires c κs =
           symbols-small = x .sound .symbols-small;
           sets-are = x .sets-are;
           near = x .near;
-          back-are = λ some. c .before .before .backward-rows .ensures some _ (x .near .closed);
+          back-are = λ some. c .before .before .before .backward-rows .ensures some _ (x .near .closed);
         };
       },
       x .reach,
     )
 
+same-length : tie.Need-same-length
+same-length c = search needs
+
 returns : tie.Need-returns
 returns c = (c .judge .ensures, refl)
 
 pub assess-spec : {M : Type 1} → statement M
-assess-spec =
-    tie.close
-    (tie.spec
-    slice-aggregate-backward-rows
-    backward-rows-requires
-    slice-aggregate-judge
-    judge-requires
-    returns)
+assess-spec = tie.close (tie.spec backward-rows-requires judge-requires same-length returns)

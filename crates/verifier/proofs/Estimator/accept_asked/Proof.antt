@@ -119,36 +119,41 @@ slice-aggregate-assess c = sym (c .before .before .before .before .before .befor
 slice-aggregate-assess-2 : tie.Need-slice-aggregate-assess-2
 slice-aggregate-assess-2 c = search needs
 
+slice-aggregate-assess-3 : tie.Need-slice-aggregate-assess-3
+slice-aggregate-assess-3 c = search needs
+
 assess-requires : tie.Need-assess-requires
 assess-requires c κs =
-    let k = c .before .before .before in
+    let k = c .before .before .before .before in
     let x = some-left (k .before .before .before .before .next-estimate .ensures _ (showing (k .before .before .before .before .before .before .before .before .before .before .before .before))) (k .before .next .given .1) in
     let f = k .before .before .before .before .before .before .before .before .before .before in
     let e = f .before in
     let o = ok (e .before .before .before .before .before .before) in
-    let after = c .before .before .push .ensures in
-    record {
-      sound = o .0;
-      limits = after .0;
-      sets-are = e .before .before .before .before .by-symbol .ensures _;
-      near = record {
-        closed = x .estimated .closed;
-        inside = after .2 _ (x .estimated .new) (λ l q h i. x .estimated .old q (k .before .before .before .before .before .before .before .before .silent-rows .ensures .more q (f .entered .ensures l q h i)));
-      };
-      reach = reach-as (after .1) (x .estimated .reach);
-    }
+    let after = c .before .before .before .push .ensures in (
+      record {
+        sound = o .0;
+        limits = after .0;
+        sets-are = e .before .before .before .before .by-symbol .ensures _;
+        near = record {
+          closed = x .estimated .closed;
+          inside = after .2 _ (x .estimated .new) (λ l q h i. x .estimated .old q (k .before .before .before .before .before .before .before .before .silent-rows .ensures .more q (f .entered .ensures l q h i)));
+        };
+        reach = reach-as (after .1) (x .estimated .reach);
+      },
+      search needs,
+    )
 
 returns-4 : tie.Need-returns-4
 returns-4 c =
-    let pushed = c .before .before .before in
+    let pushed = c .before .before .before .before .before in
     let k = pushed .before in
     let e = k .before .before .before .before .before .before .before .before .before .before .before in
     let a = e .before .before .before .before .before .before .before .before .before .args in
     let o = ok (e .before .before .before .before .before .before) in
     let after = pushed .push .ensures in
-    let moved : Moved (now (a .table)) (a .header) (a .t1) (a .symbol) (c .assess .result .size) (pushed .push .result) =
-    moved-by _ _ _ _ _ _ _ _ _ (o .0) (o .1) (observed e) (some-left (k .before .before .before .before .next-estimate .ensures _ (showing (k .before .before .before .before .before .before .before .before .before .before .before .before))) (k .before .next .given .1)) (c .assess .ensures .1) (after .0) (λ trace g E y. after .3 _ trace g E y) in
-    (moved, λ notion. given-by (found-by notion _ _ _ _ _ _ _ moved) (c .assess .ensures .0 notion))
+    let moved : Moved (now (a .table)) (a .header) (a .t1) (a .symbol) (c .before .assess .result .size) (pushed .push .result) =
+    moved-by _ _ _ _ _ _ _ _ _ (o .0) (o .1) (observed e) (some-left (k .before .before .before .before .next-estimate .ensures _ (showing (k .before .before .before .before .before .before .before .before .before .before .before .before))) (k .before .next .given .1)) (c .before .assess .ensures .1) (after .0) (λ trace g E y. after .3 _ trace g E y) in
+    (moved, λ notion. given-by (found-by notion _ _ _ _ _ _ _ moved) (c .before .assess .ensures .0 notion))
 
 pub accept-asked-spec : {M : Type 1} → statement M
 accept-asked-spec =
@@ -176,5 +181,6 @@ accept-asked-spec =
     push-requires
     slice-aggregate-assess
     slice-aggregate-assess-2
+    slice-aggregate-assess-3
     assess-requires
     returns-4)

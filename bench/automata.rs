@@ -3,6 +3,13 @@
 use crate::random::Random;
 use std::collections::BTreeSet;
 
+/// A further secret: a set of states, and its own K.
+#[derive(Clone, Copy)]
+pub struct Secret {
+    pub states: u64,
+    pub k: u8,
+}
+
 pub struct Automaton {
     pub states: usize,
     pub events: usize,
@@ -35,7 +42,24 @@ impl Automaton {
     }
 
     pub fn with_k(&self, k: u8) -> Self {
-        Automaton { k, table: self.table.clone(), shared: self.shared.clone(), ..*self }
+        self.with_secret(Secret { states: self.secret, k })
+    }
+
+    /// With another secret, and its K, in place of its own.
+    pub fn with_secret(&self, secret: Secret) -> Self {
+        Automaton { k: secret.k, secret: secret.states, table: self.table.clone(), shared: self.shared.clone(), ..*self }
+    }
+
+    /// Three further secrets, each with as many states as its own and with its K. The initial state is in none, so that every enforcer starts.
+    pub fn further(&self, seed: u64) -> [Secret; 3] {
+        let mut random = Random(seed);
+        [(); 3].map(|()| {
+            let mut states: u64 = 0;
+            while states.count_ones() < self.secret.count_ones() {
+                states |= 1 << (1 + random.below(self.states - 1));
+            }
+            Secret { states, k: self.k }
+        })
     }
 
     /// With so many symbols, shared by the observable events in turn.

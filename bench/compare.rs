@@ -1,11 +1,12 @@
-//! Compares (b) and (d), with every block, and (c) with (a), event by event. A difference ends the run with status 1.
+//! Compares (b) and (d), with every block, and (c) with (a), event by event; and (a) with further secrets with (b) on each of them. A difference ends
+//! the run with status 1.
 
-use crate::automata::Automaton;
+use crate::automata::{Automaton, Secret};
 use crate::cases::Case;
 use crate::excuses::Excused;
 use crate::library::{self, Library};
 use crate::native::Estimator;
-use crate::plain::{Enforcer, Judgement, Release, Verifier, NONE};
+use crate::plain::{self, Enforcer, Judgement, Queue, Release, Verifier, NONE};
 use crate::rows::BLOCKS;
 use crate::trajectories::Trajectories;
 use std::fmt::Debug;
@@ -144,6 +145,9 @@ pub struct Compared {
     strong_releases: usize,
     /// Events after which (c) was compared too.
     textbook: usize,
+    /// Events after which (a) was compared with further secrets too, and leaks of these, weak and strong.
+    several: usize,
+    further_leaks: usize,
 }
 
 impl Compared {
@@ -159,15 +163,15 @@ impl Compared {
 
     pub fn print_head() {
         println!(
-            "{:<14} {:>8} {:>10} {:>12} {:>10} {:>10} {:>10} {:>12}",
-            "automaton", "events", "weak leaks", "strong leaks", "released", "strongly", "refusals", "(c) events"
+            "{:<14} {:>8} {:>10} {:>12} {:>10} {:>10} {:>10} {:>12} {:>16} {:>14}",
+            "automaton", "events", "weak leaks", "strong leaks", "released", "strongly", "refusals", "(c) events", "several secrets", "further leaks"
         );
     }
 
     pub fn print(&self, name: &str) {
         println!(
-            "{name:<14} {:>8} {:>10} {:>12} {:>10} {:>10} {:>10} {:>12}",
-            self.events, self.weak, self.strong, self.releases, self.strong_releases, self.refusals, self.textbook
+            "{name:<14} {:>8} {:>10} {:>12} {:>10} {:>10} {:>10} {:>12} {:>16} {:>14}",
+            self.events, self.weak, self.strong, self.releases, self.strong_releases, self.refusals, self.textbook, self.several, self.further_leaks
         );
     }
 }
@@ -205,6 +209,78 @@ pub fn compare(case: &Case, compared: &mut Compared) {
             compared.count(&expected);
         }
         estimate = automaton.after(estimate, event as usize);
+    }
+}
+
+/// (b) on each secret alone, with an enforcer for all of them: an event waits for the longest of its waits.
+struct Several {
+    alone: Vec<(Automaton, Estimator<true, 16>)>,
+    /// Weak, and strong where no secret opens as a leak.
+    queues: [Option<Queue>; 2],
+}
+
+impl Several {
+    /// With what is told of the opening, secret by secret.
+    fn new(case: &Case) -> (Self, Vec<Judgement>) {
+        let own = Secret { states: case.automaton.secret, k: case.automaton.k };
+        let automata = std::iter::once(&own).chain(&case.further).map(|&secret| case.automaton.with_secret(secret));
+        let (alone, opening): (Vec<_>, Vec<_>) = automata
+            .map(|automaton| {
+                let (verifier, opening) = Estimator::fresh(&automaton);
+                ((automaton, verifier), opening)
+            })
+            .unzip();
+        let queues = [0, 1].map(|notion| opening.iter().all(|judgement| judgement[notion] == NONE).then(Queue::new));
+        (Several { alone, queues }, opening)
+    }
+
+    /// What is told of each secret, and what each enforcer releases.
+    fn answers(&mut self, byte: u8) -> Result<(Vec<Judgement>, [Option<Vec<u8>>; 2]), u8> {
+        let told: Result<Vec<_>, u8> = self.alone.iter_mut().map(|(automaton, verifier)| verifier.accept(automaton, byte)).collect();
+        let told = told?;
+        let waits = [0, 1].map(|notion| self.alone.iter().zip(&told).map(|((automaton, _), judgement)| plain::wait(automaton.k, judgement[notion])).max());
+        let mut notions = self.queues.iter_mut().zip(waits);
+        let released = [(); 2].map(|()| notions.next().and_then(|(queue, wait)| Some(queue.as_mut()?.push_waiting(byte, wait?).to_vec())));
+        Ok((told, released))
+    }
+}
+
+/// Compares (a) with further secrets with (b) on each secret alone, on the whole trace.
+pub fn compare_several(case: &Case, compared: &mut Compared) {
+    let (mut b, opening) = Several::new(case);
+    let mut a = [0, 1].map(|_| Library::with(&case.automaton, &case.further));
+    a[0].fresh();
+    let told = |a: &Library| (0..opening.len()).map(|number| a.told(number)).collect::<Vec<_>>();
+    if told(&a[0]) != opening {
+        differ(case, "(b), several secrets", 0, told(&a[0]), &opening);
+    }
+    for (notion, a) in a.iter_mut().enumerate() {
+        if b.queues[notion].is_some() {
+            a.start(notion as u8);
+        }
+    }
+    for (i, &event) in case.trace.iter().enumerate() {
+        let stray = (i % 256) as u8;
+        let refused = plain::refuse_unobservable(&case.automaton, stray).is_err().then_some(stray);
+        for byte in refused.into_iter().chain([event]) {
+            let expected = a[0].accept(byte).map(|_| told(&a[0]));
+            let released = [0, 1].map(|notion| b.queues[notion].is_some().then(|| kept(a[notion].offer(byte))));
+            let got = b.answers(byte);
+            let same = match (&expected, &got) {
+                (Ok(expected), Ok((told, queues))) => {
+                    compared.several += 1;
+                    compared.further_leaks += told[1..].iter().flat_map(|judgement| &judgement[..2]).filter(|&&verdict| verdict != NONE).count();
+                    let size = told[0][2];
+                    let as_queued = |(given, queue): (&Option<Released>, &Option<Vec<u8>>)| *given == queue.clone().map(|events| Ok((events, size)));
+                    expected == told && released.iter().zip(queues).all(as_queued)
+                }
+                (Err(expected), Err(got)) => expected == got && released.iter().flatten().all(|given| given.as_ref() == Err(got)),
+                _ => false,
+            };
+            if !same {
+                differ(case, "(b), several secrets", i, (expected, released), got);
+            }
+        }
     }
 }
 

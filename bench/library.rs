@@ -1,21 +1,26 @@
 //! (a) The proved library through its C interface (include/opacity.h).
 
-use crate::automata::Automaton;
+use crate::automata::{Automaton, Secret};
 use crate::plain::{Judgement, Release};
 
 type Decode = unsafe extern "C" fn(*const u8, usize, *mut u64, usize, *mut u8, usize) -> u8;
-type Fresh = unsafe extern "C" fn(*const u64, usize, *const u8, usize, *mut u8, usize, *mut u8, usize) -> u8;
+type Fresh = unsafe extern "C" fn(*const u64, usize, *const u8, usize, *const u8, usize, *mut u8, usize, *mut u8, usize) -> u8;
 type Accept = unsafe extern "C" fn(*const u64, usize, *const u8, usize, u8, *mut u8, usize, *mut u8, usize) -> u8;
-type Start = unsafe extern "C" fn(*const u64, usize, *const u8, usize, u8, *mut u8, usize) -> u8;
+type Start = unsafe extern "C" fn(*const u64, usize, *const u8, usize, u8, *const u8, usize, *mut u8, usize) -> u8;
 type Offer = unsafe extern "C" fn(*const u64, usize, *const u8, usize, u8, *mut u8, usize, *mut u8, usize, *mut u8, usize) -> u8;
 
 extern "C" {
     fn opacity_decode(encoding: *const u8, _: usize, table: *mut u64, _: usize, header: *mut u8, _: usize) -> u8;
-    fn opacity_fresh(table: *const u64, _: usize, header: *const u8, _: usize, estimator: *mut u8, _: usize, judgement: *mut u8, _: usize) -> u8;
+    fn opacity_fresh(
+        table: *const u64, _: usize, header: *const u8, _: usize, further: *const u8, _: usize, estimator: *mut u8, _: usize, judgement: *mut u8,
+        _: usize,
+    ) -> u8;
     fn opacity_accept(
         table: *const u64, _: usize, header: *const u8, _: usize, symbol: u8, estimator: *mut u8, _: usize, judgement: *mut u8, _: usize,
     ) -> u8;
-    fn opacity_start(table: *const u64, _: usize, header: *const u8, _: usize, notion: u8, enforcer: *mut u8, _: usize) -> u8;
+    fn opacity_start(
+        table: *const u64, _: usize, header: *const u8, _: usize, notion: u8, further: *const u8, _: usize, enforcer: *mut u8, _: usize,
+    ) -> u8;
     fn opacity_offer(
         table: *const u64, _: usize, header: *const u8, _: usize, symbol: u8, enforcer: *mut u8, _: usize, output: *mut u8, _: usize,
         release: *mut u8, _: usize,
@@ -38,13 +43,15 @@ pub const PROVED: Functions =
 unsafe extern "C" fn no_decode(_: *const u8, _: usize, _: *mut u64, _: usize, _: *mut u8, _: usize) -> u8 {
     0
 }
-unsafe extern "C" fn no_fresh(_: *const u64, _: usize, _: *const u8, _: usize, _: *mut u8, _: usize, _: *mut u8, _: usize) -> u8 {
+unsafe extern "C" fn no_fresh(
+    _: *const u64, _: usize, _: *const u8, _: usize, _: *const u8, _: usize, _: *mut u8, _: usize, _: *mut u8, _: usize,
+) -> u8 {
     0
 }
 unsafe extern "C" fn no_accept(_: *const u64, _: usize, _: *const u8, _: usize, _: u8, _: *mut u8, _: usize, _: *mut u8, _: usize) -> u8 {
     0
 }
-unsafe extern "C" fn no_start(_: *const u64, _: usize, _: *const u8, _: usize, _: u8, _: *mut u8, _: usize) -> u8 {
+unsafe extern "C" fn no_start(_: *const u64, _: usize, _: *const u8, _: usize, _: u8, _: *const u8, _: usize, _: *mut u8, _: usize) -> u8 {
     0
 }
 unsafe extern "C" fn no_offer(
@@ -59,23 +66,35 @@ pub const NOTHING: Functions = Functions { decode: no_decode, fresh: no_fresh, a
 pub const WEAK: u8 = 0;
 pub const STRONG: u8 = 1;
 
-/// What a gateway lends: the table, the header, the saved states and what is written for it.
+/// What a gateway lends: the table, the header, the further secrets, the saved states and what is written for it.
 pub struct Library {
     table: Vec<u64>,
     header: [u8; 46],
-    estimator: [u8; 144],
-    judgement: Judgement,
-    enforcer: [u8; 178],
+    further: [u8; 28],
+    estimator: [u8; 172],
+    judgement: [u8; 9],
+    enforcer: [u8; 206],
     output: [u8; 17],
     release: [u8; 2],
 }
 
 impl Library {
-    /// Decodes the automaton's encoding; a table that no encoding can list is lent as it is.
+    /// With the automaton's own secret alone.
     pub fn new(automaton: &Automaton) -> Self {
+        Library::with(automaton, &[])
+    }
+
+    /// With further secrets, up to three. Decodes the automaton's encoding; a table that no encoding can list is lent as it is.
+    pub fn with(automaton: &Automaton, further: &[Secret]) -> Self {
         let mut made = Library {
-            table: vec![0; 2048], header: [0; 46], estimator: [0; 144], judgement: [0; 3], enforcer: [0; 178], output: [0; 17], release: [0; 2],
+            table: vec![0; 2048], header: [0; 46], further: [0; 28], estimator: [0; 172], judgement: [0; 9], enforcer: [0; 206], output: [0; 17],
+            release: [0; 2],
         };
+        made.further[0] = further.len() as u8;
+        for (place, secret) in made.further[1..].chunks_exact_mut(9).zip(further) {
+            place[..8].copy_from_slice(&secret.states.to_le_bytes());
+            place[8] = secret.k;
+        }
         match automaton.encode() {
             Some(encoding) => {
                 assert_eq!(made.call_decode(&PROVED, &encoding), 0, "decode");
@@ -104,11 +123,11 @@ impl Library {
 
     #[inline(always)]
     pub fn call_fresh(&mut self, functions: &Functions) -> u8 {
-        let (table, header, estimator, judgement) = (&self.table, &self.header, &mut self.estimator, &mut self.judgement);
+        let (table, header, further, estimator, judgement) = (&self.table, &self.header, &self.further, &mut self.estimator, &mut self.judgement);
         unsafe {
             (functions.fresh)(
-                table.as_ptr(), table.len(), header.as_ptr(), header.len(), estimator.as_mut_ptr(), estimator.len(), judgement.as_mut_ptr(),
-                judgement.len(),
+                table.as_ptr(), table.len(), header.as_ptr(), header.len(), further.as_ptr(), further.len(), estimator.as_mut_ptr(),
+                estimator.len(), judgement.as_mut_ptr(), judgement.len(),
             )
         }
     }
@@ -126,8 +145,13 @@ impl Library {
 
     #[inline(always)]
     pub fn call_start(&mut self, functions: &Functions, notion: u8) -> u8 {
-        let (table, header, enforcer) = (&self.table, &self.header, &mut self.enforcer);
-        unsafe { (functions.start)(table.as_ptr(), table.len(), header.as_ptr(), header.len(), notion, enforcer.as_mut_ptr(), enforcer.len()) }
+        let (table, header, further, enforcer) = (&self.table, &self.header, &self.further, &mut self.enforcer);
+        unsafe {
+            (functions.start)(
+                table.as_ptr(), table.len(), header.as_ptr(), header.len(), notion, further.as_ptr(), further.len(), enforcer.as_mut_ptr(),
+                enforcer.len(),
+            )
+        }
     }
 
     #[inline(always)]
@@ -141,15 +165,20 @@ impl Library {
         }
     }
 
-    pub fn fresh(&mut self) -> Judgement {
-        assert_eq!(self.call_fresh(&PROVED), 0, "fresh");
-        self.judgement
+    /// What was told last of the secret with a number: its two verdicts, and the estimate size.
+    pub fn told(&self, number: usize) -> Judgement {
+        [self.judgement[2 * number], self.judgement[2 * number + 1], self.judgement[8]]
     }
 
-    /// The two verdicts and the estimate size, or the number of the refusal.
+    pub fn fresh(&mut self) -> Judgement {
+        assert_eq!(self.call_fresh(&PROVED), 0, "fresh");
+        self.told(0)
+    }
+
+    /// The two verdicts of the automaton's own secret and the estimate size, or the number of the refusal.
     pub fn accept(&mut self, symbol: u8) -> Result<Judgement, u8> {
         match self.call_accept(&PROVED, symbol) {
-            0 => Ok(self.judgement),
+            0 => Ok(self.told(0)),
             refusal => Err(refusal),
         }
     }

@@ -1,7 +1,7 @@
 //! Measures four implementations of two jobs side by side: (a) the proved library, (b) plain Rust written for speed, (c) the textbook's trajectory
 //! estimator, (d) plain Rust that carries excuses forward. The jobs: `accept`, both verdicts and the estimate size for each event, and `offer`, the
-//! events that a weak enforcer releases and the estimate size. Every verdict, release and estimate size is compared first, event by event. A
-//! difference or a missed goal ends the run with status 1.
+//! events that a weak enforcer releases and the estimate size. Each is done with one secret, and by (a) once more with three further ones. Every
+//! verdict, release and estimate size is compared first, event by event. A difference or a missed goal ends the run with status 1.
 
 mod automata;
 mod cases;
@@ -29,6 +29,8 @@ use std::time::{Duration, Instant};
 const TIMES_NATIVE: f64 = 1.5;
 /// (c) takes at least so many times as long as (a), on the large automata.
 const TIMES_TEXTBOOK: f64 = 20.0;
+/// With three further secrets (a) takes less than so many times as long as with none.
+const TIMES_SEVERAL: f64 = 3.0;
 /// An event of the longest trace takes at most so many times as long as one of the shortest: no growth, but for the clock.
 const TIMES_LONG: f64 = 1.2;
 /// Bytes of stack.
@@ -49,13 +51,14 @@ fn number(x: f64) -> String {
 fn compare_some(name: &str, cases: &[Case], with_textbook: usize) {
     let mut all = Compared::default();
     cases.iter().for_each(|case| compare::compare(case, &mut all));
+    cases.iter().for_each(|case| compare::compare_several(case, &mut all));
     cases[..with_textbook].iter().for_each(|case| compare::compare_textbook(case, &mut all));
     all.print(name);
 }
 
 fn compare_all(cases: &[Case]) {
     println!("Compared event by event: verdicts, estimate sizes, releases and refusals of (a), (b) and (d) are the same, and the verdicts and estimate");
-    println!("sizes of (c) as far as it gets.");
+    println!("sizes of (c) as far as it gets. With further secrets: (a) tells of each what (b) tells of it alone, and releases what no secret keeps back.");
     Compared::print_head();
     cases.chunks(1).for_each(|case| compare_some(case[0].name, case, 1));
     compare_some("4000 small", &cases::small(), 400);
@@ -125,6 +128,20 @@ fn print_row(job: Job, case: &Case, times: &Times, missed: &mut Missed) {
     }
 }
 
+fn print_several(cases: &[Case], measured: &Measured, missed: &mut Missed) {
+    println!("\n(a) with the automaton's own secret alone, and with three further ones of the same K, nanoseconds an event");
+    println!("{:<7} {:<14} {:>8} {:>8} {:>8}", "job", "automaton", "alone", "three", "times");
+    for (i, job) in JOBS.into_iter().enumerate() {
+        for (case, times) in cases.iter().zip(&measured.times) {
+            let (alone, several) = (times[i].library.0, times[i].several.0);
+            println!("{:<7} {:<14} {:>8} {:>8} {:>8.2}", job.name(), case.name, number(alone), number(several), several / alone);
+            if TIMES_SEVERAL * alone <= several {
+                missed.push(format!("{} on {}: three further secrets take {:.2} times as long as none", job.name(), case.name, several / alone));
+            }
+        }
+    }
+}
+
 fn print_blocks(cases: &[Case], measured: &Measured) {
     println!("\n(b) and (d) with each block of states, nanoseconds an event");
     let heads = |name: &str| BLOCKS.map(|block| format!("{:>8}", format!("{name} {block}"))).join(" ");
@@ -158,7 +175,7 @@ fn print_growth(measured: &Measured, missed: &mut Missed) {
 fn print_stack(cases: &[Case], missed: &mut Missed) {
     println!("\nDeepest stack of each function, in bytes below its return address:");
     for case in cases {
-        let depths = stack::depths(&case.automaton, &case.trace);
+        let depths = stack::depths(case);
         println!("  {:<14} {}", case.name, depths.map(|(name, depth)| format!("{name} {}", depth.map_or("-".into(), |bytes| bytes.to_string()))).join(", "));
         for (name, depth) in depths {
             if depth.is_some_and(|bytes| STACK <= bytes) {
@@ -184,8 +201,8 @@ fn print_decoding(missed: &mut Missed) {
 }
 
 /// (a) alone for some seconds, for a profiler.
-fn only(job: &str, case: &Case) {
-    let mut library = Library::new(&case.automaton);
+fn only(job: &str, case: &Case, further: &[automata::Secret]) {
+    let mut library = Library::with(&case.automaton, further);
     let begun = Instant::now();
     while begun.elapsed() < Duration::from_secs(4) {
         library.fresh();
@@ -217,14 +234,15 @@ fn everything(cases: &[Case]) {
     compare_all(cases);
     let measured = measure_all(cases);
     print_times(cases, &measured, &mut missed);
+    print_several(cases, &measured, &mut missed);
     print_blocks(cases, &measured);
     print_growth(&measured, &mut missed);
     print_stack(cases, &mut missed);
     print_decoding(&mut missed);
     println!("\n{:.0} s in all", begun.elapsed().as_secs_f64());
     let goals = format!(
-        "(a) at most {TIMES_NATIVE} times (b) with its best block, on each; (c) at least {TIMES_TEXTBOOK} times (a) on large, chain and dense; no growth with \
-         the trace (at most {TIMES_LONG} times); stack below {STACK} bytes; the longest encoding decoded in less than {DECODING} milliseconds."
+        "(a) at most {TIMES_NATIVE} times (b) with its best block, on each; (c) at least {TIMES_TEXTBOOK} times (a) on large, chain and dense; with \
+         three further secrets below {TIMES_SEVERAL} times; no growth with the trace (at most {TIMES_LONG} times); stack below {STACK} bytes; the longest encoding decoded in less than {DECODING} milliseconds."
     );
     conclude(&goals, missed);
 }
@@ -244,7 +262,10 @@ fn main() {
             print_decoding(&mut missed);
             conclude(&format!("the longest encoding in less than {DECODING} milliseconds."), missed);
         }
-        ["only", job, name] => only(job, cases.iter().find(|case| case.name == *name).expect("no such automaton")),
-        _ => panic!("usage: bench/run [stack | decoding | only JOB AUTOMATON]"),
+        ["only", job, name, several @ ..] if several.is_empty() || *several == ["several"] => {
+            let case = cases.iter().find(|case| case.name == *name).expect("no such automaton");
+            only(job, case, if several.is_empty() { &[] } else { &case.further });
+        }
+        _ => panic!("usage: bench/run [stack | decoding | only JOB AUTOMATON [several]]"),
     }
 }

@@ -136,10 +136,11 @@ impl Least {
     }
 }
 
-/// The least times of one job on one case, of (b) and (d) with each block.
+/// The least times of one job on one case, of (a) also with the further secrets, of (b) and (d) with each block.
 #[derive(Clone, Copy)]
 pub struct Times {
     pub library: Least,
+    pub several: Least,
     pub native: [Least; BLOCKS.len()],
     pub kept: Least,
     pub excuses: [Least; BLOCKS.len()],
@@ -147,15 +148,17 @@ pub struct Times {
 
 impl Times {
     pub const NEW: Times =
-        Times { library: Least::NEW, native: [Least::NEW; BLOCKS.len()], kept: Least::NEW, excuses: [Least::NEW; BLOCKS.len()] };
+        Times { library: Least::NEW, several: Least::NEW, native: [Least::NEW; BLOCKS.len()], kept: Least::NEW, excuses: [Least::NEW; BLOCKS.len()] };
 
     /// The implementations take turns, so that a disturbance hits all of them.
     pub fn measure(&mut self, job: Job, case: &Case) {
         let (automaton, trace) = (&case.automaton, &case.trace[..]);
         let mut library = Library::new(automaton);
+        let mut several = Library::with(automaton, &case.further);
         let mut kept = Silent::whole(automaton);
         for _ in 0..REPETITIONS {
             self.library.time(trace.len(), || library_pass(job, &mut library, trace));
+            self.several.time(trace.len(), || library_pass(job, &mut several, trace));
             self.kept.time(trace.len(), || kept_pass(job, automaton, &mut kept, trace));
             for (least, pass) in self.native.iter_mut().zip(native_passes(job)) {
                 least.time(trace.len(), || pass(automaton, trace));

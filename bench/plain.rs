@@ -24,6 +24,12 @@ pub fn refuse_unobservable(automaton: &Automaton, event: u8) -> Result<(), u8> {
     if 31 < event || automaton.observable >> event & 1 == 0 { Err(6) } else { Ok(()) }
 }
 
+/// How many further events make a trace with this verdict safe.
+#[inline(always)]
+pub fn wait(k: u8, verdict: u8) -> u8 {
+    if verdict == NONE { 0 } else { k + 1 - verdict }
+}
+
 /// Pending events in a ring, each with the number of accepted events at which its wait is over.
 pub struct Queue {
     accepted: u64,
@@ -42,7 +48,12 @@ impl Queue {
     /// Takes in an event with its verdict, and gives the released ones.
     #[inline(always)]
     pub fn push(&mut self, k: u8, event: u8, verdict: u8) -> &[u8] {
-        let wait = if verdict == NONE { 0 } else { k + 1 - verdict };
+        self.push_waiting(event, wait(k, verdict))
+    }
+
+    /// Takes in an event that waits for so many further ones, and gives the released ones.
+    #[inline(always)]
+    pub fn push_waiting(&mut self, event: u8, wait: u8) -> &[u8] {
         self.accepted += 1;
         let last = (self.first + self.count) % 32;
         self.pending[last] = event;

@@ -1,7 +1,7 @@
 //! How deep each function of the interface goes: it is called on a painted stack, and the deepest byte that lost its paint is looked for. The depth of
 //! the same call of a function that does nothing is taken off, so that what is left is the function's own: below its return address.
 
-use crate::automata::Automaton;
+use crate::cases::Case;
 use crate::library::{self, Library};
 use std::arch::asm;
 
@@ -60,10 +60,11 @@ fn depth(stack: &mut Stack, job: extern "C" fn(&mut Call), call: &mut Call) -> u
     SIZE - stack.0.iter().position(|&byte| byte != PAINT).unwrap_or(SIZE)
 }
 
-/// The deepest of all calls on an automaton and its trace, for each function.
-pub fn depths(automaton: &Automaton, trace: &[u8]) -> [(&'static str, Option<usize>); 5] {
+/// The deepest of all calls on an automaton and its trace, with the further secrets, for each function.
+pub fn depths(case: &Case) -> [(&'static str, Option<usize>); 5] {
+    let (automaton, trace) = (&case.automaton, &case.trace);
     let mut stack = Box::new(Stack([0; SIZE]));
-    let mut library = Library::new(automaton);
+    let mut library = Library::with(automaton, &case.further);
     let encoding = automaton.encode().unwrap_or_default();
     let mut measure = |library: &mut Library, job: extern "C" fn(&mut Call), event: u8| {
         let mut call = Call { library, functions: library::NOTHING, encoding: &encoding, event, answer: 0 };

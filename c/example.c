@@ -1,6 +1,7 @@
 /* The worked example of the requirements through the C interface: decodes automaton P, runs the verifier and a weak enforcer over the trace 1 2 1 1,
    and prints a line for each event: its place, its symbol, the weak and the strong verdict, the estimate size, the released symbols. (P lists no
-   symbols: each observable event has its own number.) c/run compares the lines. */
+   symbols: each observable event has its own number.) Then the same with a further secret, whose verdicts follow those of P's own: it keeps back the
+   last event. c/run compares the lines. */
 #include <stdio.h>
 
 #include "opacity.h"
@@ -8,6 +9,11 @@
 /* Four states, events 0 to 2, K 2, initial state 0, secret {1}, observable {1, 2}; transitions (0,0,2) (0,1,1) (1,2,0) (2,1,3) (3,1,3). */
 static const uint8_t encoding[] = {0x0c, 0x44, 0x00, 0x0a, 0x46, 0x00, 0x02, 0x00, 0x20, 0x82, 0x20, 0x02, 0x08, 0x61, 0x84, 0x30};
 static const uint8_t trace[] = {1, 2, 1, 1};
+
+/* No further secret; and one, number 1: state 3, with K 1. */
+static const uint8_t none[OPACITY_FURTHER_BYTES];
+static const uint8_t one[OPACITY_FURTHER_BYTES] = {
+    [OPACITY_FURTHER_COUNT] = 1, [OPACITY_FURTHER_STATES(1)] = 1 << 3, [OPACITY_FURTHER_K(1)] = 1};
 
 /* All the memory that the library works in besides its stack. */
 static uint64_t table[OPACITY_TABLE_WORDS];
@@ -32,18 +38,18 @@ static void print_verdict(uint8_t verdict)
         printf(" %d", verdict);
 }
 
-int main(void)
+/* The trace, on the decoded automaton and with these further secrets. */
+static int run(const uint8_t *further)
 {
     unsigned long accepted = 0, out = 0;
     uint8_t answer;
 
-    answer = opacity_decode(encoding, sizeof encoding, table, OPACITY_TABLE_WORDS, header, sizeof header);
+    answer = opacity_fresh(table, OPACITY_TABLE_WORDS, header, sizeof header, further, OPACITY_FURTHER_BYTES, estimator, sizeof estimator,
+                           judgement, sizeof judgement);
     if (answer != OPACITY_OK)
         return refused(answer);
-    answer = opacity_fresh(table, OPACITY_TABLE_WORDS, header, sizeof header, estimator, sizeof estimator, judgement, sizeof judgement);
-    if (answer != OPACITY_OK)
-        return refused(answer);
-    answer = opacity_start(table, OPACITY_TABLE_WORDS, header, sizeof header, OPACITY_WEAK, enforcer, sizeof enforcer);
+    answer = opacity_start(table, OPACITY_TABLE_WORDS, header, sizeof header, OPACITY_WEAK, further, OPACITY_FURTHER_BYTES, enforcer,
+                           sizeof enforcer);
     if (answer != OPACITY_OK)
         return refused(answer);
 
@@ -62,8 +68,10 @@ int main(void)
         accepted++;
         out += release[OPACITY_RELEASE_COUNT];
         printf("%lu %d", accepted, symbol);
-        print_verdict(judgement[OPACITY_JUDGEMENT_WEAK]);
-        print_verdict(judgement[OPACITY_JUDGEMENT_STRONG]);
+        for (int number = 0; number <= further[OPACITY_FURTHER_COUNT]; number++) {
+            print_verdict(judgement[OPACITY_JUDGEMENT_WEAK(number)]);
+            print_verdict(judgement[OPACITY_JUDGEMENT_STRONG(number)]);
+        }
         printf(" %d", judgement[OPACITY_JUDGEMENT_SIZE]);
         for (int j = 0; j < release[OPACITY_RELEASE_COUNT]; j++)
             printf("%c%d", j == 0 ? ' ' : ',', output[j]);
@@ -71,4 +79,12 @@ int main(void)
     }
     printf("end %lu %lu %d\n", accepted, out, enforcer[OPACITY_ENFORCER_PENDING]);
     return 0;
+}
+
+int main(void)
+{
+    uint8_t answer = opacity_decode(encoding, sizeof encoding, table, OPACITY_TABLE_WORDS, header, sizeof header);
+    if (answer != OPACITY_OK)
+        return refused(answer);
+    return run(none) || run(one);
 }

@@ -16,6 +16,11 @@
  * does not tell these apart. What is offered, remembered, pending and released is a symbol. Where an encoding lists none, each observable event's
  * symbol is its own number.
  *
+ * Secrets. The automaton's own secret states and its K are secret number 0. A fresh estimator or a started enforcer may be given up to three further
+ * secrets (02: recipes), numbered 1 to 3 as they stand, each a set of states with its own K. They are kept in the saved state: no later call is passed
+ * any, and every accepted symbol leaves them as they are. Each secret has its own verdicts, by its own K. "The largest K" is that of all secrets that
+ * are given, the automaton's own among them: it says how many symbols are remembered, and how long one may be pending.
+ *
  * Answers. Each function answers 0, or the number of a refusal, and after a refusal every slice is as it was before the call. Of several
  * refusals whose conditions hold, the answer is the one that the function's comment lists first. A slice of another length than its layout has gets
  * 9, and an output of fewer than 17 bytes 10.
@@ -29,13 +34,16 @@
  *   7    OPACITY_INCOMPATIBLE          no run of the automaton is compatible with the trace and the
  *                                      symbol behind it (of a state that did not grow from a fresh
  *                                      one on this automaton: perhaps)                               accept, offer
- *   8    OPACITY_INITIAL_LEAK          the empty trace already has leak 0 under the notion           start
- *   9    OPACITY_MALFORMED             a slice has another length than its layout, K is above 15,
- *                                      the initial state above 63, an observable event's symbol
- *                                      above 31, the notion above 1, or a saved state is outside
- *                                      its limits                                                    all
+ *   8    OPACITY_INITIAL_LEAK          the empty trace already has leak 0 under the notion, for
+ *                                      some secret that is given                                     start
+ *   9    OPACITY_MALFORMED             a slice has another length than its layout, the header's K
+ *                                      is above 15, its initial state above 63, an observable
+ *                                      event's symbol above 31, the notion above 1, or a saved
+ *                                      state is outside its limits                                   all
  *   10   OPACITY_OUTPUT_TOO_SMALL      the output has fewer than 17 bytes                            offer
  *   12   OPACITY_REPEATED_TRANSITION   a transition is listed a second time                          decode
+ *   13   OPACITY_TOO_MANY_SECRETS      more than three further secrets                               fresh, start
+ *   14   OPACITY_LOOK_BACK_TOO_LARGE   the K of a further secret that is given is above 15           fresh, start
  *
  * Table: 2,048 words. Word 64 * event + state is the set of the states that the event may lead to; bit q, counted from the least significant, is
  * state q. Any 2,048 words are the transitions of an automaton of 64 states and 32 events.
@@ -48,30 +56,45 @@
  *   14..45   the symbol of each of the events 0 to 31: of an observable one at most 31; of an unobservable one any byte, which counts for nothing
  *            (a decoded header has 0 there)
  *
- * Estimator: 144 bytes. Outside its limits if it remembers more than K symbols, or one of those it remembers is above 31.
+ * Further secrets: 28 bytes. All of them 0: none further.
+ *   0        how many are given, at most 3
+ *   1..8     the first, number 1: set of its states
+ *   9        its K, at most 15
+ *   10..18   the second, the same
+ *   19..27   the third, the same
+ * A place past the number that is given counts for nothing, whatever it holds; in the saved state that a fresh estimator or a start writes it is 0. A
+ * set may be empty, and sets may overlap or be the same. (One further secret without states is not the same as none: it is number 1, its verdicts are
+ * none, and its K counts for the largest.)
+ *
+ * Estimator: 172 bytes. Outside its limits if it has more than three further secrets, if the K of one that is given is above 15, if it remembers more
+ * symbols than the largest K, or if one of those it remembers is above 31.
  *   0        number of remembered symbols
  *   1..15    those symbols, the newest first; unused places are 0
  *   16..143  16 sets of states, 8 bytes each: where runs can be right after the newest symbol, the one before it, and so on; unused ones are 0
+ *   144..171 its further secrets
  *
- * Enforcer: 178 bytes. Outside its limits if its estimator is, if it has more than K + 1 pending symbols, or if one of those is above 31.
- *   0..143   its estimator
- *   144      its notion, 0 weak or 1 strong
- *   145      number of pending symbols
- *   146..161 those symbols, the oldest first; unused places are 0
- *   162..177 for each, how many more accepted ones it waits for; unused places are 0
+ * Enforcer: 206 bytes. Outside its limits if its estimator is, if it has more than the largest K + 1 pending symbols, or if one of those is above 31.
+ *   0..171   its estimator
+ *   172      its notion, 0 weak or 1 strong
+ *   173      number of pending symbols
+ *   174..189 those symbols, the oldest first; unused places are 0
+ *   190..205 for each, how many more accepted ones it waits for; unused places are 0
  *
  * Estimate size: the number of different states, 1 to 64, in which the automaton may be now as far as a reader of all accepted symbols can tell: those
  * in which some compatible run ends, unobservable transitions after its last observable event included. It says how narrow the reader's view is: at 1
  * the reader knows the state. By itself it says nothing about secrecy: one state that is not secret leaks nothing, and several leak if all of them are
  * secret; the verdicts say that. It is part of no saved state: each accepted symbol gets its own.
  *
- * Judgement: 3 bytes.
- *   0        the weak verdict: the steps of a leak, 0 to K, or 255 for none
- *   1        the strong verdict, the same
- *   2        the estimate size, 1 to 64
+ * Judgement: 9 bytes.
+ *   0        the weak verdict of the automaton's own secret, number 0: the steps of a leak, 0 to its K, or 255 for none
+ *   1        its strong verdict, the same
+ *   2, 3     those of the further secret number 1, by its own K; 255 if it is not given
+ *   4, 5     of number 2
+ *   6, 7     of number 3
+ *   8        the estimate size, 1 to 64
  *
  * Release: 2 bytes.
- *   0        how many symbols were released, 0 to K + 2
+ *   0        how many symbols were released, 0 to the largest K + 2
  *   1        the estimate size, 1 to 64: of all accepted symbols, pending ones among them, and not of the released ones alone. So it says how narrow
  *            the view would be of one who had them all
  *
@@ -85,18 +108,24 @@
 
 #define OPACITY_TABLE_WORDS 2048
 #define OPACITY_HEADER_BYTES 46
-#define OPACITY_ESTIMATOR_BYTES 144
-#define OPACITY_ENFORCER_BYTES 178
-#define OPACITY_JUDGEMENT_BYTES 3
+#define OPACITY_FURTHER_BYTES 28
+#define OPACITY_ESTIMATOR_BYTES 172
+#define OPACITY_ENFORCER_BYTES 206
+#define OPACITY_JUDGEMENT_BYTES 9
 #define OPACITY_RELEASE_BYTES 2
 #define OPACITY_OUTPUT_BYTES 17           /* the least; more is taken */
 #define OPACITY_ENCODING_MAX_BYTES 2210   /* the longest encoding */
 
-#define OPACITY_ENFORCER_PENDING 145      /* the place of the number of pending symbols */
+#define OPACITY_FURTHER_MAX 3             /* the most further secrets */
+#define OPACITY_FURTHER_COUNT 0           /* the places in further secrets, by the number of a secret, 1 to 3 */
+#define OPACITY_FURTHER_STATES(number) (9 * (number) - 8)   /* 8 bytes */
+#define OPACITY_FURTHER_K(number) (9 * (number))
 
-#define OPACITY_JUDGEMENT_WEAK 0          /* the places in a judgement */
-#define OPACITY_JUDGEMENT_STRONG 1
-#define OPACITY_JUDGEMENT_SIZE 2
+#define OPACITY_ENFORCER_PENDING 173      /* the place of the number of pending symbols */
+
+#define OPACITY_JUDGEMENT_WEAK(number) (2 * (number))       /* the places in a judgement, by the number of a secret, 0 to 3 */
+#define OPACITY_JUDGEMENT_STRONG(number) (2 * (number) + 1)
+#define OPACITY_JUDGEMENT_SIZE 8
 
 #define OPACITY_RELEASE_COUNT 0           /* the places in a release */
 #define OPACITY_RELEASE_SIZE 1
@@ -116,6 +145,8 @@
 #define OPACITY_MALFORMED 9
 #define OPACITY_OUTPUT_TOO_SMALL 10
 #define OPACITY_REPEATED_TRANSITION 12
+#define OPACITY_TOO_MANY_SECRETS 13
+#define OPACITY_LOOK_BACK_TOO_LARGE 14
 
 #ifdef __cplusplus
 extern "C" {
@@ -135,28 +166,33 @@ uint8_t opacity_decode(const uint8_t *encoding, size_t encoding_length,
 
 /*
  * Makes a fresh estimator.
- * Takes:   table and header of an automaton; 144 bytes for the estimator and 3 for the judgement, whatever they hold.
- * Answers: 0: the estimator of the empty trace, and the judgement of the empty trace: its verdicts and its estimate size.
- *          9: a slice of a wrong length, K above 15, an initial state above 63, or an observable event's symbol above 31.
+ * Takes:   table and header of an automaton, the 28 bytes of the further secrets; 172 bytes for the estimator and 9 for the judgement, whatever they
+ *          hold.
+ * Answers: 0: the estimator of the empty trace, which keeps the further secrets, and the judgement of the empty trace: the verdicts of each secret and
+ *             the estimate size.
+ *          9: a slice of a wrong length, the header's K above 15, an initial state above 63, or an observable event's symbol above 31.
+ *          13: more than three further secrets.
+ *          14: the K of one that is given is above 15.
  */
 uint8_t opacity_fresh(const uint64_t *table, size_t table_length,
                       const uint8_t *header, size_t header_length,
+                      const uint8_t *further, size_t further_length,
                       uint8_t *estimator, size_t estimator_length,
                       uint8_t *judgement, size_t judgement_length);
 
 /*
  * Accepts one symbol (the verifier's step).
- * Takes:   table and header as `opacity_fresh` got them, the symbol, the estimator as the last call left it, and 3 bytes for the judgement.
- * Answers: 0: the estimator with the symbol behind its trace, and the judgement of that trace. Weak: leak l if l is the least number, at most K and at
- *             most the length of the trace, such that in every compatible run every position l symbols back is secret. Strong: leak l if l is the
- *             least such that every compatible run has a secret position at most l symbols back. Else none. Estimate size: the number of different
- *             states in which a compatible run ends.
+ * Takes:   table and header as `opacity_fresh` got them, the symbol, the estimator as the last call left it, and 9 bytes for the judgement.
+ * Answers: 0: the estimator with the symbol behind its trace, and the judgement of that trace. For each secret, with its own states as the secret ones
+ *             and by its own K, weak: leak l if l is the least number, at most K and at most the length of the trace, such that in every compatible run
+ *             every position l symbols back is secret. Strong: leak l if l is the least such that every compatible run has a secret position at most l
+ *             symbols back. Else none. Estimate size: the number of different states in which a compatible run ends.
  *          9: a slice of a wrong length, K above 15, an initial state above 63, an observable event's symbol above 31, or an estimator outside its
- *             limits.
+ *             limits, by its further secrets too: 13 and 14 are not given here.
  *          6: no observable event of the header has this symbol.
  *          7: no run is compatible with the trace and the symbol behind it.
- * An estimator within its limits that no trace on this automaton leads to gets 6 on its condition, and else 7, or 0 with verdicts from 0 to K or none,
- * some estimate size from 1 to 64, and an estimator within its limits.
+ * An estimator within its limits that no trace on this automaton leads to gets 6 on its condition, and else 7, or 0 with verdicts from 0 to each
+ * secret's own K or none, some estimate size from 1 to 64, and an estimator within its limits, with the further secrets that it had.
  */
 uint8_t opacity_accept(const uint64_t *table, size_t table_length,
                        const uint8_t *header, size_t header_length,
@@ -166,31 +202,38 @@ uint8_t opacity_accept(const uint64_t *table, size_t table_length,
 
 /*
  * Starts an enforcer under a notion.
- * Takes:   table and header of an automaton, the notion (OPACITY_WEAK or OPACITY_STRONG), and 178 bytes for the enforcer, whatever they hold.
- * Answers: 0: the enforcer of the empty trace, with nothing pending.
- *          9: a slice of a wrong length, a notion above 1, K above 15, an initial state above 63, or an observable event's symbol above 31.
- *          8: the empty trace has leak 0 under the notion, so that no enforcer can keep it back.
+ * Takes:   table and header of an automaton, the notion (OPACITY_WEAK or OPACITY_STRONG), the 28 bytes of the further secrets, and 206 bytes for the
+ *          enforcer, whatever they hold.
+ * Answers: 0: the enforcer of the empty trace, which keeps the further secrets, with nothing pending.
+ *          9: a slice of a wrong length, a notion above 1, the header's K above 15, an initial state above 63, or an observable event's symbol above
+ *             31.
+ *          13: more than three further secrets.
+ *          14: the K of one that is given is above 15.
+ *          8: the empty trace has leak 0 under the notion for some secret, so that no enforcer can keep it back.
  */
 uint8_t opacity_start(const uint64_t *table, size_t table_length,
                       const uint8_t *header, size_t header_length,
                       uint8_t notion,
+                      const uint8_t *further, size_t further_length,
                       uint8_t *enforcer, size_t enforcer_length);
 
 /*
  * Offers one symbol to an enforcer, which keeps it pending or releases it.
  * Takes:   table and header as `opacity_start` got them, the symbol, the enforcer as the last call left it, an output of 17 bytes or more, and 2 bytes
  *          for the release.
- * Answers: 0: the symbol is accepted. `release[0]` symbols, 0 to K + 2, left the front of the pending ones (the new one is the last) and stand at the
- *             front of the output, in their order. Together with those released before they are the longest prefix of the accepted ones from which
- *             nobody can be sure, under the notion, of a secret state at most K accepted symbols back. `release[1]` is the estimate size of all
- *             accepted symbols, pending ones among them: what a verifier that accepted the same symbols gives.
+ * Answers: 0: the symbol is accepted. `release[0]` symbols, 0 to the largest K + 2, left the front of the pending ones (the new one is the last) and
+ *             stand at the front of the output, in their order. Together with those released before they are the longest prefix of the accepted ones
+ *             from which nobody can be sure, under the notion, of any secret: of a state of it at most its own K accepted symbols back. So a symbol is
+ *             pending until at most the largest K + 1 more are accepted. `release[1]` is the estimate size of all accepted symbols, pending ones among
+ *             them: what a verifier that accepted the same symbols gives.
  *          9: a slice of a wrong length (the output's excepted), K above 15, an initial state above 63, an observable event's symbol above 31, a
- *             saved notion above 1, or an enforcer outside its limits.
+ *             saved notion above 1, or an enforcer outside its limits, by its further secrets too: 13 and 14 are not given here.
  *          10: the output has fewer than 17 bytes.
  *          6: no observable event of the header has this symbol.
  *          7: no run is compatible with the accepted symbols and this one behind them.
  * An enforcer within its limits that no list of offers on this automaton leads to gets 10 and 6 on their conditions, and else 7, or 0, releases some
- * prefix of its pending symbols and the new one, with some estimate size from 1 to 64, and stays within its limits.
+ * prefix of its pending symbols and the new one, with some estimate size from 1 to 64, and stays within its limits, with the further secrets that it
+ * had.
  */
 uint8_t opacity_offer(const uint64_t *table, size_t table_length,
                       const uint8_t *header, size_t header_length,

@@ -2,7 +2,8 @@
 
 Answers and slices follow include/opacity.h and 01's refusal table, and come from listed runs. What a saved state says of its trace is not read
 out of its bytes: the calls that led to it are remembered. So a state that did not grow from a fresh one has no trace here, and the calls on it
-whose answer 01 leaves open are written by `open`.
+whose answer 01 leaves open are written by `open`. Past the count of its further secrets a state may have any bytes: it grew as the one with 0 there,
+and a call hands them back.
 """
 
 import copy
@@ -10,11 +11,30 @@ import copy
 from logs import INCOMPATIBLE, INITIAL_LEAK, NOT_OBSERVABLE, Refused, decoded
 from runs import Listing
 from saved import (
-    HEADER_BYTES, SYMBOLS, WORDS, automaton_of, grown_enforcer, grown_estimator, header_of, judgement_bytes, observable_of, safe_of, symbol_at,
-    table_of,
+    ENFORCER_BYTES, ESTIMATOR_BYTES, FURTHER, FURTHER_BYTES, HEADER_BYTES, JUDGEMENT_BYTES, NOTION, PENDING, RELEASE_BYTES, SECRETS, SYMBOLS, WORDS,
+    automaton_of, cleared, given_of, grown_enforcer, grown_estimator, header_of, judgement_bytes, observable_of, safe_of, symbol_at, table_of,
+    with_past,
 )
 
 MALFORMED, OUTPUT_TOO_SMALL = 9, 10
+TOO_MANY_SECRETS, LOOK_BACK_TOO_LARGE = 13, 14
+# of the slices that have one size
+SIZES = {
+    "header": HEADER_BYTES, "further": FURTHER_BYTES, "estimator": ESTIMATOR_BYTES, "judgement": JUDGEMENT_BYTES, "enforcer": ENFORCER_BYTES,
+    "release": RELEASE_BYTES,
+}
+# what each function but decode is lent of them, beside the header
+LENT = {
+    "fresh": ("further", "estimator", "judgement"), "accept": ("estimator", "judgement"), "start": ("further", "enforcer"),
+    "offer": ("enforcer", "release"),
+}
+
+
+def secrets_fault(further):
+    """What is wrong with further secrets: more than three, or one that is given has a K above 15; or 0. A place past the count counts for nothing."""
+    if FURTHER < further[0]:
+        return TOO_MANY_SECRETS
+    return LOOK_BACK_TOO_LARGE if any(15 < secret.k for secret in given_of(further)) else 0
 
 
 def elements(data):
@@ -43,9 +63,9 @@ class Calls:
     def __init__(self):
         self.lines, self.printed = [], []
         self.table = ()
-        self.slices = {name: b"" for name in ("encoding", "header", "estimator", "judgement", "enforcer", "output", "release")}
-        self.grown = {}  # an automaton and the bytes of a state: the listing of its trace
-        self.openings = {}  # an automaton: the listing of the empty trace
+        self.slices = {name: b"" for name in ("encoding", "header", "further", "estimator", "judgement", "enforcer", "output", "release")}
+        self.grown = {}  # an automaton and the bytes of a state, its further secrets among them, 0 past their count: the listing of its trace
+        self.openings = {}  # an automaton and the further secrets that are given: the listing of the empty trace
 
     # lines that print nothing, or themselves
 
@@ -107,9 +127,9 @@ class Calls:
 
     def opening(self):
         """The answer of fresh."""
-        if not self.sound(estimator=144, judgement=3):
+        if not self.sound("fresh"):
             return MALFORMED
-        return self.told(self.opened())
+        return secrets_fault(self.slices["further"]) or self.told(self.opened(), bytes(ESTIMATOR_BYTES))
 
     def accept(self, byte):
         """Offers a symbol, or any other byte, to an estimator."""
@@ -117,16 +137,16 @@ class Calls:
 
     def accepting(self, byte):
         """The answer of accept."""
-        if not self.sound(estimator=144, judgement=3) or not self.estimator_sound(self.slices["estimator"]):
+        if not self.sound("accept") or not self.estimator_sound(self.slices["estimator"]):
             return MALFORMED
         if byte not in self.symbols():
             return NOT_OBSERVABLE
         longer = extended(self.listing("estimator"), byte)
-        return INCOMPATIBLE if longer is None else self.told(longer)
+        return INCOMPATIBLE if longer is None else self.told(longer, self.slices["estimator"])
 
-    def told(self, listing):
+    def told(self, listing, before):
         """Writes the estimator after a trace, and its verdicts and estimate size."""
-        self.keep("estimator", grown_estimator(listing), listing)
+        self.keep("estimator", grown_estimator(listing), listing, before)
         self.slices["judgement"] = judgement_bytes(listing)
         return 0
 
@@ -136,12 +156,15 @@ class Calls:
 
     def starting(self, notion):
         """The answer of start."""
-        if not self.sound(enforcer=178) or notion > 1:
+        if not self.sound("start") or notion > 1:
             return MALFORMED
+        fault = secrets_fault(self.slices["further"])
+        if fault:
+            return fault
         listing = self.opened()
-        if (listing.weak(), listing.strong())[notion] == 0:
+        if 0 in map((listing.weak, listing.strong)[notion], range(len(listing.secrets))):
             return INITIAL_LEAK
-        self.keep("enforcer", grown_enforcer(listing, notion), listing)
+        self.keep("enforcer", grown_enforcer(listing, notion), listing, bytes(ENFORCER_BYTES))
         return 0
 
     def offer(self, byte):
@@ -150,18 +173,18 @@ class Calls:
 
     def offering(self, byte):
         """The answer of offer."""
-        if not self.sound(enforcer=178, release=2) or not self.enforcer_sound(self.slices["enforcer"]):
+        if not self.sound("offer") or not self.enforcer_sound(self.slices["enforcer"]):
             return MALFORMED
         if len(self.slices["output"]) < 17:
             return OUTPUT_TOO_SMALL
         if byte not in self.symbols():
             return NOT_OBSERVABLE
-        before, notion = self.listing("enforcer"), self.slices["enforcer"][144]
+        before, notion = self.listing("enforcer"), self.slices["enforcer"][NOTION]
         longer = extended(before, byte)
         if longer is None:
             return INCOMPATIBLE
         released = longer.trace[before.longest(safe_of(before, notion)) : longer.longest(safe_of(longer, notion))]
-        self.keep("enforcer", grown_enforcer(longer, notion), longer)
+        self.keep("enforcer", grown_enforcer(longer, notion), longer, self.slices["enforcer"])
         self.slices["output"] = bytes(released) + self.slices["output"][len(released) :]
         # the size is that of all accepted symbols, pending ones among them
         self.slices["release"] = bytes([len(released), longer.size()])
@@ -170,28 +193,34 @@ class Calls:
     def open(self, function, symbol):
         """Offers a symbol to a state within its limits that did not grow from a fresh one: every slice stays as it is. (The program looks whether the
         answer is allowed; of the estimate size no more than that it is from 1 to 64.)"""
-        name = {"accept": "estimator", "offer": "enforcer"}[function]
-        assert self.sound(**({"estimator": 144, "judgement": 3} if function == "accept" else {"enforcer": 178, "release": 2}))
-        assert self.estimator_sound(self.slices[name]) if function == "accept" else self.enforcer_sound(self.slices[name])
+        state = self.slices["estimator" if function == "accept" else "enforcer"]
+        assert self.sound(function) and (self.automaton(), cleared(state)) not in self.grown
+        assert self.estimator_sound(state) if function == "accept" else self.enforcer_sound(state)
         assert symbol in self.symbols() and len(self.slices["output"]) >= 17
         return self.call(f"open {function} {symbol}", "open")
 
     # limits, and what is remembered
 
-    def sound(self, **sizes):
-        """Whether table, header and the other slices have the sizes and numbers of their layouts. Of the symbols those of observable events count."""
+    def sound(self, function):
+        """Whether table, header and the function's other slices have the sizes and numbers of their layouts. Of the symbols those of observable
+        events count."""
         header = self.slices["header"]
         fit = len(self.table) == WORDS and len(header) == HEADER_BYTES and header[0] <= 63 and header[1] <= 15
-        return fit and max(self.symbols(), default=0) <= 31 and all(len(self.slices[name]) == size for name, size in sizes.items())
+        return fit and max(self.symbols(), default=0) <= 31 and all(len(self.slices[name]) == SIZES[name] for name in LENT[function])
+
+    def look_back(self, data):
+        """The largest K: the automaton's own, and those of the further secrets that a saved state holds."""
+        return max([self.slices["header"][1]] + [secret.k for secret in given_of(data[SECRETS : SECRETS + FURTHER_BYTES])])
 
     def estimator_sound(self, data):
-        """At most K symbols, each at most 31."""
-        return data[0] <= self.slices["header"][1] and all(symbol <= 31 for symbol in data[1 : 1 + data[0]])
+        """Further secrets that may be given, and at most as many symbols as the largest K, each at most 31."""
+        fault = secrets_fault(data[SECRETS : SECRETS + FURTHER_BYTES])
+        return fault == 0 and data[0] <= self.look_back(data) and all(symbol <= 31 for symbol in data[1 : 1 + data[0]])
 
     def enforcer_sound(self, data):
-        """Its estimator's limits, a notion, and at most K + 1 pending symbols, each at most 31."""
-        few = data[145] <= self.slices["header"][1] + 1
-        return self.estimator_sound(data) and data[144] <= 1 and few and all(symbol <= 31 for symbol in data[146 : 146 + data[145]])
+        """Its estimator's limits, a notion, and at most one pending symbol more than the largest K, each at most 31."""
+        few = self.estimator_sound(data) and data[PENDING] <= self.look_back(data) + 1
+        return few and data[NOTION] <= 1 and all(symbol <= 31 for symbol in data[PENDING + 1 : PENDING + 1 + data[PENDING]])
 
     def symbols(self):
         """The symbols of the observable events."""
@@ -205,17 +234,17 @@ class Calls:
         return self.table, header[:SYMBOLS] + bytes(symbol_at(header, event) if event in observable else 0 for event in range(32))
 
     def opened(self):
-        """The listing of the empty trace."""
-        automaton = self.automaton()
-        if automaton not in self.openings:
-            self.openings[automaton] = Listing(automaton_of(*automaton))
-        return self.openings[automaton]
+        """The listing of the empty trace, with the further secrets that are given."""
+        automaton, given = self.automaton(), tuple(given_of(self.slices["further"]))
+        if (automaton, given) not in self.openings:
+            self.openings[automaton, given] = Listing(automaton_of(*automaton), given)
+        return self.openings[automaton, given]
 
-    def keep(self, name, data, listing):
-        """Writes a state, and remembers by which trace it grew."""
-        self.slices[name] = data
+    def keep(self, name, data, listing, before):
+        """Writes a state, with what stood before past the count of its further secrets, and remembers by which trace it grew."""
+        self.slices[name] = with_past(data, before)
         self.grown[self.automaton(), data] = listing
 
     def listing(self, name):
         """The trace by which a state grew."""
-        return self.grown[self.automaton(), self.slices[name]]
+        return self.grown[self.automaton(), cleared(self.slices[name])]

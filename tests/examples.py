@@ -1,7 +1,8 @@
 """The automata P, Q, T and U of 01, with the answers that it gives, and automata with symbols (S-2), with answers worked out by hand. In each line of
-an accepted event or of the opening the fifth field is the estimate size (S-5): for P's trace 2, 2, 2, 1 as S-5 has it, elsewhere counted by hand."""
+an accepted event or of the opening the fifth field is the estimate size (S-5): for P's trace 2, 2, 2, 1 as S-5 has it, elsewhere counted by hand.
+And further secrets (S-6), with verdicts and releases worked out by hand."""
 
-from runs import Automaton
+from runs import Automaton, Secret
 
 P = Automaton(3, 2, 2, 0, {1}, {1, 2}, [(0, 0, 2), (0, 1, 1), (1, 2, 0), (2, 1, 3), (3, 1, 3)])
 P1 = Automaton(3, 2, 1, 0, {1}, {1, 2}, P.transitions)
@@ -91,4 +92,27 @@ ESTIMATES = (
     (NONE_SECRET, (31, 0), ({63}, set(range(64)), set(range(64)))),
     (CLOSING, (1,) * 63, tuple(set(range(n, 64)) for n in range(64))),
     (WIDENING, (1,) * 64, tuple(set(range(n)) for n in range(1, 65)) + (set(range(64)),)),
+)
+
+
+def secret(k, *states):
+    """A secret with its own K."""
+    return Secret(frozenset(states), k)
+
+
+# further secrets for P, whose own has K 2
+P_SECRETS = (secret(0, 3), secret(15, 1), secret(0, 1))
+
+# an automaton, further secrets, a trace; the verdicts before its first symbol and after each: for each secret the weak one and the strong one; and how
+# many symbols a weak and a strong enforcer have released after each, None where it does not start. P's runs are, by their states, those at which a
+# symbol was shown behind a comma: 0 and 02; 0,1 and 02,3; 0,1,0 and 0,1,02; 0,1,0,1 and 0,1,02,3; 0,1,02,3,3.
+SEVERAL = (
+    (P, (), (1, 2, 1, 1), ("--", "--", "11", "22", "--"), ((1, 1), (1, 1), (1, 1), (4, 4))),
+    (P, P_SECRETS, (1, 2, 1, 1), ("-- -- -- --", "-- -- -- --", "11 -- 11 --", "22 -- 22 --", "-- 00 33 --"), ((1, 1),) * 4),
+    (P, (secret(1, 0),), (1, 2, 1, 1), ("-- -0", "-- -1", "11 -0", "22 -1", "-- --"), ((1, None), (1, None), (1, None), (4, None))),
+    (P, (secret(2, 0, 2),), (1, 2), ("-- 00", "-- 11", "11 00"), ((None, None),) * 2),
+    (P0, (secret(2, 1),), (1, 2, 1, 1), ("-- --", "-- --", "-- 11", "-- 22", "-- --"), ((1, 1), (1, 1), (1, 1), (4, 4))),
+    (P, (secret(0, 1), secret(1, 1, 3)), (1, 2, 1, 1), ("-- -- --", "-- -- 00", "11 -- 11", "22 -- 00", "-- -- 00"), ((0, 0), (0, 0), (1, 1), (2, 2))),
+    (U, (secret(2, 1), secret(15)), (1, 1, 1, 1), ("-- -- --", "00 00 --", "-- 11 --", "00 00 --", "-- 11 --"), ((0, 0), (0, 0), (0, 0), (2, 2))),
+    (T, (secret(0, 1), secret(3, 0, 1)), (), ("-0 -- 00",), ()),
 )

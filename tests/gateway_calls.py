@@ -8,31 +8,35 @@ import pathlib
 import random
 import sys
 
-from calls import Calls
+from calls import SIZES, Calls
 from examples import (
-    ALL_SECRET, CLOSING, CORNERS, LATER, NONE_SECRET, ONE, ONE_SYMBOL, OWN_NUMBERS, P, P0, P1, P_ENCODING, P_SYMBOLS, Q, Q_ENCODING, STRONG_ONLY, T, U,
-    WIDENING,
+    ALL_SECRET, CLOSING, CORNERS, LATER, NONE_SECRET, ONE, ONE_SYMBOL, OWN_NUMBERS, P, P0, P1, P_ENCODING, P_SECRETS, P_SYMBOLS, Q, Q_ENCODING,
+    STRONG_ONLY, T, U, WIDENING, secret,
 )
 from generate import (
-    any_bytes, cut_symbols, flipped_bits, further_bytes, many_transitions, out_of_range, padding_bits, random_automaton, random_offers, repeated,
-    repeated_and_damaged, short_encoding, symbol_bit, with_repeat, with_symbols, with_transitions, wrong_count,
+    any_bytes, cut_symbols, flipped_bits, further_bytes, many_transitions, out_of_range, padding_bits, random_automaton, random_offers, random_secrets,
+    repeated, repeated_and_damaged, short_encoding, symbol_bit, with_repeat, with_symbols, with_transitions, wrong_count,
 )
 from logs import encoded
-from runs import Automaton, Listing, TooManyRuns
-from saved import HEADER_BYTES, SYMBOLS, WORDS, bits, estimator_bytes, header_of, table_of
+from runs import Automaton, Listing, Secret, TooManyRuns
+from saved import (
+    ENFORCER_BYTES, ESTIMATOR_BYTES, FURTHER_BYTES, HEADER_BYTES, JUDGEMENT_BYTES, NOTION, PENDING, RELEASE_BYTES, SECRETS, SYMBOLS, WORDS, bits,
+    estimator_bytes, header_of, secrets_bytes, table_of,
+)
 from stored import store
 
-RANDOM, DAMAGED, OPEN = 150, 80, 40
+RANDOM, SEVERAL, DAMAGED, OPEN = 150, 48, 80, 40
 SEED = 5
 FOLDER = pathlib.Path(__file__).resolve().parent.parent / "crates" / "gateway_calls"
 
 # what is lent to be written over: bytes that no function writes, and for an output a different one in each place
-HEADER, ESTIMATOR, JUDGEMENT, ENFORCER, RELEASE = b"\xee" * HEADER_BYTES, b"\xee" * 144, b"\xee" * 3, b"\xee" * 178, b"\xee" * 2
+HEADER, ESTIMATOR, JUDGEMENT, ENFORCER, RELEASE = (
+    b"\xee" * size for size in (HEADER_BYTES, ESTIMATOR_BYTES, JUDGEMENT_BYTES, ENFORCER_BYTES, RELEASE_BYTES)
+)
 OUTPUT = bytes(range(0xA0, 0xB1))
 # the longest encoding there is: symbols, and 1,023 different transitions, the last with every bit 1
 MANY = many_transitions(random.Random("longest"), 1022) + [(63, 31, 63)]
 LONGEST = Automaton(63, 31, 15, 63, set(range(64)), set(range(32)), MANY, range(31, -1, -1))
-SIZES = {"header": HEADER_BYTES, "estimator": 144, "judgement": 3, "enforcer": 178, "release": 2}
 
 
 def changed(data, at, byte):
@@ -45,8 +49,16 @@ def resized(data, size):
     return data[:size] + b"\xdd" * (size - len(data))
 
 
+def give(calls, secrets):
+    """Lends these further secrets from now on."""
+    data = secrets_bytes(secrets)
+    if calls.slices["further"] != data:
+        calls.put(further=data)
+
+
 def lend_all(calls):
-    """Slices of the right sizes."""
+    """Slices of the right sizes, and no further secret."""
+    give(calls, ())
     calls.put(estimator=ESTIMATOR, judgement=JUDGEMENT, enforcer=ENFORCER, output=OUTPUT, release=RELEASE)
 
 
@@ -163,16 +175,18 @@ def decode(calls, automaton):
     calls.decode()
 
 
-def observe(calls, offered):
-    """A fresh estimator, and each byte in turn."""
+def observe(calls, offered, secrets=()):
+    """A fresh estimator with these further secrets, and each byte in turn."""
+    give(calls, secrets)
     calls.put(estimator=ESTIMATOR, judgement=JUDGEMENT)
     calls.fresh()
     for byte in offered:
         calls.accept(byte)
 
 
-def enforce(calls, notion, offered, output=OUTPUT):
-    """A started enforcer, and each byte in turn, with an output that is lent anew or stays as the last offer left it."""
+def enforce(calls, notion, offered, output=OUTPUT, secrets=()):
+    """A started enforcer with these further secrets, and each byte in turn, with an output that is lent anew or stays as the last offer left it."""
+    give(calls, secrets)
     calls.put(enforcer=ENFORCER, release=RELEASE, output=output)
     calls.start(notion)
     for byte in offered:
@@ -362,9 +376,9 @@ def refused_everywhere(calls):
 
 FUNCTIONS = (
     ("decode", (), ("header",)),
-    ("fresh", (), ("header", "estimator", "judgement")),
+    ("fresh", (), ("header", "further", "estimator", "judgement")),
     ("accept", (1,), ("header", "estimator", "judgement")),
-    ("start", (0,), ("header", "enforcer")),
+    ("start", (0,), ("header", "further", "enforcer")),
     ("offer", (1,), ("header", "enforcer", "release")),
 )
 
@@ -382,6 +396,14 @@ def wrong_sizes(calls):
                 else:
                     calls.put(**{name: resized(calls.slices[name], 0 if off is None else SIZES[name] + off)})
                 assert getattr(calls, function)(*arguments) == 9
+    calls.say("states as an earlier version saved them, without further secrets")
+    for function, name, size in (("accept", "estimator", 144), ("offer", "enforcer", 178)):
+        ready(calls, function)
+        state = calls.slices[name]
+        calls.put(**{name: state[:SECRETS] + state[SECRETS + FURTHER_BYTES :]})
+        assert len(calls.slices[name]) == size
+        for byte in (1, 2, 200):
+            assert getattr(calls, function)(byte) == 9
     calls.say("9 before 10 and 6")
     ready(calls, "offer")
     for size in (0, 1, 3, 2):
@@ -389,7 +411,7 @@ def wrong_sizes(calls):
         calls.offer(200)
     calls.say("9 before 6 and 7")
     ready(calls, "accept")
-    for size in (0, 2, 4, 3):
+    for size in (0, 3, 8, 10, 9):
         calls.put(judgement=resized(JUDGEMENT, size))
         for byte in (200, 2):
             calls.accept(byte)
@@ -493,7 +515,7 @@ def damaged_states(calls):
     calls.put(estimator=ESTIMATOR, judgement=JUDGEMENT)
     calls.accept(200)
     for count, symbol, entry in ((3, 1, 1), (255, 1, 1), (1, 32, 1), (2, 255, 1), (2, 31, 1), (0, 32, 1)):
-        calls.put(estimator=bytes([count] + [symbol] * 15) + bytes((entry, 0, 0, 0, 0, 0, 0, 0)) * 16)
+        calls.put(estimator=bytes([count] + [symbol] * 15) + bytes((entry, 0, 0, 0, 0, 0, 0, 0)) * 16 + bytes(FURTHER_BYTES))
         calls.accept(200)
         if not calls.estimator_sound(calls.slices["estimator"]):
             calls.accept(1)
@@ -511,15 +533,229 @@ def damaged_states(calls):
             calls.offer(byte)
         good = calls.slices["enforcer"]
         for at, byte in (
-            [(0, 3), (1, 32), (2, 32), (3, 32), (144, 2), (144, 255), (145, 4), (145, 16), (145, 255)]
-            + [(146 + i, 32) for i in (0, 1, 2, 15)]
-            + [(162, 200), (177, 255)]
+            [(0, 3), (1, 32), (2, 32), (3, 32), (NOTION, 2), (NOTION, 255), (PENDING, 4), (PENDING, 16), (PENDING, 255)]
+            + [(PENDING + 1 + i, 32) for i in (0, 1, 2, 15)]
+            + [(PENDING + 17, 200), (PENDING + 32, 255)]
         ):
             calls.put(enforcer=changed(good, at, byte), output=OUTPUT, release=RELEASE)
             calls.offer(200)
             if not calls.enforcer_sound(calls.slices["enforcer"]):
                 calls.offer(1)
         calls.put(enforcer=good)
+
+
+# several secrets
+
+
+# nothing is secret but by further secrets: an event to a state, and on to one that is left no more
+PASSING = Automaton(2, 0, 0, 0, (), {0}, [(0, 0, 1), (1, 0, 2), (2, 0, 2)])
+
+
+def judge_all(calls, automaton, secrets, offered):
+    """The verifier, and the enforcer under either notion, with these further secrets."""
+    calls.lend(automaton)
+    observe(calls, offered, secrets)
+    for notion in (0, 1):
+        enforce(calls, notion, offered, b"\xee" * 17, secrets)
+
+
+def several(calls):
+    """Further secrets by hand."""
+    calls.say("several secrets: P with none further; then with one without states, which is not the same")
+    for secrets in ((), (secret(0),), (secret(2),), (secret(4),)):
+        judge_all(calls, P, secrets, (1, 2, 1, 1))
+    calls.say("several secrets: P with three further ones, with K 0, 15 and 0; then in other orders, and some of them")
+    judge_all(calls, P, P_SECRETS, (1, 2, 0, 1) + (1,) * 15)
+    first, second, third = P_SECRETS
+    for secrets in ((third, second, first), (second, first), (first,), (second,)):
+        judge_all(calls, P, secrets, (1, 2, 2, 1, 200, 1))
+    for name, automaton, secrets, offered in (
+        ("P with K 0, and its secret once more with K 2 and 1", P0, (secret(2, 1), secret(1, 1)), (1, 2, 1, 1, 1)),
+        ("P, and its secret once more with K 0", P, (secret(0, 1),), (1, 2, 1, 1)),
+        ("P, and its secret three times more", P, (secret(2, 1),) * 3, (1, 2, 1, 1)),
+        ("P, and sets that overlap", P, (secret(1, 1, 3), secret(3, 1, 2), secret(2, 2, 3)), (1, 2, 1, 1, 1, 1)),
+        ("P, opening as a leak by a further secret, under strong alone", P, (secret(3), secret(1, 0), secret(0, 3)), (1, 2, 1, 1)),
+        ("P, opening as a leak by the last further secret", P, (secret(3), secret(1, 3), secret(0, 0, 2)), (1, 2, 1)),
+        ("the one state 0, secret, and it once more", ONE, (secret(1, 0),), ()),
+        ("U with K 0, a state that no run reaches, and its own secret with K 3", U, (secret(0, 2), secret(3, 1)), (1, 1, 1, 1, 1)),
+        ("weak and strong differ for each", STRONG_ONLY, (secret(1, 2), secret(4, 1, 2), secret(0, 1)), (1, 1, 1, 2, 1, 1, 2, 2, 2, 1)),
+        ("two events with one symbol", LATER, (secret(1, 2), secret(3, 3), secret(0, 0, 3)), (7, 3, 7, 7, 3, 7)),
+        ("states 60 to 63, K 15, further ones with K 0 and 3", CORNERS, (secret(3, 60, 61), secret(0, 61)), (31,) * 5),
+        ("every transition, and every state in the second", NONE_SECRET, (secret(3, *range(63)), secret(15, *range(64))), (31, 0)),
+        ("every transition, and all states but one in each", NONE_SECRET, (secret(3, *range(63)), secret(15, *range(1, 64))), (31, 0)),
+    ):
+        calls.say(f"several secrets: {name}")
+        judge_all(calls, automaton, secrets, offered)
+    calls.say("several secrets: K 0, and K 15 of the first, the second or the third further one: 17 symbols go at once")
+    for place in range(3):
+        secrets = (secret(0),) * place + (secret(15, 1),)
+        calls.lend(PASSING)
+        observe(calls, (0,) * (3 + 15 * (place == 2)), secrets)
+        enforce(calls, place % 2, (0,) * 17, b"\xee" * 17, secrets)
+        assert calls.slices["release"] == bytes((17, 1))
+        calls.offer(0)
+    calls.say("several secrets: an event and an offer are passed none, whatever is lent to the next start")
+    calls.lend(P)
+    observe(calls, (1,), P_SECRETS)
+    enforce(calls, 0, (1,), secrets=P_SECRETS)
+    for byte, data in zip((2, 1, 1, 1), (b"", secrets_bytes(P_SECRETS, 4), secrets_bytes((secret(16, 0),) * 3), secrets_bytes(()))):
+        calls.put(further=data)
+        calls.accept(byte)
+        calls.offer(byte)
+
+
+def opened_by(calls):
+    """A fresh estimator, and a start under either notion, over what no function writes."""
+    calls.put(estimator=ESTIMATOR, judgement=JUDGEMENT, enforcer=ENFORCER)
+    calls.fresh()
+    for notion in (0, 1):
+        calls.start(notion)
+
+
+def with_backs(count, *backs):
+    """The bytes of further secrets of which so many are given, with these K in the first places."""
+    return secrets_bytes([secret(k, 3) for k in backs], count)
+
+
+def secret_refusals(calls):
+    """13 and 14, what comes before them and behind, and what is left past the count."""
+    calls.say("further secrets: more than three; a K above 15, in a place that is given; both")
+    calls.lend(P)
+    lend_all(calls)
+    faults = [with_backs(count, 0, 15, 0) for count in (4, 255)]
+    faults += [with_backs(3, *(k if at == place else 15 for at in range(3))) for place in range(3) for k in (16, 255)]
+    faults += [with_backs(1, 16), with_backs(2, 1, 16), with_backs(4, 16, 16, 16), b"\xff" * FURTHER_BYTES]
+    for data in faults:
+        calls.put(further=data)
+        calls.fresh()
+        for notion in (0, 1):
+            calls.start(notion)
+    calls.say("further secrets: a K above 15, and any set, past the count: they count for nothing, and a state has 0 there")
+    for data in (with_backs(3, 15, 0, 15), with_backs(2, 1, 2, 16), with_backs(1, 0, 16, 255), with_backs(0, 16, 255, 16)):
+        calls.put(further=data)
+        opened_by(calls)
+    for count in (0, 1, 2):
+        calls.put(further=bytes([count]) + secrets_bytes(P_SECRETS)[1 : 1 + 9 * count] + b"\xff" * (9 * (3 - count)))
+        opened_by(calls)
+    calls.accept(1)
+    calls.offer(1)
+    calls.say("further secrets: 13 and 14 before 8")
+    for automaton in (ONE, T):
+        calls.lend(automaton)
+        for data in (with_backs(4), with_backs(1, 16), with_backs(0, 16)):
+            calls.put(further=data)
+            opened_by(calls)
+    calls.say("further secrets: 8 by one that is given, at each place, under strong, and under both; not by a place past the count")
+    calls.lend(Automaton(1, 0, 0, 0, (), (), T.transitions))
+    for states in ((0,), (0, 1)):
+        for place in range(3):
+            for count in (place, place + 1):
+                calls.put(further=secrets_bytes([secret(1, 1)] * place + [secret(0, *states)], count))
+                for notion in (0, 1):
+                    calls.start(notion)
+    calls.say("further secrets: 9 before 13 and 14")
+    for data in (with_backs(4, 16), with_backs(2, 0, 16)):
+        ready(calls, "fresh")
+        for size in (0, 1, 10, 27, 29):
+            calls.put(further=resized(data, size))
+            calls.fresh()
+            calls.start(0)
+        calls.put(further=data)
+        calls.start(2)
+        calls.put(estimator=ESTIMATOR[:144], enforcer=ENFORCER[:178])
+        calls.fresh()
+        calls.start(1)
+        calls.put(estimator=ESTIMATOR, enforcer=ENFORCER, judgement=JUDGEMENT[:3])
+        calls.fresh()
+        calls.put(judgement=JUDGEMENT)
+        for at, byte in ((0, 64), (1, 16), (SYMBOLS + 1, 32)):
+            calls.put(header=changed(header_of(P), at, byte))
+            calls.fresh()
+            calls.start(0)
+        calls.lend(P)
+        calls.put_table(calls.table[:2047])
+        calls.fresh()
+        calls.start(1)
+
+
+def past_count(calls, function, name, good, past):
+    """A state with other bytes past the count of its further secrets: it grew as without them, and hands them back."""
+    for at, data in past:
+        calls.put(**{name: good[:at] + data + good[at + len(data) :]})
+        for byte, number in ((200, 6), (1, 0), (1, 0)):
+            assert getattr(calls, function)(byte) == number
+            assert calls.slices[name][at : at + len(data)] == data
+
+
+def secret_limits(calls):
+    """Saved states with further secrets: their limits go by the largest K of those that are given, and outside them they get 9, never 13 or 14. P has
+    K 2, and 3 symbols are remembered."""
+    given = (secret(0, 3), secret(3, 1))
+    k1, k2, k3 = (SECRETS + 9 * place for place in (1, 2, 3))  # where a state has each K
+    outside = [(SECRETS, count) for count in (0, 1, 4, 255)] + [(k1, 16), (k1, 255), (k2, 16), (k2, 2), (k2, 255), (0, 4), (3, 32)]
+    past = [(k3, b"\x10"), (k3 - 1, b"\xff"), (k2 + 1, b"\x01"), (k2 + 1, b"\xff" * 9)]  # in the third place, where two are given
+    calls.say("estimators with further secrets: outside their limits")
+    calls.lend(P)
+    observe(calls, (1, 2, 1), given)
+    good = calls.slices["estimator"]
+    for at, byte in outside:
+        calls.put(estimator=changed(good, at, byte))
+        for symbol in (200, 1):
+            assert calls.accept(symbol) == 9
+    calls.say("estimators within their limits that did not grow: a symbol past their number")
+    calls.put(estimator=changed(good, 4, 32))
+    assert calls.accept(200) == 6
+    calls.open("accept", 1)
+    calls.say("estimators with other bytes past the count of further secrets: they grew as without them, and keep them")
+    past_count(calls, "accept", "estimator", good, past)
+    calls.put(estimator=good)
+    calls.accept(1)
+    for few in ((), given[:1]):
+        observe(calls, (1, 2), few)
+        at = SECRETS + 1 + 9 * len(few)
+        past_count(calls, "accept", "estimator", calls.slices["estimator"], [(at, b"\xff" * (k3 + 1 - at))])
+    calls.say("a state with another K of a further secret: as it grew with that one")
+    observe(calls, (1, 2, 1), (secret(0, 3), secret(15, 1)))
+    assert calls.slices["estimator"] == changed(good, k2, 15)
+    calls.accept(1)
+    calls.say("enforcers with further secrets: the same limits, and more pending than the largest K and one")
+    enforce(calls, 0, (1, 2, 1), secrets=given)
+    good = calls.slices["enforcer"]
+    for at, byte in outside + [(PENDING, 5), (PENDING, 17), (NOTION, 2)]:
+        calls.put(enforcer=changed(good, at, byte))
+        for symbol in (200, 1):
+            assert calls.offer(symbol) == 9
+    calls.say("enforcers within their limits that did not grow: a symbol past their number, another K, more pending and fewer")
+    for at, byte in ((4, 32), (k2, 15), (PENDING, 4), (PENDING, 0)):
+        calls.put(enforcer=changed(good, at, byte))
+        assert calls.offer(200) == 6
+        calls.open("offer", 1)
+    calls.say("enforcers with other bytes past the count of further secrets: they grew as without them, and keep them")
+    past_count(calls, "offer", "enforcer", good, past)
+    for few in ((), given[:1]):
+        for notion in (0, 1):
+            enforce(calls, notion, (1, 2), b"\xee" * 17, few)
+            at = SECRETS + 1 + 9 * len(few)
+            past_count(calls, "offer", "enforcer", calls.slices["enforcer"], [(at, b"\xff" * (k3 + 1 - at))])
+    calls.put(output=OUTPUT)
+    calls.say("9 by further secrets before 10, 6 and 7")
+    calls.put(enforcer=changed(good, SECRETS, 4), output=OUTPUT[:16])
+    for byte in (1, 2, 200):
+        calls.offer(byte)
+    calls.put(enforcer=good)
+    calls.offer(200)
+    calls.put(output=OUTPUT)
+    calls.offer(1)
+    calls.say("as many symbols as the largest K: of a further secret, or of the automaton; and one more")
+    for automaton, backs, most in ((P0, (3, 1, 2), 3), (P0, (1, 3, 2), 3), (P0, (1, 2, 3), 3), (P, (1, 0), 2), (P0, (), 0), (P, (15,), 15)):
+        calls.lend(automaton)
+        for count in (most, most + 1):
+            state = changed(estimator_bytes([1] * 15, [{3}] * 16, [secret(k, 1) for k in backs]), 0, count)
+            calls.put(estimator=state, enforcer=state + bytes([0, count] + [1] * 16 + [9] * 16))
+            assert calls.accept(200) == (6 if count == most else 9)
+            assert calls.offer(200) == (6 if count == most else 9)
+        calls.put(enforcer=changed(state, 0, most) + bytes([1, most + 2] + [1] * 16 + [9] * 16))
+        assert calls.offer(200) == 9
 
 
 # answers that are left open
@@ -531,13 +767,13 @@ def open_states(calls):
     calls.lend(P)
     lend_all(calls)
     for count, symbol, entry in ((2, 31, 0), (0, 255, 255), (2, 0, 255), (1, 1, 255)):
-        calls.put(estimator=bytes([count] + [symbol] * 15) + bytes([entry]) * 128)
+        calls.put(estimator=bytes([count] + [symbol] * 15) + bytes([entry]) * 128 + bytes(FURTHER_BYTES))
         for byte in (1, 2):
             calls.open("accept", byte)
     calls.put_table([0] * 64 + [1] + [0] * 1983)  # one state that takes event 1
     calls.put(header=header_of(Automaton(63, 31, 1, 0, (), {1}, ())), output=OUTPUT, release=RELEASE)
     calls.start(0)
-    begun = calls.slices["enforcer"][:144]
+    begun = calls.slices["enforcer"][:ESTIMATOR_BYTES]
     for notion in (0, 1):
         for count, symbol in ((3, 31), (2, 32)):
             calls.put(enforcer=begun + bytes([notion, count] + [symbol] * 16 + [200] * 16))
@@ -563,10 +799,14 @@ def open_states(calls):
 
 
 def random_state(rng, k):
-    """An estimator within its limits that says anything."""
+    """An estimator within its limits that says anything, and the largest K. Past the count of its further secrets stands anything."""
     few = [set(rng.sample(range(64), rng.choice((0, 1, 2, 30, 64)))) for _ in range(16)]
-    count, some = rng.randrange(k + 1), rng.choice((4, 32))
-    return changed(estimator_bytes([rng.randrange(some) for _ in range(15)], few), 0, count)
+    given = rng.choice((0, rng.randrange(4)))
+    backs = [rng.randrange(16) if place < given else rng.randrange(256) for place in range(3)]
+    places = [Secret(set(rng.sample(range(64), rng.choice((0, 1, 2, 30, 64)))), back) for back in backs]
+    largest, some = max([k] + backs[:given]), rng.choice((4, 32))
+    state = changed(estimator_bytes([rng.randrange(some) for _ in range(15)], few, places), SECRETS, given)
+    return changed(state, 0, rng.randrange(largest + 1)), largest
 
 
 def random_open(calls):
@@ -579,11 +819,12 @@ def random_open(calls):
         calls.lend(automaton)
         lend_all(calls)
         for _ in range(2):
-            calls.put(estimator=random_state(rng, automaton.k))
+            calls.put(estimator=random_state(rng, automaton.k)[0])
             calls.open("accept", rng.choice(sorted(automaton.symbol_of.values())))
-            rest = [rng.randrange(2), rng.randrange(automaton.k + 2)] + [rng.randrange(32) for _ in range(16)]
+            state, largest = random_state(rng, automaton.k)
+            rest = [rng.randrange(2), rng.randrange(largest + 2)] + [rng.randrange(32) for _ in range(16)]
             waits = [rng.choice((0, 1, 2, 17, rng.randrange(256))) for _ in range(16)]
-            calls.put(enforcer=random_state(rng, automaton.k) + bytes(rest + waits), output=resized(OUTPUT, rng.randrange(17, 20)))
+            calls.put(enforcer=state + bytes(rest + waits), output=resized(OUTPUT, rng.randrange(17, 20)))
             calls.open("offer", rng.choice(sorted(automaton.symbol_of.values())))
 
 
@@ -616,6 +857,45 @@ def random_chains(calls):
         observe(calls, offered)
         for notion in (0, 1):
             enforce(calls, notion, offered, b"\xee" * 17)
+
+
+def releases(automaton, secrets, offered):
+    """For each notion, how many symbols are released after each accepted byte; None where an enforcer does not start."""
+    listing = Listing(automaton, secrets)
+    rules = [rule if rule(0) else None for rule in (listing.weak_safe, listing.strong_safe)]
+    accepted = (byte for byte in offered if byte in automaton.symbol_of.values() and listing.accept(byte))
+    return [[rule and listing.longest(rule) for rule in rules] for _ in accepted]
+
+
+def mistaken(automaton, secrets):
+    """Other secrets that a mistaken program would judge by: with the largest K for each, with the automaton's own for each, without the last one."""
+    largest = max([automaton.k] + [given.k for given in secrets])
+    with_largest = with_symbols(automaton, automaton.symbols, largest), tuple(given._replace(k=largest) for given in secrets)
+    with_own = automaton, tuple(given._replace(k=automaton.k) for given in secrets)
+    return with_largest, with_own, (automaton, secrets[:-1])
+
+
+def several_case(i):
+    """An automaton, further secrets, and bytes to offer. Three of four tell a mistaken program by what is released."""
+    rng = random.Random(f"several {SEED} {i}")
+    while True:
+        automaton = random_automaton(rng)
+        secrets = random_secrets(rng, automaton)
+        offered = random_offers(rng, automaton, rng.choice((4, 6, 8)))[:8]
+        try:
+            told = releases(automaton, secrets, offered)
+            if i % 4 == 3 or told != releases(*mistaken(automaton, secrets)[i % 4], offered):
+                return automaton, secrets, offered
+        except TooManyRuns:
+            continue
+
+
+def random_several(calls):
+    """Random automata with further secrets, each with an estimator and an enforcer under either notion."""
+    for i in range(SEVERAL):
+        automaton, secrets, offered = several_case(i)
+        calls.say(f"random automaton {i} with further secrets")
+        judge_all(calls, automaton, secrets, offered)
 
 
 def misread(calls):
@@ -653,6 +933,8 @@ def misread(calls):
         "header 46 0:1 ",
         "header 46  0:1",
         "header 46 0:100 0:1",
+        "further",
+        "further 28 0:100",
         "table 2048 0:11111111111111111",
         "verdicts 3",
         "released 2",
@@ -679,11 +961,15 @@ def stored():
         outside_limits,
         header_symbols,
         damaged_states,
+        several,
+        secret_refusals,
+        secret_limits,
         open_states,
         misread,
         random_decodings,
         random_open,
         random_chains,
+        random_several,
     ):
         part(calls)
     return {"stdin": "".join(line + "\n" for line in calls.lines).encode(), "stdout": "".join(line + "\n" for line in calls.printed).encode()}

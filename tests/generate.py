@@ -3,7 +3,7 @@
 import copy
 
 from logs import encoded, output
-from runs import Automaton, TooManyRuns
+from runs import Automaton, Secret, TooManyRuns
 
 
 def random_symbols(rng, top_event, observable):
@@ -68,6 +68,21 @@ def random_automaton(rng):
     k = rng.choice((0, 0, 1, 1, 2, 2, 3, 4, 5, rng.randrange(16), 15))
     automaton = Automaton(states - 1, events - 1, k, initial, secret, observable, transitions, symbols)
     return relabelled(rng, automaton) if rng.random() < 0.25 else automaton
+
+
+def random_secrets(rng, automaton):
+    """One to three further secrets: any states, the automaton's own, those of another one with some more or fewer, or none; each with a K that is
+    smaller, larger or the same."""
+    numbers, secrets = range(automaton.top_state + 1), []
+    for _ in range(rng.choice((1, 2, 2, 3, 3, 3))):
+        other = rng.choice([automaton.secret] + [given.states for given in secrets])
+        any_states = {q for q in numbers if rng.random() < rng.choice((0.3, 0.6))}
+        states = rng.choice((any_states, any_states, automaton.secret, other, set(other) ^ {rng.choice(numbers)}, set(other) | any_states, ()))
+        if rng.random() < 0.8:
+            states = set(states) - {automaton.initial}
+        near = min(15, automaton.k + 1)
+        secrets.append(Secret(frozenset(states), rng.choice((0, 1, 2, 3, max(0, automaton.k - 1), automaton.k, near, rng.randrange(16)))))
+    return tuple(secrets)
 
 
 def wide_automaton(rng):

@@ -1,10 +1,13 @@
 """The bytes of tables, headers and saved states (include/opacity.h), of automata and of traces whose runs are listed."""
 
-from runs import Automaton
+from runs import Automaton, Secret
 
 WORDS = 2048
-HEADER_BYTES = 46
+HEADER_BYTES, FURTHER_BYTES, ESTIMATOR_BYTES, JUDGEMENT_BYTES, ENFORCER_BYTES, RELEASE_BYTES = 46, 28, 172, 9, 206, 2
 SYMBOLS = 14  # where a header has the symbols
+SECRETS = 144  # where an estimator has its further secrets
+NOTION, PENDING = 172, 173  # where an enforcer has its notion, and the number of its pending symbols, which follow it
+FURTHER = 3  # the most further secrets
 NONE = 255
 
 
@@ -55,21 +58,56 @@ def padded(numbers, size):
     return bytes(numbers) + bytes(size - len(numbers))
 
 
-def estimator_bytes(symbols, entries):
-    """The bytes of an estimator with these symbols, the newest first, and these sets of states."""
-    return bytes([len(symbols)]) + padded(symbols, 15) + padded(b"".join(bits(states).to_bytes(8, "little") for states in entries), 128)
+def words_bytes(sets):
+    """Sets of states, 8 bytes each."""
+    return b"".join(bits(states).to_bytes(8, "little") for states in sets)
+
+
+def secrets_bytes(secrets, count=None):
+    """The bytes of further secrets, with 0 in the places behind them. Their number may be said to be another one."""
+    places = b"".join(words_bytes([secret.states]) + bytes([secret.k]) for secret in secrets)
+    return bytes([len(secrets) if count is None else count]) + padded(places, FURTHER_BYTES - 1)
+
+
+def places_of(further):
+    """The secrets in the three places, given or not."""
+    return [Secret(frozenset(members(int.from_bytes(further[at : at + 8], "little"))), further[at + 8]) for at in (1, 10, 19)]
+
+
+def given_of(further):
+    """The secrets that are given, at most three: those before the count."""
+    return places_of(further)[: further[0]]
+
+
+def estimator_bytes(symbols, entries, secrets=()):
+    """The bytes of an estimator with these symbols, the newest first, these sets of states, and these further secrets."""
+    return bytes([len(symbols)]) + padded(symbols, 15) + padded(words_bytes(entries), 128) + secrets_bytes(secrets)
+
+
+def with_past(state, other):
+    """The bytes of a state, with those of another one in the places past the count of its further secrets."""
+    past, end = SECRETS + 1 + 9 * state[SECRETS], SECRETS + FURTHER_BYTES
+    return state[:past] + other[past:end] + state[end:]
+
+
+def cleared(state):
+    """The bytes of a state, with 0 past the count of its further secrets, where what stands counts for nothing."""
+    return with_past(state, bytes(len(state)))
 
 
 def grown_estimator(listing):
-    """The estimator after the trace of a listing: its last symbols, and where runs are right after the last symbol of each shorter trace."""
+    """The estimator after the trace of a listing: its last symbols, as many as the largest K, where runs are right after the last symbol of each
+    shorter trace, and the further secrets."""
     n = len(listing.trace)
-    count = min(listing.automaton.k, n)
-    return estimator_bytes([listing.trace[n - 1 - l] for l in range(count)], [listing.entered[n - l] for l in range(count + 1)])
+    count = min(listing.largest, n)
+    symbols, entries = [listing.trace[n - 1 - l] for l in range(count)], [listing.entered[n - l] for l in range(count + 1)]
+    return estimator_bytes(symbols, entries, listing.secrets[1:])
 
 
 def judgement_bytes(listing):
-    """The weak verdict, the strong one, and the estimate size."""
-    return bytes(NONE if steps is None else steps for steps in (listing.weak(), listing.strong())) + bytes([listing.size()])
+    """The weak verdict and the strong one of each secret, none in the places that are not given, and the estimate size."""
+    told = [steps for number in range(len(listing.secrets)) for steps in (listing.weak(number), listing.strong(number))]
+    return bytes(NONE if steps is None else steps for steps in told).ljust(2 * (1 + FURTHER), bytes([NONE])) + bytes([listing.size()])
 
 
 def safe_of(listing, notion):

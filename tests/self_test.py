@@ -1,7 +1,8 @@
 """Tests of the lister itself: `python3 tests/self_test.py`.
 
 01's examples with its answers, and others worked out by hand; the merged listing of `runs` against one in which nothing is merged or left out: each
-run as its list of transitions; and automata with symbols against automata without, whose events are the symbols.
+run as its list of transitions; automata with symbols against automata without, whose events are the symbols; and further secrets (S-6) against
+answers worked out by hand, against runs that are listed one by one as their states, and against automata whose own secret they are.
 """
 
 import pathlib
@@ -9,11 +10,13 @@ import random
 import sys
 
 from calls import elements
-from examples import ENCODINGS, ESTIMATES, EXAMPLES, OPENINGS, P, P_ENCODING, P_SYMBOLS, Q, Q_ENCODING, T
-from generate import many_transitions, random_automaton, random_offers, random_trace, with_length, with_repeat, with_symbols, with_transitions
-from logs import Refused, decoded, encoded, output
+from examples import ENCODINGS, ESTIMATES, EXAMPLES, OPENINGS, P, P_ENCODING, P_SECRETS, P_SYMBOLS, Q, Q_ENCODING, SEVERAL, T, secret
+from generate import (
+    many_transitions, random_automaton, random_offers, random_secrets, random_trace, with_length, with_repeat, with_symbols, with_transitions,
+)
+from logs import Refused, decoded, encoded, output, steps
 from runs import Automaton, Listing, TooManyRuns
-from saved import automaton_of, grown_enforcer, grown_estimator, header_of, judgement_bytes, table_of
+from saved import automaton_of, given_of, grown_enforcer, grown_estimator, header_of, judgement_bytes, secrets_bytes, table_of
 
 
 def test_examples():
@@ -41,9 +44,22 @@ def test_sizes():
             assert listing.size() == len(estimate)
 
 
+def several_lines(automaton, further, trace):
+    """The lines of a trace and a weak enforcer, as a log has them, with the verdicts of each secret."""
+    listing, lines, released = Listing(automaton, further), [], 0
+    for symbol in trace:
+        assert listing.accept(symbol)
+        verdicts = " ".join(f"{steps(listing.weak(number))} {steps(listing.strong(number))}" for number in range(1 + len(further)))
+        before, released = released, listing.longest(listing.weak_safe)
+        going = ",".join(map(str, listing.trace[before:released])) or "-"
+        lines.append(f"{len(listing.trace)} {symbol} {verdicts} {listing.size()} {going}\n")
+    accepted = len(listing.trace)
+    return "".join(lines) + f"end {accepted} {released} {accepted - released}\n"
+
+
 def test_programs():
     """The stored runs of the log program, 01's listing and 02's idle log with S-5's column: the lister gives them, and they are among the answers
-    that were written by hand. The documents and the example in C have the same."""
+    that were written by hand. The documents and the example in C have the same, and the example goes on with a further secret."""
     top = pathlib.Path(__file__).resolve().parent.parent
     stored = {}
     for name in ("opacity_log", "idle_log"):
@@ -52,7 +68,9 @@ def test_programs():
         assert output((folder / "stdin").read_bytes()) == stored[name], name
     assert stored["opacity_log"] == EXAMPLES[0][2]
     assert [stored["idle_log"]] == [expected for automaton, offered, expected in EXAMPLES if automaton is T and not offered]
-    assert (top / "c" / "listing.txt").read_text("ascii") == stored["opacity_log"]
+    assert (top / "c" / "listing.txt").read_text("ascii") == stored["opacity_log"] + several_lines(P, (secret(1, 3),), (1, 2, 1, 1))
+    further = next(line for line in (top / "docs/FORMATS.md").read_text("utf-8").splitlines() if line.startswith("    02  02 00"))
+    assert bytes.fromhex(further) == secrets_bytes([secret(2, 1, 63), secret(15)])
     for name in ("README.md", "docs/FORMATS.md"):
         indented = "".join(f"    {line}\n" for line in stored["opacity_log"].splitlines())
         text = (top / name).read_text("utf-8")
@@ -106,16 +124,36 @@ def test_symbols():
 
 def test_saved():
     """P after 1 2, by hand. Right after 1 2 a run is in 0, right after 1 in 1 or 3, and it starts in 0; 2 is pending and waits for two more. The
-    same with symbols."""
+    same with symbols; and with further secrets, of which {1} with K 15 lets it wait for 15 more."""
     listing = Listing(P)
     assert listing.accept(1) and listing.accept(2)
-    assert elements(grown_estimator(listing)) == "144 0:2*2,1 16:1 24:a 32:1"
-    assert judgement_bytes(listing) == bytes((1, 1, 2))
-    assert elements(grown_enforcer(listing, 0)) == "178 0:2*2,1 16:1 24:a 32:1 145:1,2 162:2"
-    assert elements(grown_enforcer(listing, 1)) == "178 0:2*2,1 16:1 24:a 32:1 144:1*2,2 162:2"
+    assert elements(grown_estimator(listing)) == "172 0:2*2,1 16:1 24:a 32:1"
+    assert judgement_bytes(listing) == bytes((1, 1, 255, 255, 255, 255, 255, 255, 2))
+    assert elements(grown_enforcer(listing, 0)) == "206 0:2*2,1 16:1 24:a 32:1 173:1,2 190:2"
+    assert elements(grown_enforcer(listing, 1)) == "206 0:2*2,1 16:1 24:a 32:1 172:1*2,2 190:2"
     listing = Listing(P_SYMBOLS)
     assert listing.accept(2) and listing.accept(0)
-    assert elements(grown_enforcer(listing, 0)) == "178 0:2 2:2 16:1 24:a 32:1 145:1 162:2"
+    assert elements(grown_enforcer(listing, 0)) == "206 0:2 2:2 16:1 24:a 32:1 173:1 190:2"
+    listing = Listing(P, P_SECRETS)
+    assert listing.accept(1) and listing.accept(2)
+    assert elements(grown_estimator(listing)) == "172 0:2*2,1 16:1 24:a 32:1 144:3,8 154:2 162:f,2"
+    assert judgement_bytes(listing) == bytes((1, 1, 255, 255, 1, 1, 255, 255, 2))
+    assert elements(grown_enforcer(listing, 0)) == "206 0:2*2,1 16:1 24:a 32:1 144:3,8 154:2 162:f,2 173:1,2 190:f"
+    assert elements(secrets_bytes([secret(15, 63)])) == "28 0:1 8:80,f" and given_of(secrets_bytes([secret(15, 63)])) == [secret(15, 63)]
+
+
+def test_several():
+    """S-6, by hand: the verdicts of each secret by its own K, and what is safe for every one."""
+    for automaton, further, trace, verdicts, released in SEVERAL:
+        listing = Listing(automaton, further)
+        starts = listing.weak_safe(0), listing.strong_safe(0)
+        for symbol, told, counts in zip((None,) + trace, verdicts, ((0, 0),) + released):
+            assert symbol is None or listing.accept(symbol)
+            pairs = [(listing.weak(number), listing.strong(number)) for number in range(1 + len(further))]
+            assert " ".join("".join(map(steps, pair)) for pair in pairs) == told, (trace, symbol)
+            longest = [listing.longest(safe) if start else None for safe, start in zip((listing.weak_safe, listing.strong_safe), starts)]
+            assert symbol is None or longest == list(counts), (trace, symbol)
+        assert len(verdicts) == len(trace) + 1 == len(released) + 1
 
 
 def every_run(automaton, trace, bound):
@@ -133,12 +171,12 @@ def every_run(automaton, trace, bound):
                 pending.append((run + ((event, target),), target, count + 1, 0))
 
 
-def positions_of(automaton, run):
-    """The positions of a run: count, and whether the state is secret."""
-    count, positions = 0, [(0, automaton.initial in automaton.secret)]
+def states_of(automaton, run):
+    """The positions of a run: count and state."""
+    count, positions = 0, [(0, automaton.initial)]
     for event, target in run:
         count += event in automaton.observable
-        positions.append((count, target in automaton.secret))
+        positions.append((count, target))
     return positions
 
 
@@ -150,7 +188,7 @@ def facts(automaton, trace, most):
             if i == most:
                 return None
             end = run[-1][1] if run else automaton.initial
-            kept = frozenset(p for p in positions_of(automaton, run) if len(trace) - automaton.k <= p[0])
+            kept = frozenset((count, (q in automaton.secret,)) for count, q in states_of(automaton, run) if len(trace) - automaton.k <= count)
             into.add((end, kept))
     return found, further
 
@@ -255,6 +293,92 @@ def test_meaning(count, seed):
     return accepted
 
 
+def verdicts_of(runs, states, k, n):
+    """Both verdicts over listed runs, each a list of counts and states, as 01 words them."""
+    weak = [l for l in range(min(k, n) + 1) if all(q in states for run in runs for count, q in run if count == n - l)]
+    strong = [l for l in range(min(k, n) + 1) if all(any(q in states and n - l <= count for count, q in run) for run in runs)]
+    return min(weak, default=None), min(strong, default=None)
+
+
+def safe_by(runs, states, k, n, r):
+    """Whether the first r symbols of n are safe, weak and strong, over the runs that are compatible with them, as 01 words it."""
+    weak = not any(all(q in states for run in runs for count, q in run if count == j) for j in range(r + 1) if n - j <= k)
+    strong = k < n - r or any(not any(q in states and n - count <= k for count, q in run) for run in runs)
+    return weak, strong
+
+
+def longest_by(runs_by, given, n):
+    """For each notion the length of the longest prefix that is safe for every secret, or None: `runs_by` has the runs of each prefix."""
+    safe = [[safe_by(runs_by[r], states, k, n, r) for states, k in given] for r in range(n + 1)]
+    return [max((r for r in range(n + 1) if all(rules[notion] for rules in safe[r])), default=None) for notion in (0, 1)]
+
+
+def listed_runs(automaton, trace, most):
+    """The runs of each prefix of a trace, each a list of counts and states; None where there are too many."""
+    runs_by = []
+    for r in range(len(trace) + 1):
+        runs = []
+        for run in every_run(automaton, trace[:r], automaton.bound()):
+            runs.append(states_of(automaton, run))
+            if len(runs) == most:
+                return None
+        runs_by.append(runs)
+    return runs_by
+
+
+def with_further(name, count):
+    """Random automata with further secrets, each with its number and with what chooses on."""
+    for i in range(count):
+        rng = random.Random(f"{name} {i}")
+        automaton = random_automaton(rng)
+        yield i, rng, automaton, random_secrets(rng, automaton)
+
+
+def test_secrets(count, seed):
+    """Verdicts of several secrets, and the longest prefix that is safe for every one, against runs that are listed one by one."""
+    compared = 0
+    for i, rng, automaton, further in with_further(f"secrets {seed}", count):
+        listing = Listing(automaton, further, 20000)
+        trace = random_trace(rng, automaton, rng.choice((2, 3, 4, 5)))
+        runs_by = listed_runs(automaton, trace, 4000)
+        if runs_by is None:
+            continue
+        compared += 1
+        for n in range(len(trace) + 1):
+            assert n == 0 or listing.accept(trace[n - 1])
+            for number, (states, k) in enumerate(((automaton.secret, automaton.k),) + further):
+                assert (listing.weak(number), listing.strong(number)) == verdicts_of(runs_by[n], states, k, n), (seed, i)
+            longest = longest_by(runs_by, [(automaton.secret, automaton.k), *further], n)
+            for found, safe in zip(longest, (listing.weak_safe, listing.strong_safe)):
+                assert found == next((r for r in range(n, -1, -1) if safe(r)), None), (seed, i)
+    return compared
+
+
+def test_apart(count, seed):
+    """Each secret is judged as if it were the automaton's own, with its K, and a prefix is safe if it is safe for each."""
+    compared = 0
+    for i, rng, automaton, further in with_further(f"apart {seed}", count):
+        tops = automaton.top_state, automaton.top_event
+        rest = automaton.observable, automaton.transitions, automaton.symbols
+        try:
+            together = Listing(automaton, further, 300)
+            apart = [Listing(Automaton(*tops, k, automaton.initial, states, *rest)) for states, k in together.secrets]
+            for symbol in random_trace(rng, automaton, 20):
+                for listing in (together, *apart):
+                    assert listing.accept(symbol)
+                n = len(together.trace)
+                for number, alone in enumerate(apart):
+                    assert (together.weak(number), together.strong(number)) == (alone.weak(), alone.strong()), (seed, i)
+                    assert together.size() == alone.size() and together.entered == alone.entered
+                for r in range(max(0, n - together.largest), n + 1):
+                    assert together.weak_safe(r) == all(alone.weak_safe(r) for alone in apart), (seed, i)
+                    assert together.strong_safe(r) == all(alone.strong_safe(r) for alone in apart), (seed, i)
+                compared += 1
+        except TooManyRuns:
+            continue
+    return compared
+
+
 if __name__ == "__main__":
     test_examples()
     test_sizes()
@@ -262,7 +386,9 @@ if __name__ == "__main__":
     test_repeats()
     test_symbols()
     test_saved()
+    test_several()
     compared = test_merging(400, 1)
     separate, shared = test_meaning(600, 1)
     print(f"examples as expected, {compared} listings compared run by run; as without symbols: {separate} symbols of one event each, {shared} others")
+    print(f"several secrets: {test_secrets(800, 1)} listings compared run by run; {test_apart(200, 1)} symbols as with one secret each")
     sys.exit(0)

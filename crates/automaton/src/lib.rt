@@ -1,6 +1,6 @@
 ghost use mathlib.Core.Path.{_≡_};
 ghost use mathlib.Core.List.{List, [], _∷_, _++_};
-ghost use Prim.Native.Nat.{ℕ, _+_, _*_, _<_, _≤_};
+ghost use Prim.Native.Nat.{ℕ, _+_, _*_, _<_, _≤_, max};
 ghost use lib.ListN.{length, getD, take, drop, replicate};
 ghost use Rattle.stateset.specs.Set.{In, Is, Decided};
 ghost use Rattle.automaton.specs.Run.{Automaton, automatonOf, SmallSymbols, Sound};
@@ -37,6 +37,8 @@ pub enum Refusal {
     Malformed,
     OutputTooSmall,
     RepeatedTransition,
+    TooManySecrets,
+    LookBackTooLarge,
 }
 
 // The number of a refusal in 01's table.
@@ -54,6 +56,8 @@ pub fn number(refusal: Refusal) -> u8
         Refusal::Malformed => 9,
         Refusal::OutputTooSmall => 10,
         Refusal::RepeatedTransition => 12,
+        Refusal::TooManySecrets => 13,
+        Refusal::LookBackTooLarge => 14,
     }
 }
 
@@ -76,8 +80,8 @@ pub fn in_range(bytes: &[u8], count: u8) -> bool
     true
 }
 
-fn larger(a: u8, b: u8) -> u8
-    ensures { λ r. ⌜ (a ≤ r) × (b ≤ r) ⌝ }
+pub fn larger(a: u8, b: u8) -> u8
+    ensures { λ r. ⌜ r ≡ max a b ⌝ }
 {
     if a < b {
         return b;

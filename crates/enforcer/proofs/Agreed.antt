@@ -14,7 +14,9 @@ use Rattle.automaton.proofs.Spelling.{take-events, same-length, alike-agree, di
 use Rattle.verifier.proofs.Agreed as estimators
 use Rattle.verifier.specs.declared.Notion.{Notion}
 use Rattle.verifier.specs.declared.Notion.the-variants.{Weak, Strong}
-use Rattle.enforcer.specs.SafePrefix.{Excused, Safe}
+use Rattle.verifier.specs.declared.Secret.{Secret}
+use Rattle.verifier.specs.Secrets.{largest}
+use Rattle.enforcer.specs.SafePrefix.{Excused, Safe, SafeForAll}
 use Rattle.enforcer.specs.Queues.{Longest, Queue}
 use Rattle.enforcer.specs.Enforcers.{Grown}
 use Rattle.enforcer.specs.declared.Enforcer.{Enforcer}
@@ -40,22 +42,30 @@ alike-safe p q like a b x secret K n notion =
     let g = alike-agree p q like a b x in
     (safe-agree p q a b g secret K n notion, safe-agree q p b a (agree-back p q a b g) secret K n notion)
 
+-- for every secret, each by its own K
+pub alike-safe-all : (p q : Automaton) → Alike p q → (a b : List ℕ) → SameEvents p q a b → (cs : List Secret) (n : ℕ) (notion : Notion)
+    → SafeForAll notion p cs a n ↔ SafeForAll notion q cs b n
+alike-safe-all p q like a b x cs n notion = (
+  λ safe. record { each = λ i given. alike-safe p q like a b x _ _ n notion .0 (safe .each i given) },
+  λ safe. record { each = λ i given. alike-safe p q like a b x _ _ n notion .1 (safe .each i given) },
+)
+
 -- so where no two observable events share a symbol, the symbols of events are safe to release exactly where these events are without symbols
-pub distinct-safe : (p q : Automaton) → Distinct p → WithoutSymbols q → SameButSymbols p q → (es : List ℕ) → Events p es → (secret K n : ℕ) (notion : Notion)
-    → Safe notion p secret K (symbolsOf p es) n ↔ Safe notion q secret K es n
-distinct-safe p q d w s es each = alike-safe p q (distinct-alike p q d w s) (symbolsOf p es) es (events-spelled p q d w s es each)
+pub distinct-safe : (p q : Automaton) → Distinct p → WithoutSymbols q → SameButSymbols p q → (es : List ℕ) → Events p es → (cs : List Secret) (n : ℕ) (notion : Notion)
+    → SafeForAll notion p cs (symbolsOf p es) n ↔ SafeForAll notion q cs es n
+distinct-safe p q d w s es each = alike-safe-all p q (distinct-alike p q d w s) (symbolsOf p es) es (events-spelled p q d w s es each)
 
 -- the longest safe prefix has the same length
-pub alike-longest : (p q : Automaton) → Alike p q → (a b : List ℕ) → SameEvents p q a b → (secret K : ℕ) (notion : Notion) (r : ℕ)
-    → Longest (Safe notion p secret K) a r → Longest (Safe notion q secret K) b r
-alike-longest p q like a b x secret K notion r l =
+pub alike-longest : (p q : Automaton) → Alike p q → (a b : List ℕ) → SameEvents p q a b → (cs : List Secret) (notion : Notion) (r : ℕ)
+    → Longest (SafeForAll notion p cs) a r → Longest (SafeForAll notion q cs) b r
+alike-longest p q like a b x cs notion r l =
     let size = same-length p q a b x in
-    let same : (k : ℕ) → Safe notion p secret K (take k a) (length a) ↔ Safe notion q secret K (take k b) (length a) =
-    λ k. alike-safe p q like (take k a) (take k b) (take-events p q k a b x) secret K (length a) notion in
+    let same : (k : ℕ) → SafeForAll notion p cs (take k a) (length a) ↔ SafeForAll notion q cs (take k b) (length a) =
+    λ k. alike-safe-all p q like (take k a) (take k b) (take-events p q k a b x) cs (length a) notion in
     record {
       within = omega (arith, l .within);
-      safe = subst (λ (n : ℕ). Safe notion q secret K (take r b) n) size (same r .0 (l .safe));
-      longest = λ k more h safe. l .longest k more (omega arith) (same k .1 (subst (λ (n : ℕ). Safe notion q secret K (take k b) n) (sym size) safe));
+      safe = subst (λ (n : ℕ). SafeForAll notion q cs (take r b) n) size (same r .0 (l .safe));
+      longest = λ k more h safe. l .longest k more (omega arith) (same k .1 (subst (λ (n : ℕ). SafeForAll notion q cs (take k b) n) (sym size) safe));
     }
 
 -- an unobservable event's symbol counts for nothing: the enforcer of a trace is the same
@@ -65,16 +75,20 @@ module _ (p q : Automaton) (same : SameSymbols p q) where
       let g = same-agree p q same trace in
       (safe-agree p q trace trace g secret K n notion, safe-agree q p trace trace (agree-back p q trace trace g) secret K n notion)
 
-  grown-to : (notion : Notion) (secret K : ℕ) (trace : List ℕ) (s : Enforcer) → Grown notion p secret K trace s → Grown notion q secret K trace s
-  grown-to notion secret K trace s g =
-      let safe : (first : List ℕ) (n : ℕ) → Safe notion p secret K first n ↔ Safe notion q secret K first n = λ first n. same-safe first secret K n notion in
+  pub same-safe-all : (trace : List ℕ) (cs : List Secret) (n : ℕ) (notion : Notion) → SafeForAll notion p cs trace n ↔ SafeForAll notion q cs trace n
+  same-safe-all trace cs n notion = (
+    λ safe. record { each = λ i given. same-safe trace _ _ n notion .0 (safe .each i given) },
+    λ safe. record { each = λ i given. same-safe trace _ _ n notion .1 (safe .each i given) },
+  )
+
+  grown-to : (notion : Notion) (cs : List Secret) (trace : List ℕ) (s : Enforcer) → Grown notion p cs trace s → Grown notion q cs trace s
+  grown-to notion cs trace s g =
       record {
         limits = g .limits;
         possible = possible-agree p q trace trace (same-agree p q same trace) (g .possible);
-        estimator = estimators.same-grown p q same trace K (s .estimator) .0 (g .estimator);
+        estimator = estimators.same-grown p q same trace (largest cs) (s .estimator) .0 (g .estimator);
         under = g .under;
-        told = λ r h. let x = g .told r h in (x .0, estimators.same-tells p q same (take r trace) secret K notion (x .0) .0 (x .1));
-        queue = same-queue (Safe notion p secret K) (Safe notion q secret K) safe trace (s .count) (s .pending) (s .waits) (g .queue);
+        queue = same-queue (SafeForAll notion p cs) (SafeForAll notion q cs) (λ first n. same-safe-all first cs n notion) trace (s .count) (s .pending) (s .waits) (g .queue);
         pending-padded = g .pending-padded;
         waits-padded = g .waits-padded;
       }
@@ -93,7 +107,7 @@ module _ (p q : Automaton) (same : SameSymbols p q) where
             waits-are = λ i h m. let w = x .waits-are i h m in (λ y. w .0 (safe _ _ .1 y), λ y. safe _ _ .0 (w .1 y));
           }
 
-pub same-grown : (p q : Automaton) → SameSymbols p q → (notion : Notion) (secret K : ℕ) (trace : List ℕ) (s : Enforcer)
-    → Grown notion p secret K trace s ↔ Grown notion q secret K trace s
-same-grown p q same notion secret K trace s =
-    (grown-to p q same notion secret K trace s, grown-to q p (same-back p q same) notion secret K trace s)
+pub same-grown : (p q : Automaton) → SameSymbols p q → (notion : Notion) (cs : List Secret) (trace : List ℕ) (s : Enforcer)
+    → Grown notion p cs trace s ↔ Grown notion q cs trace s
+same-grown p q same notion cs trace s =
+    (grown-to p q same notion cs trace s, grown-to q p (same-back p q same) notion cs trace s)

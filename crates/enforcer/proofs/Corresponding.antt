@@ -3,11 +3,11 @@
 -- the contracts say the same. Assumes nothing.
 use mathlib.Core.Path.{_≡_, refl, ap, ap₂, sym, subst, _∙_}
 use mathlib.Core.List.{List, [], _∷_, _++_}
-use mathlib.Core.Logic.{_↔_}
-use Prim.Native.Nat.{ℕ, _+_, _-_, _<_, _^_}
+use mathlib.Core.Logic.{_⊎_, inl, inr, _↔_}
+use Prim.Native.Nat.{ℕ, _+_, _-_, _≤_, _<_, _^_}
 use native.Mathlib.Omega.{arith}
 use lib.ListN.{length, take, drop}
-use Rattle.automaton.specs.Run.{automatonOf, Sound}
+use Rattle.automaton.specs.Run.{Automaton, automatonOf, Sound}
 use Rattle.automaton.specs.Symbols.{
   WithoutSymbols,
   Distinct,
@@ -39,13 +39,17 @@ use Rattle.automaton.proofs.Spelling.{
 use Rattle.automaton.proofs.Agreeing.{possible-agree, impossible-agree, size-agree}
 use Rattle.automaton.proofs.Headers.{both-observable, own-sound, same-observable, same-sound, relabelled, same-header}
 use Rattle.verifier.specs.declared.Notion.{Notion}
+use Rattle.verifier.specs.declared.Secret.{Secret}
+use Rattle.verifier.specs.declared.Further.{Further}
+use Rattle.verifier.specs.Secrets.{furtherOf, secretsOf, ForEach, Allowed, TooLarge}
 use Rattle.verifier.specs.Verdicts.{Steps, none, leak, Tells}
+use Rattle.verifier.proofs.Numbering.{allowed-not-large}
 use Rattle.verifier.proofs.Exactness.{in-words, exactly}
 use Rattle.verifier.proofs.Agreed.{alike-tells, sizes-agree, same-tells}
-use Rattle.enforcer.specs.SafePrefix.{Safe}
+use Rattle.enforcer.specs.SafePrefix.{SafeForAll}
 use Rattle.enforcer.specs.Queues.{Longest}
-use Rattle.enforcer.specs.Enforcers.{Grown}
-use Rattle.enforcer.specs.Offerings.{Begun, Said, refused, released, started, Starting, Offering}
+use Rattle.enforcer.specs.Enforcers.{secretsIn}
+use Rattle.enforcer.specs.Offerings.{Begun, Said, refused, released, not-started, started, OpensAsLeak, Starting, Offering}
 use Rattle.enforcer.specs.Offers.{
   Offer,
   Offered,
@@ -66,6 +70,14 @@ use Rattle.enforcer.specs.declared.Enforcer.{Enforcer}
 use Rattle.enforcer.proofs.Agreed.{alike-longest, same-grown}
 use Rattle.enforcer.proofs.Unique.{one-longest}
 use Rattle.enforcer.proofs.ThirdPoint as third
+use Rattle.enforcer.proofs.ThirdPoint.{After, started-after}
+
+-- the secrets that are given are the same where the automaton's own is
+same-own : (h h′ : Header) (f : Further) → h .secret ≡ h′ .secret → h .k ≡ h′ .k → secretsOf h f ≡ secretsOf h′ f
+same-own h h′ f secret k = ap₂ (λ (w n : ℕ). secretWith w n ∷ furtherOf f) secret k
+  where
+    secretWith : ℕ → ℕ → Secret
+    secretWith w n = record { states = w; k = n }
 
 -- the table gives one answer
 module _ (t : List ℕ) (h : Header) (trace : List ℕ) (x : ℕ) (output : List ℕ) where
@@ -134,37 +146,35 @@ module _ (t : List ℕ) (h h′ : Header) (like : Alike (automatonOf t h) (autom
         sizes : i ≡ j
         sizes = sizes-agree _ _ _ _ (alike-agree _ _ like _ _ (join-events _ _ a b _ _ x taken)) i j (y .1) (z .1)
 
-  module _ (notion : Notion) (secret : h .secret ≡ h′ .secret) (k : h .k ≡ h′ .k) where
+  module _ (notion : Notion) (f : Further) (secret : h .secret ≡ h′ .secret) (k : h .k ≡ h′ .k) where
     -- enforcers of traces with the same events behind them have released as many
-    as-many : (a b : List ℕ) (s s′ : Enforcer) → Same a b → Grown notion (automatonOf t h) (h .secret) (h .k) a s
-        → Grown notion (automatonOf t h′) (h′ .secret) (h′ .k) b s′ → length a - s .count ≡ length b - s′ .count
+    as-many : (a b : List ℕ) (s s′ : Enforcer) → Same a b → After notion t h f a s → After notion t h′ f b s′ → length a - s .count ≡ length b - s′ .count
     as-many a b s s′ x g g′ =
-        let S = Safe notion (automatonOf t h′) (h′ .secret) (h′ .k) in
+        let S = SafeForAll notion (automatonOf t h′) (secretsOf h′ f) in
         let l : Longest S b (length a - s .count) =
-        subst (λ (w : ℕ). Longest (Safe notion (automatonOf t h′) w (h′ .k)) b (length a - s .count)) secret
-        (subst (λ (n : ℕ). Longest (Safe notion (automatonOf t h′) (h .secret) n) b (length a - s .count)) k
-        (alike-longest _ _ like a b x (h .secret) (h .k) notion (length a - s .count) (g .queue .longest))) in
-        one-longest S b (length a - s .count) (length b - s′ .count) l (g′ .queue .longest)
+        subst (λ (cs : List Secret). Longest (SafeForAll notion (automatonOf t h′) cs) b (length a - s .count)) (same-own h h′ f secret k)
+        (alike-longest _ _ like a b x (secretsOf h f) notion (length a - s .count) (g .grown .queue .longest)) in
+        one-longest S b (length a - s .count) (length b - s′ .count) l (g′ .grown .queue .longest)
 
     module _ (sound : Sound t h) (sound′ : Sound t h′) where
-      abbrev GrownA : List ℕ → Enforcer → Type 0
-      GrownA a s = Grown notion (automatonOf t h) (h .secret) (h .k) a s
+      abbrev AfterA : List ℕ → Enforcer → Type 0
+      AfterA a s = After notion t h f a s
 
-      abbrev GrownB : List ℕ → Enforcer → Type 0
-      GrownB b s = Grown notion (automatonOf t h′) (h′ .secret) (h′ .k) b s
+      abbrev AfterB : List ℕ → Enforcer → Type 0
+      AfterB b s = After notion t h′ f b s
 
       -- one pair of offers
       record OnePair (a b : List ℕ) (o o′ : Offer) (m m′ : Enforcer) : Type 0 where
         taken : Same (takenBy (o .says) (o .byte)) (takenBy (o′ .says) (o′ .byte))
         answered : SameAnswered (automatonOf t h) (automatonOf t h′) o o′
-        after : GrownA (a ++ takenBy (o .says) (o .byte)) m
-        after′ : GrownB (b ++ takenBy (o′ .says) (o′ .byte)) m′
+        after : AfterA (a ++ takenBy (o .says) (o .byte)) m
+        after′ : AfterB (b ++ takenBy (o′ .says) (o′ .byte)) m′
 
-      one-pair : (a b : List ℕ) (s s′ : Enforcer) (o o′ : Offer) (m m′ : Enforcer) → Same a b → GrownA a s → GrownB b s′ → SameOffered t h h′ o o′
+      one-pair : (a b : List ℕ) (s s′ : Enforcer) (o o′ : Offer) (m m′ : Enforcer) → Same a b → AfterA a s → AfterB b s′ → SameOffered t h h′ o o′
           → Offered t h s o m → Offered t h′ s′ o′ m′ → OnePair a b o o′ m m′
-      one-pair a b s s′ o o′ m m′ x g g′ offered f f′ =
-          let y = third.one notion t h sound a s (o .byte) (o .output) (o .says) m (o .left) g f in
-          let z = third.one notion t h′ sound′ b s′ (o′ .byte) (o′ .output) (o′ .says) m′ (o′ .left) g′ f′ in
+      one-pair a b s s′ o o′ m m′ x g g′ offered step step′ =
+          let y = third.one notion t h f sound a s (o .byte) (o .output) (o .says) m (o .left) g step in
+          let z = third.one notion t h′ f sound′ b s′ (o′ .byte) (o′ .output) (o′ .says) m′ (o′ .left) g′ step′ in
           let j = judged-alike a b x o o′ offered (o .says) (o′ .says) (y .judged) (z .judged) in
           let a1 = a ++ takenBy (o .says) (o .byte) in
           let b1 = b ++ takenBy (o′ .says) (o′ .byte) in
@@ -187,15 +197,15 @@ module _ (t : List ℕ) (h h′ : Header) (like : Alike (automatonOf t h) (autom
             after′ = z .after;
           }
 
-      all-pairs : (a b : List ℕ) (s s′ : Enforcer) (os os′ : List Offer) (e e′ : Enforcer) → Same a b → GrownA a s → GrownB b s′
+      all-pairs : (a b : List ℕ) (s s′ : Enforcer) (os os′ : List Offer) (e e′ : Enforcer) → Same a b → AfterA a s → AfterB b s′
           → Pairs (SameOffered t h h′) os os′ → Offers t h s os e → Offers t h′ s′ os′ e′ → Corresponds (automatonOf t h) (automatonOf t h′) os os′
       all-pairs a b s s′ os os′ e e′ x g g′ no-more done done =
           record { answers = no-more; accepted = no-events _ _; released = no-events _ _; counts = refl }
-      all-pairs a b s s′ os os′ e e′ x g g′ (both {x = o} {y = o′} {xs = rest} {ys = rest′} offered more) (next {m = m} f fs) (next {m = m′} f′ fs′) =
-          let y = one-pair a b s s′ o o′ m m′ x g g′ offered f f′ in
+      all-pairs a b s s′ os os′ e e′ x g g′ (both {x = o} {y = o′} {xs = rest} {ys = rest′} offered more) (next {m = m} step steps) (next {m = m′} step′ steps′) =
+          let y = one-pair a b s s′ o o′ m m′ x g g′ offered step step′ in
           let z : Corresponds (automatonOf t h) (automatonOf t h′) rest rest′ =
           all-pairs (a ++ takenBy (o .says) (o .byte)) (b ++ takenBy (o′ .says) (o′ .byte)) m m′ rest rest′ e e′ (join-events _ _ a b _ _ x (y .taken))
-          (y .after) (y .after′) more fs fs′ in
+          (y .after) (y .after′) more steps steps′ in
           record {
             answers = both (y .answered) (z .answers);
             accepted = join-events _ _ _ _ _ _ (y .taken) (z .accepted);
@@ -203,69 +213,110 @@ module _ (t : List ℕ) (h h′ : Header) (like : Alike (automatonOf t h) (autom
             counts = ap₂ (λ (m n : ℕ). m + n) (ap countBy (y .answered .says)) (z .counts);
           }
 
--- THE THEOREM of S-2 for lists of offers: under either notion, two enforcers that starts have handed back
-pub alike-offers : (notion : Notion) (t : List ℕ) (h h′ : Header) → Alike (automatonOf t h) (automatonOf t h′) → h .secret ≡ h′ .secret → h .k ≡ h′ .k
-    → (s s′ : Enforcer) (os os′ : List Offer) (e e′ : Enforcer) → Starting t h notion started s → Starting t h′ notion started s′
+-- THE THEOREM of S-2 for lists of offers: under either notion, two enforcers that starts with the same further secrets have handed back
+pub alike-offers : (notion : Notion) (t : List ℕ) (h h′ : Header) (f : Further) → Alike (automatonOf t h) (automatonOf t h′) → h .secret ≡ h′ .secret → h .k ≡ h′ .k
+    → (s s′ : Enforcer) (os os′ : List Offer) (e e′ : Enforcer) → Starting t h f notion started s → Starting t h′ f notion started s′
     → Pairs (SameOffered t h h′) os os′ → Offers t h s os e → Offers t h′ s′ os′ e′ → Corresponds (automatonOf t h) (automatonOf t h′) os os′
-alike-offers notion t h h′ like secret k s s′ os os′ e e′ (Starting.ready sound tells g) (Starting.ready sound′ tells′ g′) pairs f f′ =
-    all-pairs t h h′ like notion secret k sound sound′ [] [] s s′ os os′ e e′ (no-events _ _) g g′ pairs f f′
+alike-offers notion t h h′ f like secret k s s′ os os′ e e′ start start′ pairs offers offers′ =
+    let x = started-after notion t h f s start in
+    let y = started-after notion t h′ f s′ start′ in
+    all-pairs t h h′ like notion f secret k (x .0) (y .0) [] [] s s′ os os′ e e′ (no-events _ _) (x .1) (y .1) pairs offers offers′
 
--- starts are refused alike: 9 where the headers are automata alike, 8 by the verdict of the empty trace
-pub alike-starts : (notion : Notion) (t : List ℕ) (h h′ : Header) → Alike (automatonOf t h) (automatonOf t h′) → h .secret ≡ h′ .secret → h .k ≡ h′ .k
-    → Sound t h ↔ Sound t h′ → (r r′ : Begun) (s s′ : Enforcer) → Starting t h notion r s → Starting t h′ notion r′ s′ → r ≡ r′
-alike-starts notion t h h′ like secret k sounds r r′ s s′ x y = go x y
-  where
-    -- the verdict of the empty trace is the same
-    too : (v : Steps) → Tells notion (automatonOf t h) (h .secret) (h .k) [] v → Tells notion (automatonOf t h′) (h′ .secret) (h′ .k) [] v
-    too v x = rw (← secret, ← k) (alike-tells _ _ like [] [] (no-events _ _) (h .secret) (h .k) notion v .0 x)
+-- a start's answer by the first reason that there is for it, in the order of the refusal table: what is asked of the automaton, how many further secrets,
+-- their look-backs, and the verdicts of the empty trace
+module _ (p : Automaton) (cs : List Secret) (f : Further) (notion : Notion) (r : Begun) where
+  abbrev Opens : Type 0
+  Opens = (OpensAsLeak notion p cs × (r ≡ not-started 8)) ⊎ (ForEach cs (λ i c. Tells notion p (c .states) (c .k) [] none) × (r ≡ started))
 
-    -- and it has one only
-    differ : Tells notion (automatonOf t h′) (h′ .secret) (h′ .k) [] none → Tells notion (automatonOf t h′) (h′ .secret) (h′ .k) [] (leak 0) → ⊥
-    differ a b =
-        let e : none ≡ leak 0 = exactly notion _ _ _ [] none a (leak 0) .1 (in-words notion _ _ _ [] (leak 0) b) in
-        let z : _≡_ {A = ℕ} 0 1 = cc in
-        omega arith
+  abbrev Backs : Type 0
+  Backs = (TooLarge f × (r ≡ not-started 14)) ⊎ (Allowed f × Opens)
 
-    go : {r r′ : Begun} {s s′ : Enforcer} → Starting t h notion r s → Starting t h′ notion r′ s′ → r ≡ r′
-    go (Starting.malformed bad out) (Starting.malformed bad′ out′) = refl
-    go (Starting.malformed bad out) (Starting.initial-leak so l out′) = absurd (bad (sounds .1 so))
-    go (Starting.malformed bad out) (Starting.ready so n g) = absurd (bad (sounds .1 so))
-    go (Starting.initial-leak so l out) (Starting.malformed bad out′) = absurd (bad (sounds .0 so))
-    go (Starting.initial-leak so l out) (Starting.initial-leak so′ l′ out′) = refl
-    go (Starting.initial-leak so l out) (Starting.ready so′ n g) = absurd (differ n (too (leak 0) l))
-    go (Starting.ready so n g) (Starting.malformed bad out) = absurd (bad (sounds .0 so))
-    go (Starting.ready so n g) (Starting.initial-leak so′ l out) = absurd (differ (too none n) l)
-    go (Starting.ready so n g) (Starting.ready so′ n′ g′) = refl
+  abbrev Counts : Type 0
+  Counts = ((3 < f .count) × (r ≡ not-started 13)) ⊎ ((f .count ≤ 3) × Backs)
 
-started-sound : (notion : Notion) (t : List ℕ) (h : Header) (s : Enforcer) → Starting t h notion started s → Sound t h
-started-sound notion t h s (Starting.ready so tells g) = so
+  abbrev Reasons : Type 0 → Type 0
+  Reasons So = ((So → ⊥) × (r ≡ not-started 9)) ⊎ (So × Counts)
+
+reasons : (t : List ℕ) (h : Header) (f : Further) (notion : Notion) (r : Begun) (s : Enforcer) → Starting t h f notion r s
+    → Reasons (automatonOf t h) (secretsOf h f) f notion r (Sound t h)
+reasons t h f notion r s (Starting.malformed bad out) = inl (bad, refl)
+reasons t h f notion r s (Starting.too-many-secrets so many out) = inr (so, inl (many, refl))
+reasons t h f notion r s (Starting.look-back-too-large so few large out) = inr (so, inr (few, inl (large, refl)))
+reasons t h f notion r s (Starting.initial-leak so allowed opens out) = inr (so, inr (allowed .few, inr (allowed, inl (opens, refl))))
+reasons t h f notion r s (Starting.ready so allowed silent same g) = inr (so, inr (allowed .few, inr (allowed, inr (silent, refl))))
+
+-- two answers are the same where the reason holds of both, or of neither and those behind it agree
+first-alike : {P P′ Q Q′ : Type 0} (r r′ n : Begun) → (P × (r ≡ n)) ⊎ Q → (P′ × (r′ ≡ n)) ⊎ Q′ → (P → Q′ → ⊥) → (Q → P′ → ⊥) → (Q → Q′ → r ≡ r′) → r ≡ r′
+first-alike r r′ n (inl x) (inl y) here there rest = x .1 ∙ sym (y .1)
+first-alike r r′ n (inl x) (inr y) here there rest = absurd (here (x .0) y)
+first-alike r r′ n (inr x) (inl y) here there rest = absurd (there x (y .0))
+first-alike r r′ n (inr x) (inr y) here there rest = rest x y
+
+-- a verdict of the empty trace is one only
+apart : (notion : Notion) (p : Automaton) (secret K : ℕ) → Tells notion p secret K [] none → Tells notion p secret K [] (leak 0) → ⊥
+apart notion p secret K a b =
+    let e : none ≡ leak 0 = exactly notion p secret K [] none a (leak 0) .1 (in-words notion p secret K [] (leak 0) b) in
+    let z : _≡_ {A = ℕ} 0 1 = cc in
+    omega arith
+
+module _ (p q : Automaton) (like : Alike p q) (f : Further) (cs : List Secret) (notion : Notion) (r r′ : Begun) where
+  -- the verdict of the empty trace is the same
+  same-empty : (secret K : ℕ) (v : Steps) → Tells notion p secret K [] v ↔ Tells notion q secret K [] v
+  same-empty secret K v = alike-tells p q like [] [] (no-events p q) secret K notion v
+
+  opens-alike : Opens p cs f notion r → Opens q cs f notion r′ → r ≡ r′
+  opens-alike x y =
+      first-alike r r′ (not-started 8) x y
+      (λ l z. apart notion q _ _ (z .0 (l .number) (l .given)) (same-empty _ _ (leak 0) .0 (l .tells)))
+      (λ z l. apart notion q _ _ (same-empty _ _ none .0 (z .0 (l .number) (l .given))) (l .tells))
+      (λ a b. a .1 ∙ sym (b .1))
+
+  backs-alike : Backs p cs f notion r → Backs q cs f notion r′ → r ≡ r′
+  backs-alike x y =
+      first-alike r r′ (not-started 14) x y (λ l z. allowed-not-large f (z .0) l) (λ z l. allowed-not-large f (z .0) l) (λ a b. opens-alike (a .1) (b .1))
+
+  counts-alike : Counts p cs f notion r → Counts q cs f notion r′ → r ≡ r′
+  counts-alike x y =
+      first-alike r r′ (not-started 13) x y (λ m z. omega (arith, m, z .0)) (λ z m. omega (arith, m, z .0)) (λ a b. backs-alike (a .1) (b .1))
+
+-- starts are refused alike: 9 where the headers are automata alike, 13 and 14 by the further secrets, 8 by the verdicts of the empty trace
+pub alike-starts : (notion : Notion) (t : List ℕ) (h h′ : Header) (f : Further) → Alike (automatonOf t h) (automatonOf t h′) → h .secret ≡ h′ .secret → h .k ≡ h′ .k
+    → Sound t h ↔ Sound t h′ → (r r′ : Begun) (s s′ : Enforcer) → Starting t h f notion r s → Starting t h′ f notion r′ s′ → r ≡ r′
+alike-starts notion t h h′ f like secret k sounds r r′ s s′ x y =
+    first-alike r r′ (not-started 9) (reasons t h f notion r s x)
+    (subst (λ (cs : List Secret). Reasons (automatonOf t h′) cs f notion r′ (Sound t h′)) (sym (same-own h h′ f secret k)) (reasons t h′ f notion r′ s′ y))
+    (λ bad z. bad (sounds .1 (z .0))) (λ z bad. bad (sounds .0 (z .0)))
+    (λ a b. counts-alike _ _ like f (secretsOf h f) notion r r′ (a .1) (b .1))
+
+started-sound : (notion : Notion) (t : List ℕ) (h : Header) (f : Further) (s : Enforcer) → Starting t h f notion started s → Sound t h
+started-sound notion t h f s x = started-after notion t h f s x .0
 
 -- so where no two observable events share a symbol: a start with symbols and one without are answered alike, and what is then accepted and released is
 -- the symbols of what is without symbols
-module _ (notion : Notion) (t : List ℕ) (h h′ : Header) (d : Distinct (automatonOf t h)) (w : WithoutSymbols (automatonOf t h′))
+module _ (notion : Notion) (t : List ℕ) (h h′ : Header) (f : Further) (d : Distinct (automatonOf t h)) (w : WithoutSymbols (automatonOf t h′))
     (same : SameButSymbols (automatonOf t h) (automatonOf t h′)) (secret : h .secret ≡ h′ .secret) (k : h .k ≡ h′ .k) (small : h .observable < 2 ^ 32) where
-  pub distinct-starts : Sound t h → (r r′ : Begun) (s s′ : Enforcer) → Starting t h notion r s → Starting t h′ notion r′ s′ → r ≡ r′
+  pub distinct-starts : Sound t h → (r r′ : Begun) (s s′ : Enforcer) → Starting t h f notion r s → Starting t h′ f notion r′ s′ → r ≡ r′
   distinct-starts so r r′ s s′ x y =
       let so′ = own-sound t h h′ same w (omega (arith, same .observable)) k so in
-      alike-starts notion t h h′ (distinct-alike _ _ d w same) secret k (λ z. so′, λ z. so) r r′ s s′ x y
+      alike-starts notion t h h′ f (distinct-alike _ _ d w same) secret k (λ z. so′, λ z. so) r r′ s s′ x y
 
-  follow : (s s′ : Enforcer) → Starting t h notion started s → Starting t h′ notion started s′ → OffersFollow t h h′ s s′
-  follow s s′ start start′ os os′ e e′ pairs f f′ =
-      let x = alike-offers notion t h h′ (distinct-alike _ _ d w same) secret k s s′ os os′ e e′ start start′ pairs f f′ in
+  follow : (s s′ : Enforcer) → Starting t h f notion started s → Starting t h′ f notion started s′ → OffersFollow t h h′ s s′
+  follow s s′ start start′ os os′ e e′ pairs offers offers′ =
+      let x = alike-offers notion t h h′ f (distinct-alike _ _ d w same) secret k s s′ os os′ e e′ start start′ pairs offers offers′ in
       (x, spelled-own _ _ _ _ w same (x .accepted) .1, spelled-own _ _ _ _ w same (x .released) .1)
 
   -- the one with symbols has started
-  pub distinct-offers : (r′ : Begun) (s s′ : Enforcer) → Starting t h notion started s → Starting t h′ notion r′ s′ → (r′ ≡ started) × OffersFollow t h h′ s s′
+  pub distinct-offers : (r′ : Begun) (s s′ : Enforcer) → Starting t h f notion started s → Starting t h′ f notion r′ s′ → (r′ ≡ started) × OffersFollow t h h′ s s′
   distinct-offers r′ s s′ x y =
-      let e = sym (distinct-starts (started-sound notion t h s x) started r′ s s′ x y) in
-      (e, follow s s′ x (subst (λ (r : Begun). Starting t h′ notion r s′) e y))
+      let e = sym (distinct-starts (started-sound notion t h f s x) started r′ s s′ x y) in
+      (e, follow s s′ x (subst (λ (r : Begun). Starting t h′ f notion r s′) e y))
 
   -- the one without symbols has
-  pub distinct-offers-back : Sound t h → (r : Begun) (s s′ : Enforcer) → Starting t h notion r s → Starting t h′ notion started s′
+  pub distinct-offers-back : Sound t h → (r : Begun) (s s′ : Enforcer) → Starting t h f notion r s → Starting t h′ f notion started s′
       → (r ≡ started) × OffersFollow t h h′ s s′
   distinct-offers-back so r s s′ x y =
       let e = distinct-starts so r started s s′ x y in
-      (e, follow s s′ (subst (λ (r : Begun). Starting t h notion r s) e x) y)
+      (e, follow s s′ (subst (λ (r : Begun). Starting t h f notion r s) e x) y)
 
 -- ---- an unobservable event's symbol counts for nothing
 
@@ -276,12 +327,16 @@ module _ (t : List ℕ) (h : Header) (symbols : List ℕ) (g : SameSymbols (auto
   sound-to : Sound t h → Sound t other
   sound-to so = same-sound t h other g refl .0 so
 
-  starting-to : (notion : Notion) (r : Begun) (s : Enforcer) → Starting t h notion r s → Starting t other notion r s
-  starting-to notion r s (Starting.malformed bad out) = Starting.malformed (λ so. bad (same-sound t h other g refl .1 so)) out
-  starting-to notion r s (Starting.initial-leak so l out) =
-      Starting.initial-leak (sound-to so) (same-tells _ _ g [] (h .secret) (h .k) notion (leak 0) .0 l) out
-  starting-to notion r s (Starting.ready so n x) =
-      Starting.ready (sound-to so) (same-tells _ _ g [] (h .secret) (h .k) notion none .0 n) (same-grown _ _ g notion (h .secret) (h .k) [] s .0 x)
+  starting-to : (f : Further) (notion : Notion) (r : Begun) (s : Enforcer) → Starting t h f notion r s → Starting t other f notion r s
+  starting-to f notion r s (Starting.malformed bad out) = Starting.malformed (λ so. bad (same-sound t h other g refl .1 so)) out
+  starting-to f notion r s (Starting.too-many-secrets so many out) = Starting.too-many-secrets (sound-to so) many out
+  starting-to f notion r s (Starting.look-back-too-large so few large out) = Starting.look-back-too-large (sound-to so) few large out
+  starting-to f notion r s (Starting.initial-leak so allowed l out) =
+      Starting.initial-leak (sound-to so) allowed
+      (record { number = l .number; given = l .given; tells = same-tells _ _ g [] _ _ notion (leak 0) .0 (l .tells) }) out
+  starting-to f notion r s (Starting.ready so allowed each-none same x) =
+      Starting.ready (sound-to so) allowed (λ i given. same-tells _ _ g [] _ _ notion none .0 (each-none i given)) same
+      (same-grown _ _ g notion (secretsIn h s) [] s .0 x)
 
   offering-to : (self : Enforcer) (byte : ℕ) (output : List ℕ) (r : Said) (after : Enforcer) (left : List ℕ) → Offering t h self byte output r after left
       → Offering t other self byte output r after left
@@ -291,19 +346,19 @@ module _ (t : List ℕ) (h : Header) (symbols : List ℕ) (g : SameSymbols (auto
       Offering.not-observable (sound-to so) li wide (λ o. never (same-observable t h other g byte .1 o))
   offering-to self byte output r after left (Offering.incompatible so li wide ob nobody) =
       Offering.incompatible (sound-to so) li wide (same-observable t h other g byte .0 ob) (λ notion trace x.
-      impossible-agree _ _ _ _ (same-agree _ _ g (trace ++ byte ∷ [])) (nobody notion trace (same-grown _ _ g notion (h .secret) (h .k) trace self .1 x)))
-  offering-to self byte output r after left (Offering.accepted {size = n} so li wide ob la bal front rest within exact) =
-      Offering.accepted (sound-to so) li wide (same-observable t h other g byte .0 ob) la bal front rest within (λ notion trace x.
-      let y = exact notion trace (same-grown _ _ g notion (h .secret) (h .k) trace self .1 x) in
+      impossible-agree _ _ _ _ (same-agree _ _ g (trace ++ byte ∷ [])) (nobody notion trace (same-grown _ _ g notion (secretsIn h self) trace self .1 x)))
+  offering-to self byte output r after left (Offering.accepted {size = n} so li wide ob same la bal front rest within exact) =
+      Offering.accepted (sound-to so) li wide (same-observable t h other g byte .0 ob) same la bal front rest within (λ notion trace x.
+      let y = exact notion trace (same-grown _ _ g notion (secretsIn h self) trace self .1 x) in
       record {
         possible = possible-agree _ _ _ _ (same-agree _ _ g (trace ++ byte ∷ [])) (y .possible);
         size = size-agree _ _ _ _ (same-agree _ _ g (trace ++ byte ∷ [])) n (y .size);
-        grown = same-grown _ _ g notion (h .secret) (h .k) (trace ++ byte ∷ []) after .0 (y .grown);
+        grown = same-grown _ _ g notion (secretsIn h after) (trace ++ byte ∷ []) after .0 (y .grown);
       })
 
 module _ (t : List ℕ) (h h′ : Header) (g : SameSymbols (automatonOf t h) (automatonOf t h′)) (secret : h .secret ≡ h′ .secret) (k : h .k ≡ h′ .k) where
-  pub same-starting : (notion : Notion) (r : Begun) (s : Enforcer) → Starting t h notion r s ↔ Starting t h′ notion r s
-  same-starting notion r s = same-header t (λ x. Starting t x notion r s) (λ h symbols g. starting-to t h symbols g notion r s) h h′ g secret k
+  pub same-starting : (f : Further) (notion : Notion) (r : Begun) (s : Enforcer) → Starting t h f notion r s ↔ Starting t h′ f notion r s
+  same-starting f notion r s = same-header t (λ x. Starting t x f notion r s) (λ h symbols g. starting-to t h symbols g f notion r s) h h′ g secret k
 
   pub same-offering : (self : Enforcer) (byte : ℕ) (output : List ℕ) (r : Said) (after : Enforcer) (left : List ℕ)
       → Offering t h self byte output r after left ↔ Offering t h′ self byte output r after left

@@ -1,5 +1,6 @@
 -- Laws that belong to no one function.
 pub mod SafeLaws
+pub mod ForAll
 pub mod Arrays
 pub mod Queueing
 pub mod TakingIn

@@ -1,77 +1,169 @@
--- A start's outcome, from the opening verdicts. Assumes nothing.
-use mathlib.Core.Path.{_≡_, refl, sym, subst}
+-- A start's outcome, from the opening verdicts; and that what stands past the count of further secrets counts for nothing. Assumes nothing.
+use mathlib.Core.Path.{_≡_, refl, sym, subst, _∙_}
 use mathlib.Core.List.{List, []}
-use Prim.Native.Nat.{ℕ}
+use mathlib.Core.Logic.{_⊎_, inl, inr}
+use Prim.Native.Nat.{ℕ, _+_, _≤_, _<_}
 use native.Mathlib.Omega.{arith}
-use lib.Seq.{take-nil}
-use Rattle.automaton.specs.Run.{Automaton, automatonOf, Possible}
+use lib.ListN.{length, getD}
+use Rattle.automaton.specs.Run.{Automaton, automatonOf, Sound}
 use Rattle.automaton.specs.declared.Header.{Header}
 use Rattle.verifier.specs.declared.Notion.{Notion}
-use Rattle.verifier.specs.declared.Verdict.{Verdict}
-use Rattle.verifier.specs.declared.Verdict.the-variants.{NoLeak, Leak}
-use Rattle.verifier.specs.declared.Verdicts.{Verdicts}
+use Rattle.verifier.specs.declared.Secret.{Secret}
+use Rattle.verifier.specs.declared.Further.{Further}
+use Rattle.verifier.specs.declared.SecretVerdicts.{SecretVerdicts}
 use Rattle.verifier.specs.declared.Estimator.{Estimator}
-use Rattle.verifier.specs.Verdicts.{none, leak, stepsOf, Tells}
+use Rattle.verifier.specs.Secrets.{secretsOf, secretAt, ForEach, largest, clearedOf, Allowed}
+use Rattle.verifier.specs.Verdicts.{Steps, none, leak, Tells}
 use Rattle.verifier.specs.Estimators as estimators
 use Rattle.verifier.specs.Replies as verifier
-use Rattle.verifier.specs.Replies.{Opening}
-use Rattle.enforcer.specs.Enforcers.{Limits, Padded, Grown}
-use Rattle.enforcer.specs.Offerings.{Said, refused, not-started, started, Unusable, Starting, Offering}
-use Rattle.verifier.specs.Replies.{chosen}
+use Rattle.verifier.specs.Replies.{Opening, toldEach, chosenEach, stepsEach}
+use Rattle.verifier.proofs.Numbering.{look-back-small}
+use Rattle.verifier.proofs.Exactness.{clear-unsure}
+use Rattle.verifier.proofs.PastCount.{past-count, past-secrets, past-allowed, past-large, withFurther, past-limits, past-grown}
+use Rattle.enforcer.specs.Enforcers.{Limits, InLimits, Padded, Grown, GrownOn}
+use Rattle.enforcer.specs.Queues.{Queue}
+use Rattle.enforcer.specs.Offerings.{Begun, Said, refused, not-started, started, Unusable, OpensAsLeak, Starting, Offering}
+use Rattle.enforcer.specs.Inner.{waitOf, LargestWait}
 use Rattle.enforcer.specs.declared.Enforcer.{Enforcer}
-use Rattle.enforcer.specs.SafePrefix.{Safe}
+use Rattle.enforcer.specs.SafePrefix.{SafeForAll}
 use Rattle.enforcer.proofs.SafeLaws.{safe-wait}
+use Rattle.enforcer.proofs.ForAll.{kept-secrets, all-or-some, chosen-told}
 use Rattle.enforcer.proofs.Queueing.{queue-start}
-use Rattle.enforcer.proofs.Outcomes.{chosen-tells}
 
--- one that holds 255 events is outside its limits
+-- one that holds 255 symbols is outside its limits
 unusable : (s : Enforcer) → s .count ≡ 255 → Unusable s
 unusable s e K h li = omega (arith, li .few)
 
-pub start-refused : (t : List ℕ) (h : Header) (notion : Notion) (n : ℕ) (e : Estimator) (s : Enforcer) → Opening t h (verifier.refused n) e → s .count ≡ 255
-    → Starting t h notion (not-started n) s
-start-refused t h notion n e s (Opening.malformed bad out) c = Starting.malformed bad (unusable s c)
+pub start-refused : (t : List ℕ) (h : Header) (f : Further) (notion : Notion) (n : ℕ) (e : Estimator) (s : Enforcer) → Opening t h f (verifier.refused n) e
+    → s .count ≡ 255 → Starting t h f notion (not-started n) s
+start-refused t h f notion n e s (Opening.malformed bad out) c = Starting.malformed bad (unusable s c)
+start-refused t h f notion n e s (Opening.too-many-secrets so many out) c = Starting.too-many-secrets so many (unusable s c)
+start-refused t h f notion n e s (Opening.look-back-too-large so few large out) c = Starting.look-back-too-large so few large (unusable s c)
 
-pub start-open : (t : List ℕ) (h : Header) (notion : Notion) (v : Verdicts) (n : ℕ) (e : Estimator) (s : Enforcer) (l : ℕ)
-    → Opening t h (verifier.verdicts (stepsOf (v .weak)) (stepsOf (v .strong)) n) e → chosen notion v ≡ Leak l → s .count ≡ 255
-    → Starting t h notion (not-started 8) s
-start-open t h notion v n e s l (Opening.opened so li within x) is c =
-    let tells : Tells notion (automatonOf t h) (h .secret) (h .k) [] (leak l) =
-    subst (λ (w : Verdict). Tells notion (automatonOf t h) (h .secret) (h .k) [] (stepsOf w)) is (chosen-tells notion t h [] v n e x) in
-    let z : l ≡ 0 = omega (arith, tells .reached) in
-    Starting.initial-leak so (subst (λ (k : ℕ). Tells notion (automatonOf t h) (h .secret) (h .k) [] (leak k)) z tells) (unusable s c)
+-- of the empty trace: a verdict whose wait is not over is leak 0, and one whose wait is over is none
+module _ (notion : Notion) (p : Automaton) (secret K : ℕ) where
+  opens-leak : (u : Steps) → Tells notion p secret K [] u → 0 < waitOf K u → Tells notion p secret K [] (leak 0)
+  opens-leak none t h = absurd (omega arith)
+  opens-leak (leak l) t h = let z : l ≡ 0 = omega (arith, t .reached) in subst (λ (k : ℕ). Tells notion p secret K [] (leak k)) z t
 
-fresh-grown : (notion : Notion) (p : Automaton) (secret K : ℕ) (e : Estimator) (pending waits : List ℕ) → Padded 16 0 pending → Padded 16 0 waits → estimators.Limits K e → Possible p [] → estimators.Grown p K [] e → Tells notion p secret K [] none
-    → Grown notion p secret K [] (record { estimator = e; notion = notion; count = 0; pending = pending; waits = waits })
-fresh-grown notion p secret K e pending waits padded padded′ li observed-trace g tells =
-    record {
-      possible = observed-trace;
-      pending-padded = padded;
-      waits-padded = padded′;
-      limits = record { estimator = li; few = omega arith; small = λ i h. absurd (omega arith) };
-      estimator = g;
-      under = refl;
-      told = λ r h. (none, subst (λ (l : List ℕ). Tells notion p secret K l none) (sym (take-nil r)) tells);
-      queue = queue-start (Safe notion p secret K) pending waits (safe-wait notion p secret K [] none tells 0 (omega arith) (omega arith));
-    }
+  opens-none : (u : Steps) → Tells notion p secret K [] u → waitOf K u ≤ 0 → Tells notion p secret K [] none
+  opens-none none t h = t
+  opens-none (leak l) t h = absurd (omega (arith, t .within))
 
-pub start-ready : (t : List ℕ) (h : Header) (notion : Notion) (v : Verdicts) (n : ℕ) (e : Estimator) (pending waits : List ℕ) → Padded 16 0 pending → Padded 16 0 waits
-    → Opening t h (verifier.verdicts (stepsOf (v .weak)) (stepsOf (v .strong)) n) e → chosen notion v ≡ NoLeak
-    → Starting t h notion started (record { estimator = e; notion = notion; count = 0; pending = pending; waits = waits })
-start-ready t h notion v n e pending waits padded padded′ (Opening.opened so li within x) is =
-    let tells : Tells notion (automatonOf t h) (h .secret) (h .k) [] none =
-    subst (λ (w : Verdict). Tells notion (automatonOf t h) (h .secret) (h .k) [] (stepsOf w)) is (chosen-tells notion t h [] v n e x) in
-    Starting.ready so tells (fresh-grown notion (automatonOf t h) (h .secret) (h .k) e pending waits padded padded′ li (x .possible) (x .grown) tells)
+-- what was given may be given
+pub opened-given : (t : List ℕ) (h : Header) (f : Further) (v : SecretVerdicts) (size : ℕ) (e : Estimator) → Opening t h f (verifier.verdicts (toldEach f v) size) e
+    → (h .k ≤ 15) × Allowed f
+opened-given t h f v size e (Opening.opened so allowed same li many within x) = (so .back, allowed)
 
-outside : {t : List ℕ} {h : Header} {notion : Notion} {n : ℕ} {s : Enforcer} → Starting t h notion (not-started n) s → Unusable s
+module _ (t : List ℕ) (h : Header) (f : Further) (notion : Notion) (v : SecretVerdicts) (size : ℕ) (e : Estimator) (w : ℕ)
+    (most : LargestWait (secretsOf h f) (stepsEach f (chosenEach notion v)) w) where
+  abbrev says : ℕ → Steps
+  says i = getD (stepsEach f (chosenEach notion v)) i none
+
+  abbrev at : ℕ → Secret
+  at i = secretAt (secretsOf h f) i
+
+  -- the verdicts by the notion
+  chosen-tells : verifier.Exact t h (secretsOf h f) [] (toldEach f v) size e → ForEach (secretsOf h f) (λ i c. Tells notion (automatonOf t h) (c .states) (c .k) [] (says i))
+  chosen-tells x i given = subst (Tells notion (automatonOf t h) (at i .states) (at i .k) []) (chosen-told notion f v i) (x .tells notion i given)
+
+  pub start-open : (s : Enforcer) → Opening t h f (verifier.verdicts (toldEach f v) size) e → (w ≡ 0 → ⊥) → s .count ≡ 255 → Starting t h f notion (not-started 8) s
+  start-open s (Opening.opened so allowed same li many within x) some c =
+      Starting.initial-leak so allowed (go (all-or-some (λ i. waitOf (at i .k) (says i)) 0 (length (secretsOf h f)))) (unusable s c)
+    where
+      go : ((i : ℕ) → i < length (secretsOf h f) → waitOf (at i .k) (says i) ≤ 0) ⊎ ((i : ℕ) × (i < length (secretsOf h f)) × (0 < waitOf (at i .k) (says i)))
+          → OpensAsLeak notion (automatonOf t h) (secretsOf h f)
+      go (inl all) = let low = most 0 .0 all in absurd (some (omega arith))
+      go (inr y) = record {
+        number = y .0;
+        given = y .1;
+        tells = opens-leak notion (automatonOf t h) (at (y .0) .states) (at (y .0) .k) (says (y .0)) (chosen-tells x (y .0) (y .1)) (y .2);
+      }
+
+  fresh-grown : (cs : List Secret) (pending waits : List ℕ) → Padded 16 0 pending → Padded 16 0 waits → estimators.Limits (largest cs) e
+      → estimators.Grown (automatonOf t h) (largest cs) [] e → ForEach cs (λ i c. Tells notion (automatonOf t h) (c .states) (c .k) [] none)
+      → Grown notion (automatonOf t h) cs [] (record { estimator = e; notion = notion; count = 0; pending = pending; waits = waits })
+  fresh-grown cs pending waits padded padded′ li g tells =
+      record {
+        possible = g .possible;
+        pending-padded = padded;
+        waits-padded = padded′;
+        limits = record { estimator = li; few = omega arith; small = λ i h. absurd (omega arith) };
+        estimator = g;
+        under = refl;
+        queue = queue-start (SafeForAll notion (automatonOf t h) cs) pending waits
+            (record { each = λ i given. safe-wait notion (automatonOf t h) _ _ [] none (tells i given) 0 (omega arith) (omega arith) });
+      }
+
+  pub start-ready : (pending waits : List ℕ) → Padded 16 0 pending → Padded 16 0 waits → Opening t h f (verifier.verdicts (toldEach f v) size) e → w ≡ 0
+      → Starting t h f notion started (record { estimator = e; notion = notion; count = 0; pending = pending; waits = waits })
+  start-ready pending waits padded padded′ (Opening.opened so allowed same li many within x) over =
+      Starting.ready so allowed each-none same (fresh-grown (secretsOf h (e .further)) pending waits padded padded′ li (x .grown)
+      (subst (λ (cs : List Secret). ForEach cs (λ i c. Tells notion (automatonOf t h) (c .states) (c .k) [] none)) (sym (kept-secrets h f (e .further) same)) each-none))
+    where
+      each-none : ForEach (secretsOf h f) (λ i c. Tells notion (automatonOf t h) (c .states) (c .k) [] none)
+      each-none i given = opens-none notion (automatonOf t h) (at i .states) (at i .k) (says i) (chosen-tells x i given) (most 0 .1 (omega arith) i given)
+
+outside : {t : List ℕ} {h : Header} {f : Further} {notion : Notion} {n : ℕ} {s : Enforcer} → Starting t h f notion (not-started n) s → Unusable s
 outside (Starting.malformed bad u) = u
-outside (Starting.initial-leak so tells u) = u
+outside (Starting.too-many-secrets so many u) = u
+outside (Starting.look-back-too-large so few large u) = u
+outside (Starting.initial-leak so allowed tells u) = u
+
+never : (s : Enforcer) (t : List ℕ) (h : Header) → Unusable s → Sound t h → InLimits h s → ⊥
+never s t h u so li = u _ (look-back-small h (s .estimator .further) (so .back) (li .estimator .allowed)) li
 
 -- what a refused start hands back is no enforcer: every offer to it, with every table and header, gets 9
-pub refused-start : (t : List ℕ) (h : Header) (notion : Notion) (n : ℕ) (s : Enforcer) → Starting t h notion (not-started n) s
+pub refused-start : (t : List ℕ) (h : Header) (f : Further) (notion : Notion) (n : ℕ) (s : Enforcer) → Starting t h f notion (not-started n) s
     → (t′ : List ℕ) (h′ : Header) (byte : ℕ) (output : List ℕ) (r : Said) (m : Enforcer) (left : List ℕ) → Offering t′ h′ s byte output r m left → r ≡ refused 9
-refused-start t h notion n s x t′ h′ byte output r m left (Offering.malformed bad) = refl
-refused-start t h notion n s x t′ h′ byte output r m left (Offering.output-too-small so li few) = absurd (outside x (h′ .k) (so .back) li)
-refused-start t h notion n s x t′ h′ byte output r m left (Offering.not-observable so li wide never) = absurd (outside x (h′ .k) (so .back) li)
-refused-start t h notion n s x t′ h′ byte output r m left (Offering.incompatible so li wide ob never) = absurd (outside x (h′ .k) (so .back) li)
-refused-start t h notion n s x t′ h′ byte output r m left (Offering.accepted so li wide ob after bal front rest within exact) = absurd (outside x (h′ .k) (so .back) li)
+refused-start t h f notion n s x t′ h′ byte output r m left (Offering.malformed bad) = refl
+refused-start t h f notion n s x t′ h′ byte output r m left (Offering.output-too-small so li few) = absurd (never s t′ h′ (outside x) so li)
+refused-start t h f notion n s x t′ h′ byte output r m left (Offering.not-observable so li wide ob) = absurd (never s t′ h′ (outside x) so li)
+refused-start t h f notion n s x t′ h′ byte output r m left (Offering.incompatible so li wide ob stuck) = absurd (never s t′ h′ (outside x) so li)
+refused-start t h f notion n s x t′ h′ byte output r m left (Offering.accepted so li wide ob same after bal front rest within exact) = absurd (never s t′ h′ (outside x) so li)
+
+-- where each secret opens as none, none opens as leak 0
+pub never-opens : (notion : Notion) (p : Automaton) (cs : List Secret) → ForEach cs (λ i c. Tells notion p (c .states) (c .k) [] none) → OpensAsLeak notion p cs → ⊥
+never-opens notion p cs tells x =
+    clear-unsure notion p (secretAt cs (x .number) .states) [] 0 (tells (x .number) (x .given) 0 (omega arith) (omega arith)) (x .tells .sure)
+
+-- a place past the count of further secrets counts for nothing: two that differ there alone are answered alike
+pub past-starting : (t : List ℕ) (h : Header) (f g : Further) → clearedOf f ≡ clearedOf g → (notion : Notion) (r : Begun) (s : Enforcer)
+    → Starting t h f notion r s → Starting t h g notion r s
+past-starting t h f g same notion r s (Starting.malformed bad out) = Starting.malformed bad out
+past-starting t h f g same notion r s (Starting.too-many-secrets so many out) = Starting.too-many-secrets so (omega (arith, past-count f g same)) out
+past-starting t h f g same notion r s (Starting.look-back-too-large so few large out) =
+    Starting.look-back-too-large so (omega (arith, past-count f g same)) (past-large f g same large) out
+past-starting t h f g same notion r s (Starting.initial-leak so allowed leaks out) =
+    Starting.initial-leak so (past-allowed f g same allowed) (subst (OpensAsLeak notion (automatonOf t h)) (past-secrets f g same h) leaks) out
+past-starting t h f g same notion r s (Starting.ready so allowed tells is grown) =
+    Starting.ready so (past-allowed f g same allowed)
+    (subst (λ (cs : List Secret). ForEach cs (λ i c. Tells notion (automatonOf t h) (c .states) (c .k) [] none)) (past-secrets f g same h) tells) (is ∙ same) grown
+
+-- and a saved enforcer that differs there alone is within its limits alike, and has grown by the same traces
+abbrev keepsFurther : Enforcer → Further → Enforcer
+keepsFurther s g = record { estimator = withFurther (s .estimator) g; notion = s .notion; count = s .count; pending = s .pending; waits = s .waits }
+
+module _ (t : List ℕ) (h : Header) (s : Enforcer) (g : Further) (same : clearedOf (s .estimator .further) ≡ clearedOf g) where
+  secrets-same : secretsOf h (s .estimator .further) ≡ secretsOf h g
+  secrets-same = past-secrets (s .estimator .further) g same h
+
+  pub past-limits-kept : InLimits h s → InLimits h (keepsFurther s g)
+  past-limits-kept li =
+      record {
+        estimator = past-limits t h (s .estimator) g same (li .estimator);
+        few = subst (λ (cs : List Secret). s .count ≤ largest cs + 1) secrets-same (li .few);
+        small = li .small;
+      }
+
+  pub past-grown-kept : (notion : Notion) (trace : List ℕ) → GrownOn notion t h trace s → GrownOn notion t h trace (keepsFurther s g)
+  past-grown-kept notion trace x =
+      record {
+        limits = past-limits-kept (x .limits);
+        possible = x .possible;
+        estimator = past-grown t h (s .estimator) g same trace (x .estimator);
+        under = x .under;
+        queue = subst (λ (cs : List Secret). Queue (SafeForAll notion (automatonOf t h) cs) trace (s .count) (s .pending) (s .waits)) secrets-same (x .queue);
+        pending-padded = x .pending-padded;
+        waits-padded = x .waits-padded;
+      }

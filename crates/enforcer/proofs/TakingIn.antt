@@ -1,12 +1,12 @@
 -- What one more event makes of an enforcer. Assumes nothing.
-use mathlib.Core.Path.{_≡_, refl, ap, sym, _∙_, subst}
+use mathlib.Core.Path.{_≡_, refl, ap, sym, _∙_}
 use mathlib.Core.List.{List, [], _∷_, _++_}
 use mathlib.Core.Logic.{_⊎_, inl, inr}
 use Prim.Native.Nat.{ℕ, zero, _+_, _≤_, _<_, _-_}
 use native.Mathlib.Omega.{arith}
-use native.Mathlib.Decide.{decLt, decLe}
+use native.Mathlib.Decide.{decLt}
 use lib.ListN.{length, getD, take, drop, length-append, length-drop, List·getD-append}
-use lib.Seq.{length-take-le, take-append-le, take-take, take-all, ext-getD, getD-take, getD-drop, getD-at}
+use lib.Seq.{length-take-le, take-take, ext-getD, getD-take, getD-drop, getD-at}
 use mathlib.Core.Bool.{Bool}
 use Rattle.stateset.specs.Set.{Decided}
 use Rattle.stateset.proofs.Decides.{decided-as}
@@ -14,13 +14,15 @@ use Rattle.automaton.specs.Run.{Automaton, Possible, Sound}
 use Rattle.automaton.specs.declared.Header.{Header}
 use Rattle.verifier.specs.declared.Notion.{Notion}
 use Rattle.verifier.specs.declared.Estimator.{Estimator}
-use Rattle.verifier.specs.Verdicts.{Steps, Tells}
+use Rattle.verifier.specs.declared.Secret.{Secret}
+use Rattle.verifier.specs.Secrets.{ForEach, largest, lookBackOf}
+use Rattle.verifier.specs.Verdicts.{Steps, none, Tells}
 use Rattle.verifier.specs.Estimators as estimators
-use Rattle.enforcer.specs.SafePrefix.{Safe}
-use Rattle.enforcer.specs.Enforcers.{Limits, pendingOf, Padded, Grown}
-use Rattle.enforcer.specs.Inner.{PendingWithin, waitOf, Ready, TookIn}
+use Rattle.enforcer.specs.SafePrefix.{SafeForAll}
+use Rattle.enforcer.specs.Enforcers.{Limits, InLimits, pendingOf, Padded, Grown}
+use Rattle.enforcer.specs.Inner.{PendingWithin, LargestWait, Ready, TookIn}
 use Rattle.enforcer.specs.declared.Enforcer.{Enforcer}
-use Rattle.enforcer.proofs.SafeLaws.{safe-laws, safe-wait, wait-safe}
+use Rattle.enforcer.proofs.ForAll.{safe-for-all-laws, wait-for-all}
 use Rattle.enforcer.proofs.Queueing.{queue-next}
 
 -- the pending events and one more are the front of the array that they were joined in
@@ -87,23 +89,14 @@ took-in K self estimator w byte output f symbols soon pending waits left l16 l17
       };
     }
 
-module _ (notion : Notion) (p : Automaton) (secret K : ℕ) (acc : List ℕ) (self : Enforcer) (estimator : Estimator) (v : Steps) (byte : ℕ) (output : List ℕ) (f : ℕ) (after : Enforcer) (left : List ℕ)
-    (g : Grown notion p secret K acc self) (tells : Tells notion p secret K (acc ++ byte ∷ []) v)
-    (took : TookIn K self estimator (waitOf K v) byte output f after left) where
-  len : length (acc ++ byte ∷ []) ≡ length acc + 1
-  len = length-append acc (byte ∷ [])
-
-  told-next : (k : ℕ) → k ≤ length (acc ++ byte ∷ []) → (u : Steps) × Tells notion p secret K (take k (acc ++ byte ∷ [])) u
-  told-next k h = go (decLe k (length acc))
-    where
-      go : Dec (k ≤ length acc) → (u : Steps) × Tells notion p secret K (take k (acc ++ byte ∷ [])) u
-      go (yes d) =
-          let x = g .told k d in
-          (x .0, subst (λ (l : List ℕ). Tells notion p secret K l (x .0)) (sym (take-append-le k acc (byte ∷ []) d)) (x .1))
-      go (no d) = (v, subst (λ (l : List ℕ). Tells notion p secret K l v) (sym (take-all k (acc ++ byte ∷ []) (omega (arith, len)))) tells)
-
-  pub grown-next : Possible p (acc ++ byte ∷ []) → estimators.Grown p K (acc ++ byte ∷ []) estimator → Limits K after → Grown notion p secret K (acc ++ byte ∷ []) after
+module _ (notion : Notion) (p : Automaton) (cs : List Secret) (acc : List ℕ) (self : Enforcer) (estimator : Estimator) (vs : List Steps) (w byte : ℕ)
+    (output : List ℕ) (f : ℕ) (after : Enforcer) (left : List ℕ) (g : Grown notion p cs acc self)
+    (tells : ForEach cs (λ i c. Tells notion p (c .states) (c .k) (acc ++ byte ∷ []) (getD vs i none))) (most : LargestWait cs vs w)
+    (took : TookIn (largest cs) self estimator w byte output f after left) where
+  pub grown-next : Possible p (acc ++ byte ∷ []) → estimators.Grown p (largest cs) (acc ++ byte ∷ []) estimator → Limits (largest cs) after
+      → Grown notion p cs (acc ++ byte ∷ []) after
   grown-next observed-trace ge la =
+      let l : length (acc ++ byte ∷ []) ≡ length acc + 1 = length-append acc (byte ∷ []) in
       record {
         limits = la;
         possible = observed-trace;
@@ -111,13 +104,12 @@ module _ (notion : Notion) (p : Automaton) (secret K : ℕ) (acc : List ℕ) (se
         waits-padded = took .waits-padded;
         estimator = rw (took .estimator-is) ge;
         under = took .notion-is ∙ g .under;
-        told = λ k h. told-next k h;
-        queue = queue-next K (Safe notion p secret K) (safe-laws notion p secret K) acc (self .count) (self .pending) (self .waits) (waitOf K v) byte f
+        queue = queue-next (largest cs) (SafeForAll notion p cs) (safe-for-all-laws notion p cs) acc (self .count) (self .pending) (self .waits) w byte f
             (after .count) (after .pending) (after .waits) (g .queue)
             (λ m.
-            let l = len in (
-              λ safe. omega (arith, wait-safe notion p secret K (acc ++ byte ∷ []) v tells (length acc + 1 + m) (omega arith) safe),
-              λ low. safe-wait notion p secret K (acc ++ byte ∷ []) v tells (length acc + 1 + m) (omega arith) (omega arith),
+            let x = wait-for-all notion p cs (acc ++ byte ∷ []) vs tells w most (length acc + 1 + m) (omega arith) in (
+              λ safe. omega (arith, x .0 safe),
+              λ low. x .1 (omega arith),
             ))
             (took .shifted);
       }
@@ -144,8 +136,8 @@ pending-decide K s b few d =
 pub limits-joined : (K : ℕ) (s : Enforcer) → estimators.Limits K (s .estimator) → PendingWithin K s → Limits K s
 limits-joined K s li pending = record { estimator = li; few = pending .few; small = pending .small }
 
-pub limits-decide : (t : List ℕ) (h : Header) (s : Enforcer) (b : Bool) → Sound t h → estimators.Limits (h .k) (s .estimator) → Decided b (PendingWithin (h .k) s)
-    → Decided b (Sound t h × Limits (h .k) s)
+pub limits-decide : (t : List ℕ) (h : Header) (s : Enforcer) (b : Bool) → Sound t h → estimators.InLimits h (s .estimator)
+    → Decided b (PendingWithin (lookBackOf h (s .estimator .further)) s) → Decided b (Sound t h × InLimits h s)
 limits-decide t h s b sound li d =
-    decided-as {A = PendingWithin (h .k) s} {B = Sound t h × Limits (h .k) s} b
-    (λ pending. (sound, limits-joined (h .k) s li pending)) (λ both. record { few = both .1 .few; small = both .1 .small }) d
+    decided-as {A = PendingWithin (lookBackOf h (s .estimator .further)) s} {B = Sound t h × InLimits h s} b
+    (λ pending. (sound, limits-joined (lookBackOf h (s .estimator .further)) s li pending)) (λ both. record { few = both .1 .few; small = both .1 .small }) d

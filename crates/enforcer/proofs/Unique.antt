@@ -1,13 +1,15 @@
--- One trace gives one enforcer: its count, its pending events, its waits and its unused places leave no choice. Assumes nothing.
+-- One trace and the same further secrets give one enforcer: its count, its pending events, its waits and its unused places leave no choice. Assumes nothing.
 use mathlib.Core.Path.{_≡_, ap, sym, _∙_, subst}
 use mathlib.Core.List.{List}
-use Prim.Native.Nat.{ℕ, _+_, _-_, _≤_, _<_}
+use Prim.Native.Nat.{ℕ, _-_, _<_}
 use native.Mathlib.Omega.{arith}
 use native.Mathlib.Decide.{decLt}
 use lib.ListN.{length, getD, take, drop}
 use lib.Seq.{ext-getD, getD-take}
 use Rattle.automaton.specs.Run.{Automaton}
 use Rattle.verifier.specs.declared.Notion.{Notion}
+use Rattle.verifier.specs.declared.Secret.{Secret}
+use Rattle.verifier.specs.Secrets.{largest}
 use Rattle.verifier.proofs.Growing as estimators
 use Rattle.enforcer.specs.Queues.{Longest}
 use Rattle.enforcer.specs.Enforcers.{Padded, Grown}
@@ -30,12 +32,12 @@ same-array size used a b x y same = ext-getD 0 a b (x .size-is ∙ sym (y .size-
     go i (yes l) = same i l
     go i (no l) = x .zeros i (omega arith) ∙ sym (y .zeros i (omega arith))
 
-module _ (notion : Notion) (p : Automaton) (secret K : ℕ) (trace : List ℕ) where
-  pub grown-unique : (s r : Enforcer) → Grown notion p secret K trace s → Grown notion p secret K trace r → s ≡ r
-  grown-unique s r g h = λ i. record { estimator = estimator i; notion = under i; count = count i; pending = pending i; waits = waits i }
+module _ (notion : Notion) (p : Automaton) (cs : List Secret) (trace : List ℕ) where
+  pub grown-unique : (s r : Enforcer) → s .estimator .further ≡ r .estimator .further → Grown notion p cs trace s → Grown notion p cs trace r → s ≡ r
+  grown-unique s r same g h = λ i. record { estimator = estimator i; notion = under i; count = count i; pending = pending i; waits = waits i }
     where
       estimator : s .estimator ≡ r .estimator
-      estimator = estimators.grown-unique p K trace (s .estimator) (r .estimator) (g .estimator) (h .estimator)
+      estimator = estimators.grown-unique p (largest cs) trace (s .estimator) (r .estimator) same (g .estimator) (h .estimator)
 
       under : s .notion ≡ r .notion
       under = g .under ∙ sym (h .under)
@@ -52,12 +54,12 @@ module _ (notion : Notion) (p : Automaton) (secret K : ℕ) (trace : List ℕ) w
       pending : s .pending ≡ r .pending
       pending = same-array 16 (s .count) (s .pending) (r .pending) (g .pending-padded) (subst (λ (n : ℕ). Padded 16 n (r .pending)) (sym count) (h .pending-padded)) pending-same
 
-      -- each wait is the least number of further events after which the prefix up to its event is safe
+      -- each wait is the least number of later events after which the prefix up to its event is safe
       waits-same : (i : ℕ) → i < s .count → getD (s .waits) i 0 ≡ getD (r .waits) i 0
       waits-same i l =
-          let same : length trace - s .count ≡ length trace - r .count = ap (λ (n : ℕ). length trace - n) count in
-          let low = g .queue .waits-are i l (getD (r .waits) i 0) .0 (rw same (h .queue .waits-are i (omega (arith, count)) (getD (r .waits) i 0) .1 (omega arith))) in
-          let high = h .queue .waits-are i (omega (arith, count)) (getD (s .waits) i 0) .0 (rw (← same) (g .queue .waits-are i l (getD (s .waits) i 0) .1 (omega arith))) in
+          let shift : length trace - s .count ≡ length trace - r .count = ap (λ (n : ℕ). length trace - n) count in
+          let low = g .queue .waits-are i l (getD (r .waits) i 0) .0 (rw shift (h .queue .waits-are i (omega (arith, count)) (getD (r .waits) i 0) .1 (omega arith))) in
+          let high = h .queue .waits-are i (omega (arith, count)) (getD (s .waits) i 0) .0 (rw (← shift) (g .queue .waits-are i l (getD (s .waits) i 0) .1 (omega arith))) in
           omega arith
 
       waits : s .waits ≡ r .waits

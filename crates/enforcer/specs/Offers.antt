@@ -6,10 +6,12 @@ use lib.ListN.{length, take}
 use Rattle.automaton.specs.Run.{automatonOf, Possible, Impossible, Observable}
 use Rattle.automaton.specs.declared.Header.{Header}
 use Rattle.verifier.specs.declared.Notion.{Notion}
+use Rattle.verifier.specs.declared.Further.{Further}
+use Rattle.verifier.specs.Secrets.{secretsOf, lookBackOf, clearedOf}
 use Rattle.verifier.specs.Calls.{RightSize}
-use Rattle.published.specs.Source.{SafeToOutput}
-use Rattle.enforcer.specs.SafePrefix.{Safe, SafeByRuns, Unsafe}
-use Rattle.enforcer.specs.Enforcers.{Grown}
+use Rattle.published.specs.Source.{SafeToOutputForAll}
+use Rattle.enforcer.specs.SafePrefix.{SafeForAll, SafeForAllByRuns, UnsafeForSome}
+use Rattle.enforcer.specs.Enforcers.{GrownOn}
 use Rattle.enforcer.specs.Offerings.{Said, refused, released, Offering}
 use Rattle.enforcer.specs.declared.Enforcer.{Enforcer}
 
@@ -78,28 +80,29 @@ pub data Each (Judged : List ℕ → Offer → Type 0) : List ℕ → List Offer
   end : {trace : List ℕ} → Each Judged trace []
   more : {trace : List ℕ} {o : Offer} {os : List Offer} → Judged trace o → Each Judged (trace ++ takenBy (o .says) (o .byte)) os → Each Judged trace (o ∷ os)
 
--- the mission's third point, after the offers
-pub record Promise (notion : Notion) (t : List ℕ) (h : Header) (os : List Offer) (e : Enforcer) : Type 0 where
+-- the mission's third point, after the offers to an enforcer that was started with these further secrets (02, S-6)
+pub record Promise (notion : Notion) (t : List ℕ) (h : Header) (f : Further) (os : List Offer) (e : Enforcer) : Type 0 where
   -- the accepted symbols (01: events) are exactly the offered bytes that the refusal table does not turn back; the others got the number that the table
   -- gives. Each accepting answer says how many states are then possible (02, S-5)
   pub accepted : Each (λ trace o. Answered t h trace o (o .says)) [] os
   -- the symbols released so far are a prefix of the accepted ones, in their order
   pub prefix : releasedOf os ≡ take (releasedCount os) (acceptedOf os)
-  -- nobody who reads only the released symbols can be sure of a secret state at most K accepted symbols back: in 01's words, and by runs in hand
-  pub safe : Safe notion (automatonOf t h) (h .secret) (h .k) (releasedOf os) (length (acceptedOf os))
-  pub by-runs : SafeByRuns notion (automatonOf t h) (h .secret) (h .k) (releasedOf os) (length (acceptedOf os))
-  -- every longer prefix would have made somebody sure: it is not safe in 01's words, and somebody is sure
+  -- nobody who reads only the released symbols can be sure of any secret, each by its own K: in 01's words, and by runs in hand
+  pub safe : SafeForAll notion (automatonOf t h) (secretsOf h f) (releasedOf os) (length (acceptedOf os))
+  pub by-runs : SafeForAllByRuns notion (automatonOf t h) (secretsOf h f) (releasedOf os) (length (acceptedOf os))
+  -- every longer prefix would have made somebody sure of at least one of them: it is not safe for all in 01's words, and somebody is sure of one
   pub longest : (r : ℕ) → releasedCount os < r → r ≤ length (acceptedOf os)
-      → Safe notion (automatonOf t h) (h .secret) (h .k) (take r (acceptedOf os)) (length (acceptedOf os)) → ⊥
+      → SafeForAll notion (automatonOf t h) (secretsOf h f) (take r (acceptedOf os)) (length (acceptedOf os)) → ⊥
   pub unsafe : (r : ℕ) → releasedCount os < r → r ≤ length (acceptedOf os)
-      → Unsafe notion (automatonOf t h) (h .secret) (h .k) (take r (acceptedOf os)) (length (acceptedOf os))
-  -- the same by source 000's Definition 12: the released symbols are safe to output, and no longer prefix is
-  pub published : SafeToOutput notion (automatonOf t h) (h .secret) (h .k) (acceptedOf os) (releasedOf os)
+      → UnsafeForSome notion (automatonOf t h) (secretsOf h f) (take r (acceptedOf os)) (length (acceptedOf os))
+  -- the same by source 000's Definition 12: the released symbols are safe to output for every secret, and no longer prefix is
+  pub published : SafeToOutputForAll notion (automatonOf t h) (secretsOf h f) (acceptedOf os) (releasedOf os)
   pub published-longest : (r : ℕ) → releasedCount os < r → r ≤ length (acceptedOf os)
-      → SafeToOutput notion (automatonOf t h) (h .secret) (h .k) (acceptedOf os) (take r (acceptedOf os)) → ⊥
-  -- each accepted symbol is released by the time K + 1 more are accepted
-  pub in-time : (i : ℕ) → suc i + (h .k + 1) ≤ length (acceptedOf os) → i < releasedCount os
+      → SafeToOutputForAll notion (automatonOf t h) (secretsOf h f) (acceptedOf os) (take r (acceptedOf os)) → ⊥
+  -- each accepted symbol is released by the time the largest K plus one more are accepted
+  pub in-time : (i : ℕ) → suc i + (lookBackOf h f + 1) ≤ length (acceptedOf os) → i < releasedCount os
   -- accepted = released + pending
   pub balance : length (acceptedOf os) ≡ releasedCount os + e .count
-  -- and the enforcer is the one of the accepted symbols
-  pub grown : Grown notion (automatonOf t h) (h .secret) (h .k) (acceptedOf os) e
+  -- and the enforcer is the one of the accepted symbols, with the secrets that were given
+  pub same : e .estimator .further ≡ clearedOf f
+  pub grown : GrownOn notion t h (acceptedOf os) e

@@ -3,21 +3,25 @@ use automaton::Refusal;
 use verifier::Answer;
 use verifier::AnswerBy;
 use verifier::Estimator;
+use verifier::Further;
 use verifier::Notion;
 use verifier::Verdict;
+use verifier::VerdictsBy;
 ghost use mathlib.Core.Path.{_≡_};
 ghost use mathlib.Core.List.{_++_};
 ghost use Prim.Native.Nat.{ℕ, _+_, _-_, _≤_, _<_};
 ghost use lib.ListN.{length, getD, take, drop};
 ghost use Rattle.stateset.specs.Set.{Decided};
 ghost use Rattle.automaton.specs.Run.{Sound};
+ghost use Rattle.verifier.specs.Secrets.{secretsOf, Allowed};
 ghost use Rattle.verifier.specs.Verdicts.{stepsOf};
-ghost use Rattle.enforcer.specs.Enforcers.{Limits, Padded};
+ghost use Rattle.verifier.specs.Replies.{stepsEach};
+ghost use Rattle.enforcer.specs.Enforcers.{InLimits, Padded};
 ghost use Rattle.enforcer.specs.declared.OfferAnswer.the-variants as answer;
 ghost use Rattle.enforcer.specs.Offerings.{begun, said, Starting, Offering};
-ghost use Rattle.enforcer.specs.Inner.{PendingWithin, waitOf, Ready, Took};
+ghost use Rattle.enforcer.specs.Inner.{PendingWithin, waitOf, WaitAt, LargestWait, Ready, Took};
 
-// The estimator, the notion, and the pending symbols, the oldest first, each with the number of further ones that it waits for (01: Holder).
+// The estimator, the notion, and the pending symbols, the oldest first, each with the number of later ones that it waits for (01: Holder).
 pub struct Enforcer {
     pub estimator: Estimator,
     pub notion: Notion,
@@ -53,7 +57,7 @@ pub struct Given {
     pub answer: OfferAnswer,
 }
 
-// How many further symbols make a trace with this verdict safe.
+// How many later symbols make a trace with this verdict safe.
 fn wait(k: u8, verdict: Verdict) -> u8
     requires { ⌜ k ≤ 15 ⌝ }
     ensures { λ r. ⌜ r ≡ waitOf k (stepsOf verdict) ⌝ }
@@ -65,6 +69,39 @@ fn wait(k: u8, verdict: Verdict) -> u8
         return 0;
     }
     k + 1 - l
+}
+
+// How many later symbols the secret with a number asks for, by its own K: none where it is not given.
+fn wait_at(header: Header, further: Further, verdict: Verdict, i: u8) -> u8
+    requires { ⌜ (header .k ≤ 15) × Allowed further ⌝ }
+    ensures { λ r. ⌜ WaitAt (secretsOf header further) i (stepsOf verdict) r ⌝ }
+{
+    if further.count < i {
+        return 0;
+    }
+    let secret = verifier::secret_at(header, further, i);
+    wait(secret.k, verdict)
+}
+
+// How many later symbols make a trace with these verdicts safe for all secrets.
+fn longest_wait(header: Header, further: Further, verdicts: VerdictsBy) -> u8
+    requires { ⌜ (header .k ≤ 15) × Allowed further ⌝ }
+    ensures { λ r. ⌜ LargestWait (secretsOf header further) (stepsEach further verdicts) r ⌝ }
+{
+    let own = verdicts.own;
+    let w0 = wait_at(header, further, own, 0);
+    if further.count == 0 {
+        return w0;
+    }
+    let first = verdicts.first;
+    let second = verdicts.second;
+    let third = verdicts.third;
+    let w1 = wait_at(header, further, first, 1);
+    let w2 = wait_at(header, further, second, 2);
+    let w3 = wait_at(header, further, third, 3);
+    let a = automaton::larger(w0, w1);
+    let b = automaton::larger(w2, w3);
+    automaton::larger(a, b)
 }
 
 // Writes the first `count` of the symbols, and one more, to the front of the array that is lent.
@@ -165,11 +202,11 @@ fn write_front(a: &[u8], n: u8, output: &mut [u8])
 }
 
 impl Enforcer {
-    // A fresh enforcer under the notion. One that is refused is outside its limits on every automaton.
-    pub fn start(table: &[u64], header: Header, notion: Notion) -> Start
-        ensures { λ r. ⌜ Starting (now (table .entry)) header notion (begun (r .answer)) (r .enforcer) ⌝ }
+    // A fresh enforcer under the notion, with these further secrets. One that is refused is outside its limits on every automaton.
+    pub fn start(table: &[u64], header: Header, notion: Notion, further: Further) -> Start
+        ensures { λ r. ⌜ Starting (now (table .entry)) header further notion (begun (r .answer)) (r .enforcer) ⌝ }
     {
-        let reply = Estimator::fresh(table, header);
+        let reply = Estimator::fresh(table, header, further);
         let estimator = reply.estimator;
         let answer = reply.answer;
         let none = Enforcer {
@@ -185,13 +222,14 @@ impl Enforcer {
                 answer: StartAnswer::Refused(refusal),
             },
             Answer::Accepted(judgement) => {
-                let verdict = verifier::choose(notion, judgement.verdicts);
-                let Verdict::NoLeak = verdict else {
+                let verdicts = verifier::choose_each(notion, judgement.verdicts);
+                let longest = longest_wait(header, further, verdicts);
+                if longest != 0 { // the wait of a leak 0 is not over, and the empty trace has no other leak
                     return Start {
                         enforcer: none,
                         answer: StartAnswer::Refused(Refusal::InitialLeak),
                     };
-                };
+                }
                 Start {
                     enforcer: Enforcer {
                         estimator: estimator,
@@ -208,13 +246,15 @@ impl Enforcer {
 
     // The table and the header are an automaton, and the enforcer is within its limits.
     pub fn sound(self, table: &[u64], header: Header) -> bool
-        ensures { λ r. ⌜ Decided r (Sound (now (table .entry)) header × Limits (header .k) self) ⌝ }
+        ensures { λ r. ⌜ Decided r (Sound (now (table .entry)) header × InLimits header self) ⌝ }
     {
         let estimator = self.estimator;
         if !estimator.sound(table, header) {
             return false;
         }
-        self.pending_within(header.k)
+        let further = estimator.further;
+        let k = verifier::look_back(header, further);
+        self.pending_within(k)
     }
 
     // The pending symbols are within their limits.
@@ -281,8 +321,8 @@ impl Enforcer {
         }
     }
 
-    // Offers one byte: a symbol that is accepted joins the pending ones, and the longest safe prefix is released to the front of the output. (The table,
-    // the header and the estimator are tested once, by the verifier; where the output is too small, here, since 9 comes before 10.)
+    // Offers one byte: a symbol that is accepted joins the pending ones, and the longest prefix that is safe for all secrets is released to the front of
+    // the output. (The table, the header and the estimator are tested once, by the verifier; where the output is too small, here, since 9 comes before 10.)
     pub fn offer(self, table: &[u64], header: Header, byte: u8, output: &mut [u8]) -> Given
         ensures { λ r. ⌜ Offering (now (table .entry)) header self byte (now (output .entry)) (said (r .answer)) (r .enforcer) (now (output .exit)) ⌝ }
     {
@@ -292,10 +332,12 @@ impl Enforcer {
             }
             return self.refused(Refusal::OutputTooSmall);
         }
-        if !self.pending_within(header.k) {
+        let estimator = self.estimator;
+        let further = estimator.further;
+        let k = verifier::look_back(header, further);
+        if !self.pending_within(k) {
             return self.refused(Refusal::Malformed);
         }
-        let estimator = self.estimator;
         let notion = self.notion;
         let reply = estimator.accept_by(table, header, byte, notion);
         let answer = reply.answer;
@@ -303,9 +345,8 @@ impl Enforcer {
             AnswerBy::Refused(refusal) => self.refused(refusal),
             AnswerBy::Accepted(judgement) => {
                 let next = reply.estimator;
-                let k = header.k;
-                let verdict = judgement.verdict;
-                let w = wait(k, verdict);
+                let verdicts = judgement.verdicts;
+                let w = longest_wait(header, further, verdicts);
                 self.take_in(k, next, w, judgement.size, byte, output)
             }
         }

@@ -1,5 +1,5 @@
 -- Every row of the table holds: the checker computes a check of each row. Assumes nothing.
-use mathlib.Core.Path.{_≡_}
+use mathlib.Core.Path.{_≡_, refl}
 use mathlib.Core.Bool.{not}
 use mathlib.Core.List.{List, [], _∷_, _++_}
 use mathlib.Core.Logic.{inl, inr, ⊎-elim}
@@ -10,6 +10,7 @@ use lib.Dec.{T, T-not}
 use lib.ListN.{length, getD, take, List·getD-eq-default}
 use Rattle.stateset.specs.Set.{bit}
 use Rattle.automaton.specs.Run.{automatonOf, showsBy, Observable, SmallSymbols}
+use Rattle.automaton.specs.Reaching.{EstimateSize}
 use Rattle.automaton.specs.declared.Header.{Header}
 use Rattle.bitfields.specs.Bits.{bitsOf, byteBits, numberAt, numberFrom, setOf}
 use Rattle.bitfields.specs.Parser.{field, flags}
@@ -18,18 +19,22 @@ use Rattle.encoding.specs.Answers.{headerSymbols}
 use Rattle.encoding.specs.Transitions.{Transition}
 use Rattle.verifier.specs.declared.Notion.{Notion}
 use Rattle.verifier.specs.declared.Notion.the-variants.{Weak, Strong}
-use Rattle.verifier.specs.Verdicts.{Steps, none, leak, Tells}
-use Rattle.verifier.specs.Replies.{Said, refused, verdicts, SizeWithin}
+use Rattle.verifier.specs.declared.Secret.{Secret}
+use Rattle.verifier.specs.declared.Further.{Further}
+use Rattle.verifier.specs.Secrets.{furtherOf, secretsOf, secretAt, ForEach, noFurther, Allowed}
+use Rattle.verifier.specs.Verdicts.{Steps, none, leak, Tells, Exactly}
+use Rattle.verifier.specs.Replies.{Told, stepsBy, toldAt, Said, refused, verdicts, SizeWithin}
 use Rattle.verifier.specs.Calls.{Call, takenBy, Right, Answered, AllAnswered}
 use Rattle.verifier.proofs.Exactness.{exactly, right-size}
 use Rattle.enforcer.specs.Offerings.{Begun, started, not-started}
-use Rattle.examples.specs.Meaning.{Question, verdicts-of, answers-after, start-of, releases-of, VerdictsAre, Opened, StartIs, ReleasedIs, EachReleases, Says, Example, Row, about, description, AboutHolds, RowHolds, All}
+use Rattle.enforcer.proofs.ForAll.{only}
+use Rattle.examples.specs.Meaning.{Question, verdicts-of, answers-after, start-of, releases-of, verdicts-of-all, start-for-all, releases-for-all, VerdictsAre, Opened, StartIs, ReleasedIs, EachReleases, VerdictsOfAll, OpenedForAll, StartForAll, ReleasedForAll, Says, Example, Row, about, description, AboutHolds, RowHolds, All}
 use Rattle.examples.specs.StarredRows.{rows, EveryRowHolds}
 use Rattle.examples.proofs.Booleans.{every, sameList, same-list, list-same}
 use Rattle.examples.proofs.Checks.{Check, done, failed, checked, map, then, both, either, by, le?, eq?, all-below, some-below}
 use Rattle.examples.proofs.TableLaw.{inRange, some-table, sound}
 use Rattle.examples.proofs.Descriptions.{description?}
-use Rattle.examples.proofs.NotionChecks.{For, possible?, impossible?, size?, tells?, longest?}
+use Rattle.examples.proofs.NotionChecks.{For, possible?, impossible?, size?, tells?, longest?, tells-each?, opens-as-leak?, longest-for-all?}
 
 all-small : (observable : ℕ) (symbols : List ℕ) → length symbols ≡ 32 → ((e : ℕ) → e < 32 → getD symbols e 0 ≤ 31) → SmallSymbols observable symbols
 all-small observable symbols size small e i =
@@ -59,12 +64,36 @@ symbols? h =
     (both (eq? (length (h .symbols)) 32) (all-below {A = λ e. getD (h .symbols) e 0 ≤ 31} (λ e. le? (getD (h .symbols) e 0) 31) 32))
 
 -- by the definition, so exactly so in 01's words
-right : (t : List ℕ) (h : Header) (trace : List ℕ) (v w : Steps) (n : ℕ) → SizeWithin n → VerdictsAre t h trace v w n → Right t h trace v w n
-right t h trace v w n within told = record {
-  weak = exactly Weak (automatonOf t h) (h .secret) (h .k) trace v (told .weak);
-  strong = exactly Strong (automatonOf t h) (h .secret) (h .k) trace w (told .strong);
+right : (t : List ℕ) (h : Header) (trace : List ℕ) (v : Told) (n : ℕ) → SizeWithin n → VerdictsAre t h trace (v .weak) (v .strong) n → Right t h noFurther trace (v ∷ []) n
+right t h trace v n within told = record {
+  as-many = refl;
+  each = λ notion. only h noFurther refl (λ i c. Exactly notion (automatonOf t h) (c .states) (c .k) trace (toldAt notion (v ∷ []) i)) (own notion);
   size = right-size (automatonOf t h) trace n within (told .size);
 }
+  where
+    own : (notion : Notion) → Exactly notion (automatonOf t h) (h .secret) (h .k) trace (stepsBy notion v)
+    own Weak = exactly Weak (automatonOf t h) (h .secret) (h .k) trace (v .weak) (told .weak)
+    own Strong = exactly Strong (automatonOf t h) (h .secret) (h .k) trace (v .strong) (told .strong)
+
+-- for every secret, by both notions
+right-for-all : (t : List ℕ) (h : Header) (f : Further) (trace : List ℕ) (vs : List Told) (n : ℕ) → length vs ≡ length (secretsOf h f) → SizeWithin n
+    → ForEach (secretsOf h f) (λ i c. Tells Weak (automatonOf t h) (c .states) (c .k) trace (toldAt Weak vs i))
+    → ForEach (secretsOf h f) (λ i c. Tells Strong (automatonOf t h) (c .states) (c .k) trace (toldAt Strong vs i)) → EstimateSize (automatonOf t h) trace n
+    → Right t h f trace vs n
+right-for-all t h f trace vs n as-many within weak strong size = record {
+  as-many = as-many;
+  each = each;
+  size = right-size (automatonOf t h) trace n within size;
+}
+  where
+    each : (notion : Notion) → ForEach (secretsOf h f) (λ i c. Exactly notion (automatonOf t h) (c .states) (c .k) trace (toldAt notion vs i))
+    each Weak i given = exactly Weak (automatonOf t h) _ _ trace _ (weak i given)
+    each Strong i given = exactly Strong (automatonOf t h) _ _ trace _ (strong i given)
+
+abbrev allowed? : (f : Further) → Check (Allowed f)
+allowed? f =
+    map (λ g. record { few = g .0; back = g .1 })
+    (both (le? (f .count) 3) (all-below {A = λ i. secretAt (furtherOf f) i .k ≤ 15} (λ i. le? (secretAt (furtherOf f) i .k) 15) (length (furtherOf f))))
 
 abbrev within? : (n : ℕ) → Check (SizeWithin n)
 within? n = map (λ f. record { some = f .0; most = f .1 }) (both (le? 1 n) (le? n 64))
@@ -78,16 +107,18 @@ module _ (ts : List Transition) (h : Header) (range : T (every inRange ts)) wher
       map (λ f x. record { possible = f .0 x; weak = f .1 .0 x; strong = f .1 .1 .0 x; size = f .1 .1 .1 x })
       (both (possible? ts h range trace) (both (told? Weak trace v) (both (told? Strong trace w) (size? ts h range trace n))))
 
-  abbrev answered? : (trace : List ℕ) (byte : ℕ) (s : Said) → Check (For ts (λ t. Answered t h trace byte s))
+  abbrev answered? : (trace : List ℕ) (byte : ℕ) (s : Said) → Check (For ts (λ t. Answered t h noFurther trace byte s))
   answered? trace byte (refused n) =
       map (λ f x. ⊎-elim (λ a. inl a) (λ b. inr (b .0, b .1 .0, b .1 .1 x)) f)
       (either (both (eq? n 6) (not-observable? h byte))
       (both (eq? n 7) (both (observable? h byte) (impossible? ts h range (trace ++ byte ∷ [])))))
-  answered? trace byte (verdicts v w n) =
-      map (λ f x. (f .0, f .1 .1 x .possible, right (x .table) h (trace ++ byte ∷ []) v w n (f .1 .0) (f .1 .1 x)))
-      (both (observable? h byte) (both (within? n) (verdicts? (trace ++ byte ∷ []) v w n)))
+  answered? trace byte (verdicts [] n) = failed
+  answered? trace byte (verdicts (v ∷ []) n) =
+      map (λ f x. (f .0, f .1 .1 x .possible, right (x .table) h (trace ++ byte ∷ []) v n (f .1 .0) (f .1 .1 x)))
+      (both (observable? h byte) (both (within? n) (verdicts? (trace ++ byte ∷ []) (v .weak) (v .strong) n)))
+  answered? trace byte (verdicts (v ∷ w ∷ vs) n) = failed
 
-  abbrev all-answered? : (calls : List Call) (trace : List ℕ) → Check (For ts (λ t. AllAnswered t h trace calls))
+  abbrev all-answered? : (calls : List Call) (trace : List ℕ) → Check (For ts (λ t. AllAnswered t h noFurther trace calls))
   all-answered? [] trace = done (λ x. AllAnswered.end)
   all-answered? (c ∷ cs) trace =
       map (λ f x. AllAnswered.more (f .0 x) (f .1 x))
@@ -107,15 +138,43 @@ module _ (ts : List Transition) (h : Header) (range : T (every inRange ts)) wher
       (both (by (sameList out (take (length out) trace)) (same-list out (take (length out) trace)))
       (longest? ts h range (h .secret) (h .k) notion trace (length out))))
 
-  abbrev each-releases? : (notion : Notion) (rest : List ℕ) (events : List (List ℕ)) (accepted out : List ℕ)
-      → Check (For ts (λ t. EachReleases t h notion accepted out rest events))
-  each-releases? notion [] [] accepted out = done (λ x. EachReleases.end)
-  each-releases? notion [] (now ∷ later) accepted out = failed
-  each-releases? notion (e ∷ rest) [] accepted out = failed
-  each-releases? notion (e ∷ rest) (now ∷ later) accepted out =
+  abbrev each-releases? : (Released : (t accepted out : List ℕ) → Type 0) → ((accepted out : List ℕ) → Check (For ts (λ t. Released t accepted out)))
+      → (rest : List ℕ) (events : List (List ℕ)) (accepted out : List ℕ) → Check (For ts (λ t. EachReleases h (Released t) accepted out rest events))
+  each-releases? Released check [] [] accepted out = done (λ x. EachReleases.end)
+  each-releases? Released check [] (now ∷ later) accepted out = failed
+  each-releases? Released check (e ∷ rest) [] accepted out = failed
+  each-releases? Released check (e ∷ rest) (now ∷ later) accepted out =
       map (λ f x. EachReleases.more (f .0) (f .1 .0 x) (f .1 .1 x))
       (both (observable? h e)
-      (both (released? notion (accepted ++ e ∷ []) (out ++ now)) (each-releases? notion rest later (accepted ++ e ∷ []) (out ++ now))))
+      (both (check (accepted ++ e ∷ []) (out ++ now)) (each-releases? Released check rest later (accepted ++ e ∷ []) (out ++ now))))
+
+  -- with further secrets
+  abbrev verdicts-of-all? : (f : Further) (trace : List ℕ) (vs : List Told) (n : ℕ) → Check (For ts (λ t. VerdictsOfAll t h f trace vs n))
+  verdicts-of-all? f trace vs n =
+      let cs : List Secret = secretsOf h f in
+      map (λ g x. record {
+        allowed = g .0;
+        possible = g .1 .0 x;
+        right = right-for-all (x .table) h f trace vs n (g .1 .1 .0) (g .1 .1 .1 .0) (g .1 .1 .1 .1 .0 x) (g .1 .1 .1 .1 .1 .0 x) (g .1 .1 .1 .1 .1 .1 x);
+      })
+      (both (allowed? f) (both (possible? ts h range trace) (both (eq? (length vs) (length cs)) (both (within? n)
+      (both (tells-each? ts h range cs Weak trace (toldAt Weak vs)) (both (tells-each? ts h range cs Strong trace (toldAt Strong vs)) (size? ts h range trace n)))))))
+
+  abbrev opened-for-all? : (f : Further) (notion : Notion) (answer : Begun) → Check (For ts (λ t. OpenedForAll t h f notion answer))
+  opened-for-all? f notion started = tells-each? ts h range (secretsOf h f) notion [] (λ i. none)
+  opened-for-all? f notion (not-started n) = map (λ g x. (g .0, g .1 x)) (both (eq? n 8) (opens-as-leak? ts h range (secretsOf h f) notion))
+
+  abbrev start-for-all? : (f : Further) (notion : Notion) (answer : Begun) → Check (For ts (λ t. StartForAll t h f notion answer))
+  start-for-all? f notion answer =
+      map (λ g x. record { allowed = g .0; possible = g .1 .0 x; opened = g .1 .1 x })
+      (both (allowed? f) (both (possible? ts h range []) (opened-for-all? f notion answer)))
+
+  abbrev released-for-all? : (f : Further) (notion : Notion) (trace out : List ℕ) → Check (For ts (λ t. ReleasedForAll t h f notion trace out))
+  released-for-all? f notion trace out =
+      map (λ g x. record { possible = g .0 x; prefix = g .1 .0; longest = g .1 .1 x })
+      (both (possible? ts h range trace)
+      (both (by (sameList out (take (length out) trace)) (same-list out (take (length out) trace)))
+      (longest-for-all? ts h range (secretsOf h f) notion trace (length out))))
 
   abbrev says? : (q : Question) → Check (For ts (λ t. Says t h q))
   says? (verdicts-of trace v w n) = verdicts? trace v w n
@@ -123,7 +182,13 @@ module _ (ts : List Transition) (h : Header) (range : T (every inRange ts)) wher
       map (λ f x. record { possible = f .0 x; answered = f .1 x }) (both (possible? ts h range trace) (all-answered? calls trace))
   says? (start-of notion answer) = start? notion answer
   says? (releases-of notion trace events) =
-      map (λ f x. record { start = f .0 x; each = f .1 x }) (both (start? notion started) (each-releases? notion trace events [] []))
+      map (λ f x. record { start = f .0 x; each = f .1 x })
+      (both (start? notion started) (each-releases? (λ t. ReleasedIs t h notion) (released? notion) trace events [] []))
+  says? (verdicts-of-all f trace vs n) = verdicts-of-all? f trace vs n
+  says? (start-for-all f notion answer) = start-for-all? f notion answer
+  says? (releases-for-all f notion trace events) =
+      map (λ g x. record { start = g .0 x; each = g .1 x })
+      (both (start-for-all? f notion started) (each-releases? (λ t. ReleasedForAll t h f notion) (released-for-all? f notion) trace events [] []))
 
 abbrev about? : (e : Example) (q : Question) → Check (AboutHolds e q)
 about? e q =

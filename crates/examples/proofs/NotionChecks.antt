@@ -14,9 +14,12 @@ use Rattle.automaton.specs.declared.Header.{Header}
 use Rattle.encoding.specs.Transitions.{Transition}
 use Rattle.verifier.specs.declared.Notion.{Notion}
 use Rattle.verifier.specs.declared.Notion.the-variants.{Weak, Strong}
+use Rattle.verifier.specs.declared.Secret.{Secret}
+use Rattle.verifier.specs.Secrets.{secretAt, ForEach}
 use Rattle.verifier.specs.Verdicts.{Steps, none, leak, Sure, Clear, Tells}
-use Rattle.enforcer.specs.SafePrefix.{Excused, Safe, SafeByRuns, Unsafe}
+use Rattle.enforcer.specs.SafePrefix.{Excused, Safe, SafeByRuns, Unsafe, SafeForAll}
 use Rattle.enforcer.specs.Queues.{Longest}
+use Rattle.enforcer.specs.Offerings.{OpensAsLeak}
 use Rattle.enforcer.proofs.SafeLaws.{by-runs-safe, unsafe-not-safe}
 use Rattle.examples.specs.Meaning.{TableOf}
 use Rattle.examples.proofs.Booleans.{every, eq-eqb}
@@ -111,3 +114,38 @@ module _ (ts : List Transition) (h : Header) (range : T (every inRange ts)) wher
           })
           (both (le? r (length trace)) (both (by-runs? notion (take r trace) (length trace))
           (all-below (λ s. where-le (suc r) s (unsafe? notion (take s trace) (length trace))) (suc (length trace)))))
+
+  -- of several secrets, each by its own K
+  module _ (cs : List Secret) where
+    abbrev statesOf : ℕ → ℕ
+    statesOf i = secretAt cs i .states
+
+    abbrev backOf : ℕ → ℕ
+    backOf i = secretAt cs i .k
+
+    abbrev pub tells-each? : (notion : Notion) (trace : List ℕ) (v : ℕ → Steps)
+        → Check (For ts (λ t. ForEach cs (λ i c. Tells notion (automatonOf t h) (c .states) (c .k) trace (v i))))
+    tells-each? notion trace v =
+        map (λ f x i given. f i given x)
+        (all-below {A = λ i. For ts (λ t. Tells notion (automatonOf t h) (statesOf i) (backOf i) trace (v i))} (λ i. tells? (statesOf i) (backOf i) notion trace (v i)) (length cs))
+
+    abbrev pub opens-as-leak? : (notion : Notion) → Check (For ts (λ t. OpensAsLeak notion (automatonOf t h) cs))
+    opens-as-leak? notion =
+        map (λ b x. record { number = b .at; given = b .small; tells = b .holds x })
+        (some-below {A = λ i. For ts (λ t. Tells notion (automatonOf t h) (statesOf i) (backOf i) [] (leak 0))} (λ i. tells? (statesOf i) (backOf i) notion [] (leak 0)) (length cs))
+
+    -- no longer prefix is safe for all: one of them is unsafe
+    abbrev pub longest-for-all? : (notion : Notion) (trace : List ℕ) (r : ℕ) → Check (For ts (λ t. Longest (SafeForAll notion (automatonOf t h) cs) trace r))
+    longest-for-all? notion trace r =
+        map (λ f x. record {
+          within = f .0;
+          safe = record { each = λ i given. by-runs-safe notion (M x) (statesOf i) (backOf i) (take r trace) (length trace) (f .1 .0 i given x) };
+          longest = λ s above short safe.
+              let b = f .1 .1 s (omega arith) above in
+              unsafe-not-safe notion (M x) (statesOf (b .at)) (backOf (b .at)) (take s trace) (length trace) (b .holds x) (safe .each (b .at) (b .small));
+        })
+        (both (le? r (length trace))
+        (both (all-below {A = λ i. For ts (λ t. SafeByRuns notion (automatonOf t h) (statesOf i) (backOf i) (take r trace) (length trace))}
+        (λ i. by-runs? (statesOf i) (backOf i) notion (take r trace) (length trace)) (length cs))
+        (all-below (λ s. where-le (suc r) s (some-below {A = λ i. For ts (λ t. Unsafe notion (automatonOf t h) (statesOf i) (backOf i) (take s trace) (length trace))}
+        (λ i. unsafe? (statesOf i) (backOf i) notion (take s trace) (length trace)) (length cs))) (suc (length trace)))))

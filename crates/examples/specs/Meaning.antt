@@ -1,4 +1,5 @@
--- What a row of the table says: an automaton as 01 writes it, a question with its answer, and the statement over runs for which they stand.
+-- What a row of the table says: an automaton as 01 writes it, a question with its answer, and the statement over runs for which they stand. Where
+-- no further secrets are named the automaton's own is the only one.
 use mathlib.Core.Path.{_≡_}
 use mathlib.Core.List.{List, [], _∷_, _++_}
 use Prim.Native.Nat.{ℕ}
@@ -14,11 +15,14 @@ use Rattle.bitfields.specs.Bits.{bitsOf}
 use Rattle.bitfields.specs.Parser.{Parsed, done, refused}
 use Rattle.verifier.specs.declared.Notion.{Notion}
 use Rattle.verifier.specs.declared.Notion.the-variants.{Weak, Strong}
+use Rattle.verifier.specs.declared.Further.{Further}
+use Rattle.verifier.specs.Secrets.{secretsOf, ForEach, noFurther, Allowed}
 use Rattle.verifier.specs.Verdicts.{Steps, none, leak, Tells}
-use Rattle.verifier.specs.Calls.{Call, AllAnswered}
-use Rattle.enforcer.specs.SafePrefix.{Safe}
+use Rattle.verifier.specs.Replies.{Told}
+use Rattle.verifier.specs.Calls.{Call, Right, AllAnswered}
+use Rattle.enforcer.specs.SafePrefix.{Safe, SafeForAll}
 use Rattle.enforcer.specs.Queues.{Longest}
-use Rattle.enforcer.specs.Offerings.{Begun, started, not-started}
+use Rattle.enforcer.specs.Offerings.{Begun, started, not-started, OpensAsLeak}
 
 -- an automaton: its transitions as they are listed, and its header
 pub record Example : Type 0 where
@@ -34,6 +38,10 @@ pub data Question : Type 0 where
   start-of : Notion → Begun → Question
   -- the symbols that an enforcer releases with each symbol of a trace
   releases-of : Notion → (trace : List ℕ) → List (List ℕ) → Question
+  -- so with further secrets (02, S-6): two verdicts for each, the automaton's own first; a start; and what an enforcer releases
+  verdicts-of-all : Further → (trace : List ℕ) → List Told → (size : ℕ) → Question
+  start-for-all : Further → Notion → Begun → Question
+  releases-for-all : Further → Notion → (trace : List ℕ) → List (List ℕ) → Question
 
 -- the verdicts and the number of possible states are those of the definition; some run is compatible with the trace, so that no leak is an empty
 -- statement
@@ -46,7 +54,7 @@ pub record VerdictsAre (t : List ℕ) (h : Header) (trace : List ℕ) (v w : Ste
 -- each byte gets the answer that the verifier owes it after the bytes accepted before it; a refused byte is not one of these
 pub record AnswersAre (t : List ℕ) (h : Header) (trace : List ℕ) (calls : List Call) : Type 0 where
   pub possible : Possible (automatonOf t h) trace
-  pub answered : AllAnswered t h trace calls
+  pub answered : AllAnswered t h noFurther trace calls
 
 -- a start is refused with 8 where the empty trace has leak 0, and gives an enforcer where it has none
 abbrev pub Opened : List ℕ → Header → Notion → Begun → Type 0
@@ -63,22 +71,52 @@ pub record ReleasedIs (t : List ℕ) (h : Header) (notion : Notion) (trace out :
   pub prefix : out ≡ take (length out) trace
   pub longest : Longest (Safe notion (automatonOf t h) (h .secret) (h .k)) trace (length out)
 
--- after the accepted symbols, of which `out` are released, each symbol of the rest is accepted in turn and releases what stands at its place
-pub data EachReleases (t : List ℕ) (h : Header) (notion : Notion) : (accepted out rest : List ℕ) → List (List ℕ) → Type 0 where
-  end : {accepted out : List ℕ} → EachReleases t h notion accepted out [] []
-  more : {accepted out rest now : List ℕ} {e : ℕ} {later : List (List ℕ)} → Observable h e → ReleasedIs t h notion (accepted ++ e ∷ []) (out ++ now)
-      → EachReleases t h notion (accepted ++ e ∷ []) (out ++ now) rest later → EachReleases t h notion accepted out (e ∷ rest) (now ∷ later)
+-- after the accepted symbols, of which `out` are released, each symbol of the rest is accepted in turn and releases what stands at its place. `Released`
+-- says which symbols of the accepted ones are released
+pub data EachReleases (h : Header) (Released : (accepted out : List ℕ) → Type 0) : (accepted out rest : List ℕ) → List (List ℕ) → Type 0 where
+  end : {accepted out : List ℕ} → EachReleases h Released accepted out [] []
+  more : {accepted out rest now : List ℕ} {e : ℕ} {later : List (List ℕ)} → Observable h e → Released (accepted ++ e ∷ []) (out ++ now)
+      → EachReleases h Released (accepted ++ e ∷ []) (out ++ now) rest later → EachReleases h Released accepted out (e ∷ rest) (now ∷ later)
 
 -- and the enforcer does start
 pub record ReleasesAre (t : List ℕ) (h : Header) (notion : Notion) (trace : List ℕ) (events : List (List ℕ)) : Type 0 where
   pub start : StartIs t h notion started
-  pub each : EachReleases t h notion [] [] trace events
+  pub each : EachReleases h (ReleasedIs t h notion) [] [] trace events
+
+-- with further secrets, which may be given: the verdicts and the number are those of the definition
+pub record VerdictsOfAll (t : List ℕ) (h : Header) (f : Further) (trace : List ℕ) (vs : List Told) (n : ℕ) : Type 0 where
+  pub allowed : Allowed f
+  pub possible : Possible (automatonOf t h) trace
+  pub right : Right t h f trace vs n
+
+-- a start is refused with 8 where some secret opens as leak 0, and gives an enforcer where none leaks
+abbrev pub OpenedForAll : List ℕ → Header → Further → Notion → Begun → Type 0
+OpenedForAll t h f notion started = ForEach (secretsOf h f) (λ i c. Tells notion (automatonOf t h) (c .states) (c .k) [] none)
+OpenedForAll t h f notion (not-started n) = (n ≡ 8) × OpensAsLeak notion (automatonOf t h) (secretsOf h f)
+
+pub record StartForAll (t : List ℕ) (h : Header) (f : Further) (notion : Notion) (answer : Begun) : Type 0 where
+  pub allowed : Allowed f
+  pub possible : Possible (automatonOf t h) []
+  pub opened : OpenedForAll t h f notion answer
+
+-- the symbols `out` are the longest prefix of the accepted trace that is safe for every secret
+pub record ReleasedForAll (t : List ℕ) (h : Header) (f : Further) (notion : Notion) (trace out : List ℕ) : Type 0 where
+  pub possible : Possible (automatonOf t h) trace
+  pub prefix : out ≡ take (length out) trace
+  pub longest : Longest (SafeForAll notion (automatonOf t h) (secretsOf h f)) trace (length out)
+
+pub record ReleasesForAll (t : List ℕ) (h : Header) (f : Further) (notion : Notion) (trace : List ℕ) (events : List (List ℕ)) : Type 0 where
+  pub start : StartForAll t h f notion started
+  pub each : EachReleases h (ReleasedForAll t h f notion) [] [] trace events
 
 abbrev pub Says : List ℕ → Header → Question → Type 0
 Says t h (verdicts-of trace weak strong size) = VerdictsAre t h trace weak strong size
 Says t h (answers-after trace calls) = AnswersAre t h trace calls
 Says t h (start-of notion answer) = StartIs t h notion answer
 Says t h (releases-of notion trace events) = ReleasesAre t h notion trace events
+Says t h (verdicts-of-all f trace vs size) = VerdictsOfAll t h f trace vs size
+Says t h (start-for-all f notion answer) = StartForAll t h f notion answer
+Says t h (releases-for-all f notion trace events) = ReleasesForAll t h f notion trace events
 
 -- what a description says: an automaton, or the number of a refusal
 pub data Contents : Type 0 where

@@ -1,15 +1,16 @@
 -- The starred examples of 01's section "Feeds to try" as one table, with the numbers of possible states (02, S-5: for P's four lines 2, 2, 2, 1), and
--- examples for 02's S-2.
+-- examples for 02's S-2 and S-6.
 use mathlib.Core.List.{List, [], _∷_, _++_}
 use lib.ListN.{take, replicate}
 use Prim.Native.Nat.{ℕ, _+_, _^_}
 use Rattle.encoding.specs.Transitions.{Transition}
 use Rattle.verifier.specs.declared.Notion.the-variants.{Weak, Strong}
-use Rattle.verifier.specs.Verdicts.{none, leak}
-use Rattle.verifier.specs.Replies.{Said, refused, verdicts}
+use Rattle.verifier.specs.declared.Further.{Further}
+use Rattle.verifier.specs.Verdicts.{Steps, none, leak}
+use Rattle.verifier.specs.Replies.{Told, Said, refused, verdicts}
 use Rattle.verifier.specs.Calls.{Call}
 use Rattle.enforcer.specs.Offerings.{started, not-started}
-use Rattle.examples.specs.Meaning.{Example, verdicts-of, answers-after, start-of, releases-of, automaton, refusal, Row, about, description, All}
+use Rattle.examples.specs.Meaning.{Example, verdicts-of, answers-after, start-of, releases-of, verdicts-of-all, start-for-all, releases-for-all, automaton, refusal, Row, about, description, All}
 
 abbrev pub transition : (from event to : ℕ) → Transition
 transition from event to = record { from = from; event = event; to = to }
@@ -67,6 +68,20 @@ PSymbols = record { transitions = P 2 .transitions; header = record { initial = 
 abbrev pub call : ℕ → Said → Call
 call byte says = record { byte = byte; says = says }
 
+-- the two verdicts of a secret; and of the one secret
+abbrev pub pair : (weak strong : Steps) → Told
+pair weak strong = record { weak = weak; strong = strong }
+
+abbrev pub told : (weak strong : Steps) → List Told
+told weak strong = pair weak strong ∷ []
+
+-- one further secret, number 1; and two of them, numbers 1 and 2, with the same states
+abbrev pub oneFurther : (states k : ℕ) → Further
+oneFurther states k = record { states = states ∷ 0 ∷ 0 ∷ []; k = k ∷ 0 ∷ 0 ∷ []; count = 1 }
+
+abbrev pub twoFurther : (states first second : ℕ) → Further
+twoFurther states first second = record { states = states ∷ states ∷ 0 ∷ []; k = first ∷ second ∷ 0 ∷ []; count = 2 }
+
 -- Q's description, its fourth and its last byte given; and P's
 abbrev pub q-bytes : ℕ → ℕ → List ℕ
 q-bytes fourth last = 0x08 ∷ 0x22 ∷ 0x00 ∷ fourth ∷ 0x48 ∷ 0x01 ∷ 0x04 ∷ 0x10 ∷ last ∷ []
@@ -91,7 +106,7 @@ rows =
     ∷ about (P 2) (verdicts-of (1 ∷ 2 ∷ 1 ∷ []) (leak 2) (leak 2) 2)
     ∷ about (P 2) (verdicts-of (1 ∷ 2 ∷ 1 ∷ 1 ∷ []) none none 1)
     -- refused with 7, then as after 1 2 1
-    ∷ about (P 2) (answers-after (1 ∷ 2 ∷ []) (call 2 (refused 7) ∷ call 1 (verdicts (leak 2) (leak 2) 2) ∷ []))
+    ∷ about (P 2) (answers-after (1 ∷ 2 ∷ []) (call 2 (refused 7) ∷ call 1 (verdicts (told (leak 2) (leak 2)) 2) ∷ []))
     ∷ about (P 2) (answers-after (1 ∷ 2 ∷ []) (call 0 (refused 6) ∷ call 200 (refused 6) ∷ []))
     ∷ about (P 1) (releases-of Weak (1 ∷ 2 ∷ 1 ∷ 1 ∷ []) ((1 ∷ []) ∷ [] ∷ (2 ∷ 1 ∷ []) ∷ (1 ∷ []) ∷ []))
     ∷ about (P 0) (releases-of Weak (1 ∷ 2 ∷ 1 ∷ 1 ∷ []) ((1 ∷ []) ∷ (2 ∷ []) ∷ (1 ∷ []) ∷ (1 ∷ []) ∷ []))
@@ -115,7 +130,7 @@ rows =
     ∷ about (Pumps 0 1) (verdicts-of (0 ∷ []) (leak 0) (leak 0) 1)
     ∷ about (Pumps 7 7) (verdicts-of (7 ∷ []) none none 2)
     -- 6 is judged by the symbols: an event's number that is none is refused
-    ∷ about (Pumps 7 7) (answers-after [] (call 0 (refused 6) ∷ call 7 (verdicts none none 2) ∷ call 7 (refused 7) ∷ []))
+    ∷ about (Pumps 7 7) (answers-after [] (call 0 (refused 6) ∷ call 7 (verdicts (told none none) 2) ∷ call 7 (refused 7) ∷ []))
     ∷ about (Pumps 7 7) (releases-of Weak (7 ∷ []) ((7 ∷ []) ∷ []))
     -- without symbols; with one symbol for both; cut inside the first symbol
     ∷ description (0x08 ∷ 0x20 ∷ 0x00 ∷ 0x04 ∷ 0x58 ∷ 0x00 ∷ 0x04 ∷ 0x00 ∷ 0x84 ∷ []) (automaton (Pumps 0 1))
@@ -126,6 +141,20 @@ rows =
     ∷ about Later (releases-of Weak (7 ∷ 3 ∷ 7 ∷ 7 ∷ []) ((7 ∷ []) ∷ [] ∷ [] ∷ (3 ∷ 7 ∷ 7 ∷ []) ∷ []))
     ∷ about PSymbols (verdicts-of (2 ∷ 0 ∷ 2 ∷ []) (leak 2) (leak 2) 2)
     ∷ description p-symbols-bytes (automaton PSymbols)
+    -- P's own secret leaks and number 1 does not; one event later it is number 1 that leaks, and it alone
+    ∷ about (P 2) (verdicts-of-all (oneFurther (2 ^ 3) 0) (1 ∷ 2 ∷ 1 ∷ []) (pair (leak 2) (leak 2) ∷ pair none none ∷ []) 2)
+    ∷ about (P 2) (verdicts-of-all (oneFurther (2 ^ 3) 0) (1 ∷ 2 ∷ 1 ∷ 1 ∷ []) (pair none none ∷ pair (leak 0) (leak 0) ∷ []) 1)
+    -- the same states three times: each is judged by its own K, 2, 0 and 1
+    ∷ about (P 2) (verdicts-of-all (twoFurther (2 ^ 1) 0 1) (1 ∷ 2 ∷ []) (pair (leak 1) (leak 1) ∷ pair none none ∷ pair (leak 1) (leak 1) ∷ []) 2)
+    -- a start that number 1 alone has refused
+    ∷ about (P 2) (verdicts-of-all (oneFurther (2 ^ 0 + 2 ^ 2) 0) [] (pair none none ∷ pair (leak 0) (leak 0) ∷ []) 2)
+    ∷ about (P 2) (start-for-all (oneFurther (2 ^ 0 + 2 ^ 2) 0) Weak (not-started 8))
+    ∷ about (P 2) (start-for-all (oneFurther (2 ^ 0 + 2 ^ 2) 0) Strong (not-started 8))
+    -- P's own secret keeps symbol 2 back, and number 1 the last 1
+    ∷ about (P 1) (releases-for-all (oneFurther (2 ^ 3) 0) Weak (1 ∷ 2 ∷ 1 ∷ 1 ∷ []) ((1 ∷ []) ∷ [] ∷ (2 ∷ 1 ∷ []) ∷ [] ∷ []))
+    ∷ about (P 1) (releases-for-all (oneFurther (2 ^ 3) 0) Strong (1 ∷ 2 ∷ 1 ∷ 1 ∷ []) ((1 ∷ []) ∷ [] ∷ (2 ∷ 1 ∷ []) ∷ [] ∷ []))
+    -- and number 1, with a larger K, what P's own secret would let go
+    ∷ about (P 0) (releases-for-all (oneFurther (2 ^ 1) 1) Weak (1 ∷ 2 ∷ 1 ∷ []) ((1 ∷ []) ∷ [] ∷ (2 ∷ 1 ∷ []) ∷ []))
     ∷ []
 
 -- the statement; the proof is every-row-holds of proofs/EveryRow

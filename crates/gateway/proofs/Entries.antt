@@ -1,7 +1,7 @@
 -- What each function of the interface answers and leaves, from what the crates below promise and the bytes that were read and written. Assumes nothing.
 use Prim.Native.Nat.{ℕ}
 use mathlib.Core.Path.{_≡_, refl, sym, subst, _∙_}
-use mathlib.Core.List.{List}
+use mathlib.Core.List.{List, [], _∷_, _++_, map}
 use lib.ListN.{length}
 use lib.Seq.{sets}
 use Rattle.automaton.specs.Refusals.{numberOf}
@@ -10,21 +10,22 @@ use Rattle.automaton.specs.declared.Refusal.{Refusal}
 use Rattle.encoding.specs.Decoding as decoding
 use Rattle.encoding.specs.Decoding.{Decoding, answerMeans}
 use Rattle.encoding.specs.declared.Answer as decoded
-use Rattle.verifier.specs.Verdicts.{stepsOf}
 use Rattle.verifier.specs.declared.Notion.{Notion}
+use Rattle.verifier.specs.declared.Further.{Further}
 use Rattle.verifier.specs.declared.Estimator.{Estimator}
 use Rattle.verifier.specs.declared.Judgement.{Judgement}
 use Rattle.verifier.specs.declared.Answer as verdict
 use Rattle.verifier.specs.Replies as verifier
-use Rattle.verifier.specs.Replies.{Opening, Accepting}
+use Rattle.verifier.specs.Replies.{toldOf, numbered, toldEach, OthersNoLeak, Opening, Accepting}
+use Rattle.verifier.proofs.Judging.{told-others}
 use Rattle.enforcer.specs.Offerings as offering
 use Rattle.enforcer.specs.Offerings.{Starting, Offering}
 use Rattle.enforcer.specs.declared.Enforcer.{Enforcer}
 use Rattle.enforcer.specs.declared.Release.{Release}
 use Rattle.enforcer.specs.declared.StartAnswer as start
 use Rattle.enforcer.specs.declared.OfferAnswer as offer
-use Rattle.gateway.specs.Layout.{headerAt, headerBytes, estimatorAt, estimatorBytes, EstimatorSized, EnforcerSized, notionAt, enforcerAt, enforcerBytes, judgementBytes, releaseBytes}
-use Rattle.gateway.specs.Interface.{Decode, Fresh, Accept, Start, Offer, VerifierSizes, StartSizes, OfferSizes}
+use Rattle.gateway.specs.Layout.{headerAt, headerBytes, furtherAt, estimatorAt, estimatorBytes, EstimatorSized, EnforcerSized, notionAt, enforcerAt, enforcerBytes, toldBytes, judgementBytes, releaseBytes}
+use Rattle.gateway.specs.Interface.{Decode, FreshSizes, Fresh, Accept, Start, Offer, VerifierSizes, StartSizes, OfferSizes}
 use Rattle.gateway.proofs.Saved.{whole}
 use Rattle.gateway.proofs.Inverse.{estimator-length, estimator-saved, enforcer-saved}
 
@@ -53,9 +54,14 @@ module _ (encoding table header after : List ℕ) (h : Header) (answer : decoded
       subst (λ (x : List ℕ). Decode encoding table header 0 after x) (sym wrote)
       (Decode.accepted size (subst (λ (x : decoded.Answer). Decoding encoding table h (answerMeans x) after) is did))
 
--- the judgement that was written
-abbrev toldBytes : Judgement → List ℕ
-toldBytes j = judgementBytes (stepsOf (j .verdicts .weak)) (stepsOf (j .verdicts .strong)) (j .size)
+-- the judgement that was written: of all four places, of which those that are not given hold none
+abbrev writtenBytes : Judgement → List ℕ
+writtenBytes j = judgementBytes (map toldOf (numbered (j .verdicts))) (j .size)
+
+given-bytes : (f : Further) (j : Judgement) → OthersNoLeak f (j .verdicts) → writtenBytes j ≡ judgementBytes (toldEach f (j .verdicts)) (j .size)
+given-bytes f j others =
+    let e = told-others f (j .verdicts) others in
+    sym (λ i. toldBytes (e 0 i) ++ (toldBytes (e 1 i) ++ (toldBytes (e 2 i) ++ (toldBytes (e 3 i) ++ j .size ∷ []))))
 
 module _ (t header estimator judgement : List ℕ) (h : Header) (after : Estimator) (answer : verdict.Answer) (sizes : VerifierSizes header estimator judgement)
     (is-header : h ≡ headerAt header) where
@@ -63,49 +69,63 @@ module _ (t header estimator judgement : List ℕ) (h : Header) (after : Estimat
   filled : (left : List ℕ) → EstimatorSized after × (left ≡ sets estimator 0 (estimatorBytes after)) → left ≡ estimatorBytes after
   filled left wrote = wrote .1 ∙ whole estimator (estimatorBytes after) (estimator-length after (wrote .0) ∙ sym (sizes .estimator-size))
 
-  module _ (did : Opening t h (verifier.said answer) after) where
-    said-opening : (x : verdict.Answer) → answer ≡ x → Opening t (headerAt header) (verifier.said x) after
-    said-opening x is = subst (λ (y : verdict.Answer). Opening t (headerAt header) (verifier.said y) after) is (subst (λ (y : Header). Opening t y (verifier.said answer) after) is-header did)
+  module _ (further : List ℕ) (f : Further) (all : FreshSizes header further estimator judgement) (is-further : f ≡ furtherAt further 0)
+      (did : Opening t h f (verifier.said f answer) after × verifier.Others f answer) where
+    said-opening : (x : verdict.Answer) → answer ≡ x
+        → Opening t (headerAt header) (furtherAt further 0) (verifier.said (furtherAt further 0) x) after × verifier.Others (furtherAt further 0) x
+    said-opening x is =
+        subst (λ (y : verdict.Answer). Opening t (headerAt header) (furtherAt further 0) (verifier.said (furtherAt further 0) y) after × verifier.Others (furtherAt further 0) y) is
+        (subst (λ (y : Further). Opening t (headerAt header) y (verifier.said y answer) after × verifier.Others y answer) is-further
+        (subst (λ (y : Header). Opening t y f (verifier.said f answer) after × verifier.Others f answer) is-header did))
 
-    pub fresh-refused : (r : Refusal) (n : ℕ) → answer ≡ verdict.the-variants.Refused r → n ≡ numberOf r → Fresh t header estimator judgement n estimator judgement
-    fresh-refused r n is number = rw number (Fresh.refused sizes (said-opening (verdict.the-variants.Refused r) is))
+    pub fresh-refused : (r : Refusal) (n : ℕ) → answer ≡ verdict.the-variants.Refused r → n ≡ numberOf r → Fresh t header further estimator judgement n estimator judgement
+    fresh-refused r n is number = rw number (Fresh.refused all (said-opening (verdict.the-variants.Refused r) is .0))
 
     pub fresh-accepted : (j : Judgement) (left told : List ℕ) → answer ≡ verdict.the-variants.Accepted j
-        → EstimatorSized after × (left ≡ sets estimator 0 (estimatorBytes after)) → told ≡ toldBytes j → Fresh t header estimator judgement 0 left told
+        → EstimatorSized after × (left ≡ sets estimator 0 (estimatorBytes after)) → told ≡ writtenBytes j → Fresh t header further estimator judgement 0 left told
     fresh-accepted j left told is wrote says =
-        subst (λ (x : List ℕ). Fresh t header estimator judgement 0 x told) (sym (filled left wrote))
-        (subst (λ (x : List ℕ). Fresh t header estimator judgement 0 (estimatorBytes after) x) (sym says) (Fresh.accepted sizes (said-opening (verdict.the-variants.Accepted j) is) (estimator-saved after (wrote .0))))
+        let x = said-opening (verdict.the-variants.Accepted j) is in
+        subst (λ (y : List ℕ). Fresh t header further estimator judgement 0 y told) (sym (filled left wrote))
+        (subst (λ (y : List ℕ). Fresh t header further estimator judgement 0 (estimatorBytes after) y) (sym (says ∙ given-bytes (furtherAt further 0) j (x .1)))
+        (Fresh.accepted all (x .0) (estimator-saved after (wrote .0))))
 
-  module _ (symbol : ℕ) (s : Estimator) (is-estimator : s ≡ estimatorAt estimator) (did : Accepting t h s symbol (verifier.said answer) after) where
-    said-accepting : (x : verdict.Answer) → answer ≡ x → Accepting t (headerAt header) (estimatorAt estimator) symbol (verifier.said x) after
+  module _ (symbol : ℕ) (s : Estimator) (is-estimator : s ≡ estimatorAt estimator)
+      (did : Accepting t h s symbol (verifier.said (s .further) answer) after × verifier.Others (s .further) answer) where
+    said-accepting : (x : verdict.Answer) → answer ≡ x
+        → Accepting t (headerAt header) (estimatorAt estimator) symbol (verifier.said (estimatorAt estimator .further) x) after × verifier.Others (estimatorAt estimator .further) x
     said-accepting x is =
-        subst (λ (y : verdict.Answer). Accepting t (headerAt header) (estimatorAt estimator) symbol (verifier.said y) after) is
-        (subst (λ (y : Estimator). Accepting t (headerAt header) y symbol (verifier.said answer) after) is-estimator
-        (subst (λ (y : Header). Accepting t y s symbol (verifier.said answer) after) is-header did))
+        subst (λ (y : verdict.Answer). Accepting t (headerAt header) (estimatorAt estimator) symbol (verifier.said (estimatorAt estimator .further) y) after × verifier.Others (estimatorAt estimator .further) y) is
+        (subst (λ (y : Estimator). Accepting t (headerAt header) y symbol (verifier.said (y .further) answer) after × verifier.Others (y .further) answer) is-estimator
+        (subst (λ (y : Header). Accepting t y s symbol (verifier.said (s .further) answer) after × verifier.Others (s .further) answer) is-header did))
 
     pub accept-refused : (r : Refusal) (n : ℕ) → answer ≡ verdict.the-variants.Refused r → n ≡ numberOf r → Accept t header symbol estimator judgement n estimator judgement
-    accept-refused r n is number = rw number (Accept.refused sizes (said-accepting (verdict.the-variants.Refused r) is))
+    accept-refused r n is number = rw number (Accept.refused sizes (said-accepting (verdict.the-variants.Refused r) is .0))
 
     pub accept-accepted : (j : Judgement) (left told : List ℕ) → answer ≡ verdict.the-variants.Accepted j
-        → EstimatorSized after × (left ≡ sets estimator 0 (estimatorBytes after)) → told ≡ toldBytes j → Accept t header symbol estimator judgement 0 left told
+        → EstimatorSized after × (left ≡ sets estimator 0 (estimatorBytes after)) → told ≡ writtenBytes j → Accept t header symbol estimator judgement 0 left told
     accept-accepted j left told is wrote says =
-        subst (λ (x : List ℕ). Accept t header symbol estimator judgement 0 x told) (sym (filled left wrote))
-        (subst (λ (x : List ℕ). Accept t header symbol estimator judgement 0 (estimatorBytes after) x) (sym says) (Accept.accepted sizes (said-accepting (verdict.the-variants.Accepted j) is) (estimator-saved after (wrote .0))))
+        let x = said-accepting (verdict.the-variants.Accepted j) is in
+        subst (λ (y : List ℕ). Accept t header symbol estimator judgement 0 y told) (sym (filled left wrote))
+        (subst (λ (y : List ℕ). Accept t header symbol estimator judgement 0 (estimatorBytes after) y) (sym (says ∙ given-bytes (estimatorAt estimator .further) j (x .1)))
+        (Accept.accepted sizes (x .0) (estimator-saved after (wrote .0))))
 
-module _ (t header : List ℕ) (byte : ℕ) (saved : List ℕ) (h : Header) (notion : Notion) (after : Enforcer) (answer : start.StartAnswer) (sizes : StartSizes header byte saved)
-    (is-header : h ≡ headerAt header) (is-notion : notion ≡ notionAt byte) (did : Starting t h notion (offering.begun answer) after) where
-  begun-starting : (x : start.StartAnswer) → answer ≡ x → Starting t (headerAt header) (notionAt byte) (offering.begun x) after
+module _ (t header : List ℕ) (byte : ℕ) (further saved : List ℕ) (h : Header) (notion : Notion) (f : Further) (after : Enforcer) (answer : start.StartAnswer)
+    (sizes : StartSizes header byte further saved) (is-header : h ≡ headerAt header) (is-notion : notion ≡ notionAt byte) (is-further : f ≡ furtherAt further 0)
+    (did : Starting t h f notion (offering.begun answer) after) where
+  begun-starting : (x : start.StartAnswer) → answer ≡ x → Starting t (headerAt header) (furtherAt further 0) (notionAt byte) (offering.begun x) after
   begun-starting x is =
-      subst (λ (y : start.StartAnswer). Starting t (headerAt header) (notionAt byte) (offering.begun y) after) is
-      (subst (λ (y : Notion). Starting t (headerAt header) y (offering.begun answer) after) is-notion
-      (subst (λ (y : Header). Starting t y notion (offering.begun answer) after) is-header did))
+      subst (λ (y : start.StartAnswer). Starting t (headerAt header) (furtherAt further 0) (notionAt byte) (offering.begun y) after) is
+      (subst (λ (y : Further). Starting t (headerAt header) y (notionAt byte) (offering.begun answer) after) is-further
+      (subst (λ (y : Notion). Starting t (headerAt header) f y (offering.begun answer) after) is-notion
+      (subst (λ (y : Header). Starting t y f notion (offering.begun answer) after) is-header did)))
 
-  pub start-refused : (r : Refusal) (n : ℕ) → answer ≡ start.the-variants.Refused r → n ≡ numberOf r → Start t header byte saved n saved
+  pub start-refused : (r : Refusal) (n : ℕ) → answer ≡ start.the-variants.Refused r → n ≡ numberOf r → Start t header byte further saved n saved
   start-refused r n is number = rw number (Start.refused sizes (begun-starting (start.the-variants.Refused r) is))
 
-  pub start-started : (left : List ℕ) → answer ≡ start.the-variants.Started → EnforcerSized after × (left ≡ enforcerBytes after) → Start t header byte saved 0 left
+  pub start-started : (left : List ℕ) → answer ≡ start.the-variants.Started → EnforcerSized after × (left ≡ enforcerBytes after) → Start t header byte further saved 0 left
   start-started left is wrote =
-      subst (λ (x : List ℕ). Start t header byte saved 0 x) (sym (wrote .1)) (Start.started sizes (begun-starting start.the-variants.Started is) (enforcer-saved after (wrote .0)))
+      subst (λ (x : List ℕ). Start t header byte further saved 0 x) (sym (wrote .1))
+      (Start.started sizes (begun-starting start.the-variants.Started is) (enforcer-saved after (wrote .0)))
 
 module _ (t header : List ℕ) (symbol : ℕ) (saved output release out : List ℕ) (h : Header) (s after : Enforcer) (answer : offer.OfferAnswer) (sizes : OfferSizes header saved release)
     (is-header : h ≡ headerAt header) (is-enforcer : s ≡ enforcerAt saved) (did : Offering t h s symbol output (offering.said answer) after out) where

@@ -1,68 +1,123 @@
 -- The calls of a gateway that keeps bytes are calls of the crates below, each on the state that the call before it handed back. Assumes nothing.
-use Prim.Native.Nat.{ℕ, _≤_}
-use mathlib.Core.Path.{_≡_, refl, ap₂, sym, subst}
-use mathlib.Core.List.{List}
+use Prim.Native.Nat.{ℕ, zero, suc, _≤_, _<_}
+use mathlib.Core.Path.{_≡_, refl, ap, sym, subst, _∙_}
+use mathlib.Core.List.{List, [], _∷_}
+use native.Mathlib.Omega.{arith}
 use lib.ListN.{length, getD}
+use lib.Seq.{getD-take, length-take-le}
 use Rattle.automaton.specs.declared.Header.{Header}
+use Rattle.verifier.specs.declared.Notion.{Notion}
+use Rattle.verifier.specs.declared.Notion.the-variants.{Weak, Strong}
+use Rattle.verifier.specs.declared.Further.{Further}
 use Rattle.verifier.specs.declared.Estimator.{Estimator}
-use Rattle.verifier.specs.Verdicts.{Steps}
+use Rattle.verifier.specs.Secrets.{secretsOf}
 use Rattle.verifier.specs.Replies as verifier
-use Rattle.verifier.specs.Replies.{Bounded, Accepting}
+use Rattle.verifier.specs.Replies.{Told, noneTold, stepsBy, toldAt, Bounded, Accepting}
 use Rattle.verifier.specs.Calls.{Calls}
+use Rattle.verifier.proofs.Numbering.{look-back-small, secret-back, how-many}
+use Rattle.verifier.proofs.Judging.{bounded-up}
+use Rattle.verifier.proofs.Corresponding.{same-told}
 use Rattle.enforcer.specs.declared.Enforcer.{Enforcer}
 use Rattle.enforcer.specs.Offerings as offering
 use Rattle.enforcer.specs.Offerings.{Offering}
 use Rattle.enforcer.specs.Offers.{Chain, Offers}
-use Rattle.gateway.specs.Layout.{headerAt, estimatorAt, enforcerAt, judgementBytes}
+use Rattle.gateway.specs.Layout.{headerAt, estimatorAt, enforcerAt, verdictAt, verdictByte, judgementBytes}
 use Rattle.gateway.specs.Interface.{Accept, Offer}
-use Rattle.gateway.specs.SavedCalls.{AcceptCall, AcceptCalls, acceptSaid, callsOf, OfferCall, OfferCalls, offerSaid, offersOf}
+use Rattle.gateway.specs.SavedCalls.{AcceptCall, AcceptCalls, verdictsAt, acceptSaid, callsOf, OfferCall, OfferCalls, offerSaid, offersOf}
 use Rattle.gateway.proofs.Inverse.{verdict-back}
 
--- the judgement that was written is the one that is read
-told-back : (K : ℕ) (v w : Steps) (n : ℕ) → K ≤ 15 → Bounded K v → Bounded K w → acceptSaid 0 (judgementBytes v w n) ≡ verifier.verdicts v w n
-told-back K v w n h b c = ap₂ (λ (x y : Steps). verifier.verdicts x y n) (verdict-back K v h b) (verdict-back K w h c)
+-- the judgement that was written is the one that is read: two verdicts for each secret that is given, none past 15 steps
+module _ (vs : List Told) (n given : ℕ) (few : given ≤ 3) (many : length vs ≡ suc given)
+    (bounded : (notion : Notion) (i : ℕ) → i < length vs → Bounded 15 (toldAt notion vs i)) where
+  abbrev read : ℕ → Told
+  read i = record { weak = verdictAt (verdictByte (getD vs i noneTold .weak)); strong = verdictAt (verdictByte (getD vs i noneTold .strong)) }
+
+  at-place : (i : ℕ) → i < 4 → getD (read 0 ∷ read 1 ∷ read 2 ∷ read 3 ∷ []) i noneTold ≡ read i
+  at-place zero h = refl
+  at-place (suc zero) h = refl
+  at-place (suc (suc zero)) h = refl
+  at-place (suc (suc (suc zero))) h = refl
+  at-place (suc (suc (suc (suc i)))) h = absurd (omega arith)
+
+  one-back : (notion : Notion) (i : ℕ) → i < length vs → stepsBy notion (read i) ≡ toldAt notion vs i
+  one-back Weak i h = verdict-back 15 _ (omega arith) (bounded Weak i h)
+  one-back Strong i h = verdict-back 15 _ (omega arith) (bounded Strong i h)
+
+  pub told-back : acceptSaid given 0 (judgementBytes vs n) ≡ verifier.verdicts vs n
+  told-back =
+      let size : length (verdictsAt given (judgementBytes vs n)) ≡ suc given = length-take-le (suc given) (read 0 ∷ read 1 ∷ read 2 ∷ read 3 ∷ []) (omega arith) in
+      ap (λ (x : List Told). verifier.verdicts x n)
+      (same-told (verdictsAt given (judgementBytes vs n)) vs (size ∙ sym many) (λ notion i h.
+      ap (stepsBy notion) (getD-take (suc given) (read 0 ∷ read 1 ∷ read 2 ∷ read 3 ∷ []) i noneTold (omega (arith, size)) ∙ at-place i (omega (arith, size)))
+      ∙ one-back notion i (omega (arith, size))))
 
 module _ (t header : List ℕ) (header-size : length header ≡ 46) where
   abbrev pub head : Header
   head = headerAt header
 
   -- a refusal has no number 0, and leaves the estimator
-  refused-accept : (self : Estimator) (symbol : ℕ) (told : List ℕ) {n : ℕ} {after : Estimator} → Accepting t head self symbol (verifier.refused n) after
-      → Accepting t head self symbol (acceptSaid n told) self
-  refused-accept self symbol told (Accepting.malformed bad) = Accepting.malformed bad
-  refused-accept self symbol told (Accepting.not-observable so li never) = Accepting.not-observable so li never
-  refused-accept self symbol told (Accepting.incompatible so li ob none) = Accepting.incompatible so li ob none
+  refused-accept : (self : Estimator) (symbol given : ℕ) (told : List ℕ) {n : ℕ} {after : Estimator} → Accepting t head self symbol (verifier.refused n) after
+      → Accepting t head self symbol (acceptSaid given n told) self
+  refused-accept self symbol given told (Accepting.malformed bad) = Accepting.malformed bad
+  refused-accept self symbol given told (Accepting.not-observable so li never) = Accepting.not-observable so li never
+  refused-accept self symbol given told (Accepting.incompatible so li ob none) = Accepting.incompatible so li ob none
 
-  -- one call of accept
-  record OneAccept (s : List ℕ) (symbol answer : ℕ) (m told : List ℕ) : Type 0 where
-    accepting : Accepting t head (estimatorAt s) symbol (acceptSaid answer told) (estimatorAt m)
-    size : length m ≡ 144
+  -- an accepted answer is read as it was written
+  accepted-back : (self s : Estimator) (symbol : ℕ) (vs : List Told) (n : ℕ) → Accepting t head self symbol (verifier.verdicts vs n) s
+      → (acceptSaid (self .further .count) 0 (judgementBytes vs n) ≡ verifier.verdicts vs n) × (s .further ≡ self .further)
+  accepted-back self s symbol vs n (Accepting.accepted so li ob same after many bounded within exact) =
+      let few = li .allowed .few in
+      let small = look-back-small head (self .further) (so .back) (li .allowed) in (
+        told-back vs n (self .further .count) few (many ∙ how-many head (self .further) few) (λ notion i h.
+            let given : i < length (secretsOf head (self .further)) = omega (arith, many) in
+            bounded-up _ 15 (toldAt notion vs i) (omega (arith, secret-back head (self .further) i given, small)) (bounded notion i given)),
+        same,
+      )
 
-  one-accept : (s : List ℕ) (symbol : ℕ) (lent : List ℕ) (answer : ℕ) (m told : List ℕ) → length s ≡ 144 → length lent ≡ 3 → Accept t header symbol s lent answer m told → OneAccept s symbol answer m told
-  one-accept s symbol lent answer m told k three (Accept.size bad) = absurd (bad (record { header-size = header-size; estimator-size = k; judgement-size = three }))
-  one-accept s symbol lent answer m told k three (Accept.refused sizes x) = record { accepting = refused-accept (estimatorAt s) symbol lent x; size = k }
-  one-accept s symbol lent answer m told k three (Accept.accepted sizes {weak = v} {strong = w} {size = n} (Accepting.accepted so li ob after b c within exact) saved) =
-      record { accepting = rw (told-back (head .k) v w n (so .back) b c, saved .back) (Accepting.accepted so li ob after b c within exact); size = saved .size }
+  -- one call of accept, on bytes that keep these further secrets
+  record OneAccept (kept : Further) (s : List ℕ) (symbol answer : ℕ) (m told : List ℕ) : Type 0 where
+    accepting : Accepting t head (estimatorAt s) symbol (acceptSaid (kept .count) answer told) (estimatorAt m)
+    size : length m ≡ 172
+    same : estimatorAt m .further ≡ kept
+
+  one-accept : (kept : Further) (s : List ℕ) (symbol : ℕ) (lent : List ℕ) (answer : ℕ) (m told : List ℕ) → length s ≡ 172 → estimatorAt s .further ≡ kept → length lent ≡ 9
+      → Accept t header symbol s lent answer m told → OneAccept kept s symbol answer m told
+  one-accept kept s symbol lent answer m told k same nine (Accept.size bad) = absurd (bad (record { header-size = header-size; estimator-size = k; judgement-size = nine }))
+  one-accept kept s symbol lent answer m told k same nine (Accept.refused sizes x) =
+      record { accepting = refused-accept (estimatorAt s) symbol (kept .count) lent x; size = k; same = same }
+  one-accept kept s symbol lent answer m told k same nine (Accept.accepted sizes {vs = vs} {size = n} {s = after} x saved) =
+      let y = accepted-back (estimatorAt s) after symbol vs n x in
+      let reads : acceptSaid (kept .count) 0 (judgementBytes vs n) ≡ verifier.verdicts vs n =
+      subst (λ (f : Further). acceptSaid (f .count) 0 (judgementBytes vs n) ≡ verifier.verdicts vs n) same (y .0) in
+      record {
+        accepting =
+            subst (λ (e : Estimator). Accepting t head (estimatorAt s) symbol (acceptSaid (kept .count) 0 (judgementBytes vs n)) e) (sym (saved .back))
+            (subst (λ (r : verifier.Said). Accepting t head (estimatorAt s) symbol r after) (sym reads) x);
+        size = saved .size;
+        same = ap (λ (e : Estimator). e .further) (saved .back) ∙ y .1 ∙ same;
+      }
 
   -- one that lends another number of bytes for the judgement
-  unsized-accept : (s : List ℕ) (symbol : ℕ) (lent : List ℕ) (answer : ℕ) (m told : List ℕ) → (length lent ≡ 3 → ⊥) → Accept t header symbol s lent answer m told → m ≡ s
+  unsized-accept : (s : List ℕ) (symbol : ℕ) (lent : List ℕ) (answer : ℕ) (m told : List ℕ) → (length lent ≡ 9 → ⊥) → Accept t header symbol s lent answer m told → m ≡ s
   unsized-accept s symbol lent answer m told n (Accept.size bad) = refl
   unsized-accept s symbol lent answer m told n (Accept.refused sizes x) = refl
   unsized-accept s symbol lent answer m told n (Accept.accepted sizes x saved) = absurd (n (sizes .judgement-size))
 
-  pub accept-calls : (s : List ℕ) (cs : List AcceptCall) (e : List ℕ) → length s ≡ 144 → AcceptCalls t header s cs e → Calls t head (estimatorAt s) (callsOf cs) (estimatorAt e)
-  accept-calls s cs e k AcceptCalls.done = Calls.done
-  accept-calls s cs e k (AcceptCalls.next {m = m} {c = c} {cs = rest} three a f) =
-      let x = one-accept s (c .symbol) (c .lent) (c .answer) m (c .told) k three a in
-      Calls.next (x .accepting) (accept-calls m rest e (x .size) f)
-  accept-calls s cs e k (AcceptCalls.unsized {m = m} {c = c} n a f) =
-      let same = unsized-accept s (c .symbol) (c .lent) (c .answer) m (c .told) n a in
-      subst (λ (y : List ℕ). Calls t head (estimatorAt y) (callsOf cs) (estimatorAt e)) same (accept-calls m cs e (subst (λ (y : List ℕ). length y ≡ 144) (sym same) k) f)
+  pub accept-calls : (kept : Further) (s : List ℕ) (cs : List AcceptCall) (e : List ℕ) → length s ≡ 172 → estimatorAt s .further ≡ kept → AcceptCalls t header s cs e
+      → Calls t head (estimatorAt s) (callsOf (kept .count) cs) (estimatorAt e)
+  accept-calls kept s cs e k same AcceptCalls.done = Calls.done
+  accept-calls kept s cs e k same (AcceptCalls.next {m = m} {c = c} {cs = rest} nine a f) =
+      let x = one-accept kept s (c .symbol) (c .lent) (c .answer) m (c .told) k same nine a in
+      Calls.next (x .accepting) (accept-calls kept m rest e (x .size) (x .same) f)
+  accept-calls kept s cs e k same (AcceptCalls.unsized {m = m} {c = c} n a f) =
+      let is = unsized-accept s (c .symbol) (c .lent) (c .answer) m (c .told) n a in
+      subst (λ (y : List ℕ). Calls t head (estimatorAt y) (callsOf (kept .count) cs) (estimatorAt e)) is
+      (accept-calls kept m cs e (subst (λ (y : List ℕ). length y ≡ 172) (sym is) k) (subst (λ (y : List ℕ). estimatorAt y .further ≡ kept) (sym is) same) f)
 
   -- bytes of the length of an enforcer, with a notion
   pub record KeepsEnforcer (s : List ℕ) : Type 0 where
-    pub size : length s ≡ 178
-    pub known : getD s 144 0 ≤ 1
+    pub size : length s ≡ 206
+    pub known : getD s 172 0 ≤ 1
 
   -- a refusal has no number 0, and leaves the enforcer
   refused-offer : (self : Enforcer) (symbol : ℕ) (output release : List ℕ) {n : ℕ} {after : Enforcer} {left : List ℕ} → Offering t head self symbol output (offering.refused n) after left
@@ -82,8 +137,8 @@ module _ (t header : List ℕ) (header-size : length header ≡ 46) where
   one-offer s symbol output lent answer m left release k two (Offer.size bad) =
       absurd (bad (record { header-size = header-size; enforcer-size = k .size; notion-known = k .known; release-size = two }))
   one-offer s symbol output lent answer m left release k two (Offer.refused sizes x) = record { offering = refused-offer (enforcerAt s) symbol output lent x; keeps = k }
-  one-offer s symbol output lent answer m left release k two (Offer.released sizes (Offering.accepted so li wide ob after bal front rest within exact) saved) =
-      record { offering = rw (saved .back) (Offering.accepted so li wide ob after bal front rest within exact); keeps = record { size = saved .size; known = saved .notion-known } }
+  one-offer s symbol output lent answer m left release k two (Offer.released sizes (Offering.accepted so li wide ob same after bal front rest within exact) saved) =
+      record { offering = rw (saved .back) (Offering.accepted so li wide ob same after bal front rest within exact); keeps = record { size = saved .size; known = saved .notion-known } }
 
   -- one that lends another number of bytes for the release
   unsized-offer : (s : List ℕ) (symbol : ℕ) (output lent : List ℕ) (answer : ℕ) (m left release : List ℕ) → (length lent ≡ 2 → ⊥) → Offer t header symbol s output lent answer m left release → m ≡ s

@@ -1,19 +1,20 @@
 -- What each function of the interface answers and leaves, by the contracts of the crates below: 0, or the number of a refusal, which leaves every
 -- lent slice as it was. A slice of another length than its layout has, and a notion that is none, get 9 before anything else.
-use Prim.Native.Nat.{ℕ, _≤_}
+use Prim.Native.Nat.{ℕ, _≤_, _<_}
 use mathlib.Core.Path.{_≡_}
 use mathlib.Core.List.{List}
 use lib.ListN.{length, getD}
 use Rattle.automaton.specs.declared.Header.{Header}
 use Rattle.encoding.specs.Decoding.{Decoding, accept, refuse}
-use Rattle.verifier.specs.Verdicts.{Steps}
+use Rattle.verifier.specs.declared.Further.{Further}
 use Rattle.verifier.specs.declared.Estimator.{Estimator}
+use Rattle.verifier.specs.Secrets.{Allowed, TooLarge}
 use Rattle.verifier.specs.Replies as verifier
-use Rattle.verifier.specs.Replies.{Opening, Accepting}
+use Rattle.verifier.specs.Replies.{Told, Opening, Accepting}
 use Rattle.enforcer.specs.Offerings as offering
 use Rattle.enforcer.specs.Offerings.{Starting, Offering}
 use Rattle.enforcer.specs.declared.Enforcer.{Enforcer}
-use Rattle.gateway.specs.Layout.{headerAt, headerBytes, estimatorAt, estimatorBytes, notionAt, enforcerAt, enforcerBytes, judgementBytes, releaseBytes}
+use Rattle.gateway.specs.Layout.{headerAt, headerBytes, furtherAt, estimatorAt, estimatorBytes, notionAt, enforcerAt, enforcerBytes, judgementBytes, releaseBytes}
 
 -- decode: the answer, the table after and the header's bytes after
 pub data Decode (encoding table header : List ℕ) : ℕ → List ℕ → List ℕ → Type 0 where
@@ -24,56 +25,65 @@ pub data Decode (encoding table header : List ℕ) : ℕ → List ℕ → List �
 -- the slices of a call of the verifier have the lengths of their layouts
 pub record VerifierSizes (header estimator judgement : List ℕ) : Type 0 where
   pub header-size : length header ≡ 46
-  pub estimator-size : length estimator ≡ 144
-  pub judgement-size : length judgement ≡ 3
+  pub estimator-size : length estimator ≡ 172
+  pub judgement-size : length judgement ≡ 9
 
 -- the bytes that a call leaves for an estimator, whatever it grew from: they have their length, and read back as it is, so that what is said of it, its
 -- limits too, is said of the bytes
 pub record EstimatorSaved (s : Estimator) : Type 0 where
-  pub size : length (estimatorBytes s) ≡ 144
+  pub size : length (estimatorBytes s) ≡ 172
   pub back : estimatorAt (estimatorBytes s) ≡ s
 
+-- so of a fresh call, and the further secrets
+pub record FreshSizes (header further estimator judgement : List ℕ) : Type 0 where
+  pub verifier : VerifierSizes header estimator judgement
+  pub further-size : length further ≡ 28
+
 -- fresh: the answer, the estimator's bytes after and the judgement's after
-pub data Fresh (t header estimator judgement : List ℕ) : ℕ → List ℕ → List ℕ → Type 0 where
-  size : (VerifierSizes header estimator judgement → ⊥) → Fresh t header estimator judgement 9 estimator judgement
-  refused : VerifierSizes header estimator judgement → {n : ℕ} {s : Estimator} → Opening t (headerAt header) (verifier.refused n) s → Fresh t header estimator judgement n estimator judgement
-  accepted : VerifierSizes header estimator judgement → {weak strong : Steps} {size : ℕ} {s : Estimator} → Opening t (headerAt header) (verifier.verdicts weak strong size) s → EstimatorSaved s
-      → Fresh t header estimator judgement 0 (estimatorBytes s) (judgementBytes weak strong size)
+pub data Fresh (t header further estimator judgement : List ℕ) : ℕ → List ℕ → List ℕ → Type 0 where
+  size : (FreshSizes header further estimator judgement → ⊥) → Fresh t header further estimator judgement 9 estimator judgement
+  refused : FreshSizes header further estimator judgement → {n : ℕ} {s : Estimator}
+      → Opening t (headerAt header) (furtherAt further 0) (verifier.refused n) s → Fresh t header further estimator judgement n estimator judgement
+  accepted : FreshSizes header further estimator judgement → {vs : List Told} {size : ℕ} {s : Estimator}
+      → Opening t (headerAt header) (furtherAt further 0) (verifier.verdicts vs size) s → EstimatorSaved s
+      → Fresh t header further estimator judgement 0 (estimatorBytes s) (judgementBytes vs size)
 
 -- accept: the same, of the estimator that the bytes hold and a symbol
 pub data Accept (t header : List ℕ) (symbol : ℕ) (estimator judgement : List ℕ) : ℕ → List ℕ → List ℕ → Type 0 where
   size : (VerifierSizes header estimator judgement → ⊥) → Accept t header symbol estimator judgement 9 estimator judgement
   refused : VerifierSizes header estimator judgement → {n : ℕ} {s : Estimator} → Accepting t (headerAt header) (estimatorAt estimator) symbol (verifier.refused n) s
       → Accept t header symbol estimator judgement n estimator judgement
-  accepted : VerifierSizes header estimator judgement → {weak strong : Steps} {size : ℕ} {s : Estimator}
-      → Accepting t (headerAt header) (estimatorAt estimator) symbol (verifier.verdicts weak strong size) s → EstimatorSaved s
-      → Accept t header symbol estimator judgement 0 (estimatorBytes s) (judgementBytes weak strong size)
+  accepted : VerifierSizes header estimator judgement → {vs : List Told} {size : ℕ} {s : Estimator}
+      → Accepting t (headerAt header) (estimatorAt estimator) symbol (verifier.verdicts vs size) s → EstimatorSaved s
+      → Accept t header symbol estimator judgement 0 (estimatorBytes s) (judgementBytes vs size)
 
 -- the slices of a start have the lengths of their layouts, and the notion is one
-pub record StartSizes (header : List ℕ) (notion : ℕ) (enforcer : List ℕ) : Type 0 where
+pub record StartSizes (header : List ℕ) (notion : ℕ) (further enforcer : List ℕ) : Type 0 where
   pub header-size : length header ≡ 46
   pub notion-known : notion ≤ 1
-  pub enforcer-size : length enforcer ≡ 178
+  pub further-size : length further ≡ 28
+  pub enforcer-size : length enforcer ≡ 206
 
 -- the bytes that a call leaves for an enforcer, likewise
 pub record EnforcerSaved (s : Enforcer) : Type 0 where
-  pub size : length (enforcerBytes s) ≡ 178
-  pub notion-known : getD (enforcerBytes s) 144 0 ≤ 1
+  pub size : length (enforcerBytes s) ≡ 206
+  pub notion-known : getD (enforcerBytes s) 172 0 ≤ 1
   pub back : enforcerAt (enforcerBytes s) ≡ s
 
 -- start: the answer and the enforcer's bytes after
-pub data Start (t header : List ℕ) (notion : ℕ) (enforcer : List ℕ) : ℕ → List ℕ → Type 0 where
-  size : (StartSizes header notion enforcer → ⊥) → Start t header notion enforcer 9 enforcer
-  refused : StartSizes header notion enforcer → {n : ℕ} {s : Enforcer} → Starting t (headerAt header) (notionAt notion) (offering.not-started n) s
-      → Start t header notion enforcer n enforcer
-  started : StartSizes header notion enforcer → {s : Enforcer} → Starting t (headerAt header) (notionAt notion) offering.started s → EnforcerSaved s
-      → Start t header notion enforcer 0 (enforcerBytes s)
+pub data Start (t header : List ℕ) (notion : ℕ) (further enforcer : List ℕ) : ℕ → List ℕ → Type 0 where
+  size : (StartSizes header notion further enforcer → ⊥) → Start t header notion further enforcer 9 enforcer
+  refused : StartSizes header notion further enforcer → {n : ℕ} {s : Enforcer}
+      → Starting t (headerAt header) (furtherAt further 0) (notionAt notion) (offering.not-started n) s → Start t header notion further enforcer n enforcer
+  started : StartSizes header notion further enforcer → {s : Enforcer}
+      → Starting t (headerAt header) (furtherAt further 0) (notionAt notion) offering.started s → EnforcerSaved s
+      → Start t header notion further enforcer 0 (enforcerBytes s)
 
 -- the slices of an offer have the lengths of their layouts, and the saved notion is one
 pub record OfferSizes (header enforcer release : List ℕ) : Type 0 where
   pub header-size : length header ≡ 46
-  pub enforcer-size : length enforcer ≡ 178
-  pub notion-known : getD enforcer 144 0 ≤ 1
+  pub enforcer-size : length enforcer ≡ 206
+  pub notion-known : getD enforcer 172 0 ≤ 1
   pub release-size : length release ≡ 2
 
 -- offer: the answer, the enforcer's bytes after, the output after and the release's bytes after
@@ -84,3 +94,17 @@ pub data Offer (t header : List ℕ) (symbol : ℕ) (enforcer output release : L
   released : OfferSizes header enforcer release → {f size : ℕ} {s : Enforcer} {left : List ℕ}
       → Offering t (headerAt header) (enforcerAt enforcer) symbol output (offering.released f size) s left → EnforcerSaved s
       → Offer t header symbol enforcer output release 0 (enforcerBytes s) left (releaseBytes f size)
+
+-- what a fresh call answers on a header that was decoded, with slices of their lengths: 0 where the further secrets may be given, and else 13 or 14, each
+-- on its condition
+pub data ByFurther (f : Further) : ℕ → Type 0 where
+  given : Allowed f → ByFurther f 0
+  too-many : 3 < f .count → ByFurther f 13
+  too-large : f .count ≤ 3 → TooLarge f → ByFurther f 14
+
+-- and a start: the same, but 8 in place of 0 exactly where a secret that is given opens as leak 0, its number in hand
+pub data ByStart (f : Further) (Leaks : Type 0) : ℕ → Type 0 where
+  started : Allowed f → (Leaks → ⊥) → ByStart f Leaks 0
+  initial-leak : Allowed f → Leaks → ByStart f Leaks 8
+  too-many : 3 < f .count → ByStart f Leaks 13
+  too-large : f .count ≤ 3 → TooLarge f → ByStart f Leaks 14

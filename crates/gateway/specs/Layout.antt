@@ -1,4 +1,4 @@
--- The bytes of headers, saved estimators and saved enforcers. A number of several bytes has the least significant first.
+-- The bytes of headers, further secrets, saved estimators and saved enforcers. A number of several bytes has the least significant first.
 use Prim.Native.Nat.{ℕ, zero, suc, _+_, _*_, _/_, _%_, _<_, _^_}
 use mathlib.Core.Path.{_≡_}
 use mathlib.Core.Bool.{cond}
@@ -8,8 +8,12 @@ use lib.ListN.{length, getD, take, drop}
 use Rattle.automaton.specs.declared.Header.{Header}
 use Rattle.verifier.specs.declared.Notion.{Notion}
 use Rattle.verifier.specs.declared.Notion.the-variants.{Weak, Strong}
+use Rattle.verifier.specs.declared.Secret.{Secret}
+use Rattle.verifier.specs.declared.Further.{Further}
 use Rattle.verifier.specs.declared.Estimator.{Estimator}
+use Rattle.verifier.specs.Secrets.{placeOf}
 use Rattle.verifier.specs.Verdicts.{Steps, none, leak}
+use Rattle.verifier.specs.Replies.{Told, noneTold}
 use Rattle.enforcer.specs.declared.Enforcer.{Enforcer}
 
 -- the number that n bytes write, from a place on
@@ -42,18 +46,44 @@ headerAt bytes = record { initial = getD bytes 0 0; k = getD bytes 1 0; secret =
 abbrev pub headerBytes : Header → List ℕ
 headerBytes h = h .initial ∷ h .k ∷ bytesOf 8 (h .secret) ++ (bytesOf 4 (h .observable) ++ h .symbols)
 
--- an estimator: 144 bytes. The number of remembered symbols, 15 symbols, the newest first, 16 state sets (8 bytes each)
+-- a place for a further secret: 9 bytes. The set of its states (8 bytes), its K
+abbrev pub placeAt : List ℕ → ℕ → Secret
+placeAt bytes at = record { states = numberAt bytes at 8; k = getD bytes (at + 8) 0 }
+
+abbrev pub placeBytes : Secret → List ℕ
+placeBytes c = bytesOf 8 (c .states) ++ c .k ∷ []
+
+-- further secrets: 28 bytes. How many are given, and three places
+abbrev pub furtherAt : List ℕ → ℕ → Further
+furtherAt bytes at =
+    record {
+      states = placeAt bytes (at + 1) .states ∷ placeAt bytes (at + 10) .states ∷ placeAt bytes (at + 19) .states ∷ [];
+      k = placeAt bytes (at + 1) .k ∷ placeAt bytes (at + 10) .k ∷ placeAt bytes (at + 19) .k ∷ [];
+      count = getD bytes at 0;
+    }
+
+abbrev pub furtherBytes : Further → List ℕ
+furtherBytes f = f .count ∷ placeBytes (placeOf f 0) ++ (placeBytes (placeOf f 1) ++ placeBytes (placeOf f 2))
+
+-- as the code has them: three places, and the sets are words
+pub record FurtherSized (f : Further) : Type 0 where
+  pub states : length (f .states) ≡ 3
+  pub k : length (f .k) ≡ 3
+  pub words : (j : ℕ) → getD (f .states) j 0 < 2 ^ 64
+
+-- an estimator: 172 bytes. The number of remembered symbols, 15 symbols, the newest first, 16 state sets (8 bytes each), the further secrets (28)
 abbrev pub estimatorAt : List ℕ → Estimator
-estimatorAt bytes = record { count = getD bytes 0 0; symbols = bytesAt bytes 1 15; entries = wordsAt bytes 16 16 }
+estimatorAt bytes = record { count = getD bytes 0 0; symbols = bytesAt bytes 1 15; entries = wordsAt bytes 16 16; further = furtherAt bytes 144 }
 
 abbrev pub estimatorBytes : Estimator → List ℕ
-estimatorBytes s = s .count ∷ s .symbols ++ wordsBytes (s .entries)
+estimatorBytes s = s .count ∷ s .symbols ++ (wordsBytes (s .entries) ++ furtherBytes (s .further))
 
 -- an estimator as the code has it: the arrays have their sizes, and the state sets are words
 pub record EstimatorSized (s : Estimator) : Type 0 where
   pub symbols : length (s .symbols) ≡ 15
   pub entries : length (s .entries) ≡ 16
   pub words : (l : ℕ) → getD (s .entries) l 0 < 2 ^ 64
+  pub further : FurtherSized (s .further)
 
 -- a notion: 0 weak, 1 strong. Another byte is none
 abbrev pub notionAt : ℕ → Notion
@@ -64,10 +94,10 @@ abbrev pub notionByte : Notion → ℕ
 notionByte Weak = 0
 notionByte Strong = 1
 
--- an enforcer: 178 bytes. Its estimator (144), its notion, the number of pending symbols, 16 pending symbols, the oldest first, 16 waits
+-- an enforcer: 206 bytes. Its estimator (172), its notion, the number of pending symbols, 16 pending symbols, the oldest first, 16 waits
 abbrev pub enforcerAt : List ℕ → Enforcer
 enforcerAt bytes =
-    record { estimator = estimatorAt bytes; notion = notionAt (getD bytes 144 0); count = getD bytes 145 0; pending = bytesAt bytes 146 16; waits = bytesAt bytes 162 16 }
+    record { estimator = estimatorAt bytes; notion = notionAt (getD bytes 172 0); count = getD bytes 173 0; pending = bytesAt bytes 174 16; waits = bytesAt bytes 190 16 }
 
 abbrev pub enforcerBytes : Enforcer → List ℕ
 enforcerBytes s = estimatorBytes (s .estimator) ++ notionByte (s .notion) ∷ s .count ∷ s .pending ++ s .waits
@@ -86,9 +116,15 @@ abbrev pub verdictByte : Steps → ℕ
 verdictByte none = 255
 verdictByte (leak l) = l
 
--- what an accepted answer of the verifier holds: 3 bytes. The weak verdict, the strong one, how many states are possible
-abbrev pub judgementBytes : (weak strong : Steps) (size : ℕ) → List ℕ
-judgementBytes weak strong size = verdictByte weak ∷ verdictByte strong ∷ size ∷ []
+-- the two verdicts of one secret: 2 bytes
+abbrev pub toldBytes : Told → List ℕ
+toldBytes v = verdictByte (v .weak) ∷ verdictByte (v .strong) ∷ []
+
+-- what an accepted answer of the verifier holds: 9 bytes. The weak and the strong verdict of each of four secrets as they are numbered, of one that is not
+-- given none, and how many states are possible
+abbrev pub judgementBytes : List Told → (size : ℕ) → List ℕ
+judgementBytes vs size =
+    toldBytes (getD vs 0 noneTold) ++ (toldBytes (getD vs 1 noneTold) ++ (toldBytes (getD vs 2 noneTold) ++ (toldBytes (getD vs 3 noneTold) ++ size ∷ [])))
 
 -- what an accepting answer of the enforcer holds: 2 bytes. How many symbols were released, how many states are possible
 abbrev pub releaseBytes : (count size : ℕ) → List ℕ

@@ -3,9 +3,9 @@
 use Prim.Native.Nat.{ℕ, zero, suc}
 use mathlib.Core.Path.{_≡_}
 use mathlib.Core.List.{List, [], _∷_}
-use lib.ListN.{length, getD}
-use Rattle.verifier.specs.Verdicts.{Steps}
+use lib.ListN.{length, getD, take}
 use Rattle.verifier.specs.Replies as verifier
+use Rattle.verifier.specs.Replies.{Told}
 use Rattle.verifier.specs.Calls.{Call}
 use Rattle.enforcer.specs.Offerings as offering
 use Rattle.enforcer.specs.Offers as enforcer
@@ -19,34 +19,34 @@ pub record AcceptCall : Type 0 where
   pub answer : ℕ
   pub told : List ℕ
 
--- calls of accept, one after another: the estimator's bytes before them, the calls that lent 3 bytes for the judgement, and the estimator's bytes after them
+-- calls of accept, one after another: the estimator's bytes before them, the calls that lent 9 bytes for the judgement, and the estimator's bytes after them
 pub data AcceptCalls (t header : List ℕ) : List ℕ → List AcceptCall → List ℕ → Type 0 where
   done : {s : List ℕ} → AcceptCalls t header s [] s
-  next : {s m e : List ℕ} {c : AcceptCall} {cs : List AcceptCall} → length (c .lent) ≡ 3 → Accept t header (c .symbol) s (c .lent) (c .answer) m (c .told)
+  next : {s m e : List ℕ} {c : AcceptCall} {cs : List AcceptCall} → length (c .lent) ≡ 9 → Accept t header (c .symbol) s (c .lent) (c .answer) m (c .told)
       → AcceptCalls t header m cs e → AcceptCalls t header s (c ∷ cs) e
   -- a call that lent another number of bytes, and so got 9, may stand between them; it is not listed
-  unsized : {s m e : List ℕ} {c : AcceptCall} {cs : List AcceptCall} → (length (c .lent) ≡ 3 → ⊥) → Accept t header (c .symbol) s (c .lent) (c .answer) m (c .told)
+  unsized : {s m e : List ℕ} {c : AcceptCall} {cs : List AcceptCall} → (length (c .lent) ≡ 9 → ⊥) → Accept t header (c .symbol) s (c .lent) (c .answer) m (c .told)
       → AcceptCalls t header m cs e → AcceptCalls t header s cs e
 
--- the verdicts and the number that three bytes hold
-abbrev pub weakAt : List ℕ → Steps
-weakAt told = verdictAt (getD told 0 0)
+-- the verdicts and the number that nine bytes hold, where so many further secrets are given: two for each secret
+abbrev pub pairAt : List ℕ → ℕ → Told
+pairAt told at = record { weak = verdictAt (getD told at 0); strong = verdictAt (getD told (suc at) 0) }
 
-abbrev pub strongAt : List ℕ → Steps
-strongAt told = verdictAt (getD told 1 0)
+abbrev pub verdictsAt : (given : ℕ) → List ℕ → List Told
+verdictsAt given told = take (suc given) (pairAt told 0 ∷ pairAt told 2 ∷ pairAt told 4 ∷ pairAt told 6 ∷ [])
 
 abbrev pub sizeAt : List ℕ → ℕ
-sizeAt told = getD told 2 0
+sizeAt told = getD told 8 0
 
 -- what an answer says: 0 that the bytes hold the verdicts and the number, and else the number of a refusal
-abbrev pub acceptSaid : ℕ → List ℕ → verifier.Said
-acceptSaid zero told = verifier.verdicts (weakAt told) (strongAt told) (sizeAt told)
-acceptSaid (suc n) told = verifier.refused (suc n)
+abbrev pub acceptSaid : (given : ℕ) → ℕ → List ℕ → verifier.Said
+acceptSaid given zero told = verifier.verdicts (verdictsAt given told) (sizeAt told)
+acceptSaid given (suc n) told = verifier.refused (suc n)
 
 -- what was offered and said, as the verifier's promise has it
-abbrev pub callsOf : List AcceptCall → List Call
-callsOf [] = []
-callsOf (c ∷ cs) = record { byte = c .symbol; says = acceptSaid (c .answer) (c .told) } ∷ callsOf cs
+abbrev pub callsOf : (given : ℕ) → List AcceptCall → List Call
+callsOf given [] = []
+callsOf given (c ∷ cs) = record { byte = c .symbol; says = acceptSaid given (c .answer) (c .told) } ∷ callsOf given cs
 
 -- one call of offer: the symbol, the output and the bytes lent for the release, the answer, and both after it
 pub record OfferCall : Type 0 where

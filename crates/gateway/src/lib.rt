@@ -8,16 +8,21 @@ use enforcer::Release;
 use enforcer::StartAnswer;
 use verifier::Answer;
 use verifier::Estimator;
+use verifier::Further;
 use verifier::Judgement;
 use verifier::Notion;
+use verifier::Secret;
 use verifier::Verdict;
+use verifier::Verdicts;
 ghost use mathlib.Core.Path.{_≡_};
+ghost use mathlib.Core.List.{[], _∷_, _++_, map};
 ghost use Prim.Native.Nat.{ℕ, _+_, _*_, _≤_, _<_, _^_};
 ghost use lib.ListN.{length, getD, set};
 ghost use lib.Seq.{sets};
 ghost use Rattle.verifier.specs.Verdicts.{stepsOf};
+ghost use Rattle.verifier.specs.Replies.{toldOf, numbered};
 ghost use Rattle.gateway.specs.Interface.{Decode, Fresh, Accept, Start, Offer};
-ghost use Rattle.gateway.specs.Layout.{numberAt, bytesOf, wordsAt, wordsBytes, bytesAt, headerAt, headerBytes, estimatorAt, estimatorBytes, EstimatorSized, EnforcerSized, notionAt, notionByte, enforcerAt, enforcerBytes, verdictByte, judgementBytes, releaseBytes};
+ghost use Rattle.gateway.specs.Layout.{numberAt, bytesOf, wordsAt, wordsBytes, bytesAt, headerAt, headerBytes, placeAt, furtherAt, furtherBytes, FurtherSized, estimatorAt, estimatorBytes, EstimatorSized, EnforcerSized, notionAt, notionByte, enforcerAt, enforcerBytes, verdictByte, toldBytes, judgementBytes, releaseBytes};
 
 fn wide(x: u8) -> u64
     ensures { λ r. ⌜ r ≡ x ⌝ }
@@ -185,22 +190,68 @@ fn write_header(bytes: &mut [u8], header: Header)
     store32(bytes, 14, symbols);
 }
 
+fn read_secret(bytes: &[u8], at: usize) -> Secret
+    requires { ⌜ at + 9 ≤ length (now bytes) ⌝ }
+    ensures { λ r. ⌜ r ≡ placeAt (now (bytes .entry)) at ⌝ }
+{
+    Secret {
+        states: number_at(bytes, at, 8),
+        k: bytes[at + 8],
+    }
+}
+
+fn store_secret(bytes: &mut [u8], at: usize, states: u64, k: u8)
+    requires { ⌜ at + 9 ≤ length (now bytes) ⌝ }
+    ensures { λ _. ⌜ now (bytes .exit) ≡ sets (now (bytes .entry)) at (bytesOf 8 states ++ k ∷ []) ⌝ }
+{
+    store_number(bytes, at, 8, states);
+    put(bytes, at + 8, k);
+}
+
+fn read_further(bytes: &[u8], at: usize) -> Further
+    requires { ⌜ at + 28 ≤ length (now bytes) ⌝ }
+    ensures { λ r. ⌜ r ≡ furtherAt (now (bytes .entry)) at ⌝ }
+{
+    let first = read_secret(bytes, at + 1);
+    let second = read_secret(bytes, at + 10);
+    let third = read_secret(bytes, at + 19);
+    Further {
+        states: [first.states, second.states, third.states],
+        k: [first.k, second.k, third.k],
+        count: bytes[at],
+    }
+}
+
+fn store_further(bytes: &mut [u8], at: usize, further: Further)
+    requires { ⌜ at + 28 ≤ length (now bytes) ⌝ }
+    ensures { λ _. ⌜ FurtherSized further × (now (bytes .exit) ≡ sets (now (bytes .entry)) at (furtherBytes further)) ⌝ }
+{
+    let states = further.states;
+    let k = further.k;
+    put(bytes, at, further.count);
+    store_secret(bytes, at + 1, states[0], k[0]);
+    store_secret(bytes, at + 10, states[1], k[1]);
+    store_secret(bytes, at + 19, states[2], k[2]);
+}
+
 fn read_estimator(bytes: &[u8]) -> Estimator
-    requires { ⌜ 144 ≤ length (now bytes) ⌝ }
+    requires { ⌜ 172 ≤ length (now bytes) ⌝ }
     ensures { λ r. ⌜ r ≡ estimatorAt (now (bytes .entry)) ⌝ }
 {
     let symbols = bytes15(bytes, 1);
     let entries = words16(bytes, 16);
+    let further = read_further(bytes, 144);
     Estimator {
         count: bytes[0],
         symbols: symbols,
         entries: entries,
+        further: further,
     }
 }
 
 // At the front; what stands behind stays.
 fn write_estimator(bytes: &mut [u8], estimator: Estimator)
-    requires { ⌜ 144 ≤ length (now bytes) ⌝ }
+    requires { ⌜ 172 ≤ length (now bytes) ⌝ }
     ensures { λ _. ⌜ EstimatorSized estimator × (now (bytes .exit) ≡ sets (now (bytes .entry)) 0 (estimatorBytes estimator)) ⌝ }
 {
     put(bytes, 0, estimator.count);
@@ -208,6 +259,8 @@ fn write_estimator(bytes: &mut [u8], estimator: Estimator)
     store15(bytes, 1, symbols);
     let entries = estimator.entries;
     store_words(bytes, 16, entries);
+    let further = estimator.further;
+    store_further(bytes, 144, further);
 }
 
 fn verdict_byte(verdict: Verdict) -> u8
@@ -219,16 +272,30 @@ fn verdict_byte(verdict: Verdict) -> u8
     }
 }
 
-fn write_judgement(bytes: &mut [u8], judgement: Judgement)
-    requires { ⌜ length (now bytes) ≡ 3 ⌝ }
-    ensures { λ _. ⌜ now (bytes .exit) ≡ judgementBytes (stepsOf (judgement .verdicts .weak)) (stepsOf (judgement .verdicts .strong)) (judgement .size) ⌝ }
+fn store_verdicts(bytes: &mut [u8], at: usize, verdicts: Verdicts)
+    requires { ⌜ at + 2 ≤ length (now bytes) ⌝ }
+    ensures { λ _. ⌜ now (bytes .exit) ≡ sets (now (bytes .entry)) at (toldBytes (toldOf verdicts)) ⌝ }
 {
-    let verdicts = judgement.verdicts;
     let weak = verdicts.weak;
     let strong = verdicts.strong;
-    put(bytes, 0, verdict_byte(weak));
-    put(bytes, 1, verdict_byte(strong));
-    put(bytes, 2, judgement.size);
+    put(bytes, at, verdict_byte(weak));
+    put(bytes, at + 1, verdict_byte(strong));
+}
+
+fn write_judgement(bytes: &mut [u8], judgement: Judgement)
+    requires { ⌜ length (now bytes) ≡ 9 ⌝ }
+    ensures { λ _. ⌜ now (bytes .exit) ≡ judgementBytes (map toldOf (numbered (judgement .verdicts))) (judgement .size) ⌝ }
+{
+    let verdicts = judgement.verdicts;
+    let own = verdicts.own;
+    let first = verdicts.first;
+    let second = verdicts.second;
+    let third = verdicts.third;
+    store_verdicts(bytes, 0, own);
+    store_verdicts(bytes, 2, first);
+    store_verdicts(bytes, 4, second);
+    store_verdicts(bytes, 6, third);
+    put(bytes, 8, judgement.size);
 }
 
 fn write_release(bytes: &mut [u8], release: Release)
@@ -258,24 +325,24 @@ fn notion_byte(notion: Notion) -> u8
 }
 
 fn read_enforcer(bytes: &[u8]) -> Enforcer
-    requires { ⌜ length (now bytes) ≡ 178 ⌝ }
+    requires { ⌜ length (now bytes) ≡ 206 ⌝ }
     ensures { λ r. ⌜ r ≡ enforcerAt (now (bytes .entry)) ⌝ }
 {
     let estimator = read_estimator(bytes);
-    let notion = notion_of(bytes[144]);
-    let pending = bytes16(bytes, 146);
-    let waits = bytes16(bytes, 162);
+    let notion = notion_of(bytes[172]);
+    let pending = bytes16(bytes, 174);
+    let waits = bytes16(bytes, 190);
     Enforcer {
         estimator: estimator,
         notion: notion,
-        count: bytes[145],
+        count: bytes[173],
         pending: pending,
         waits: waits,
     }
 }
 
 fn write_enforcer(bytes: &mut [u8], enforcer: Enforcer)
-    requires { ⌜ length (now bytes) ≡ 178 ⌝ }
+    requires { ⌜ length (now bytes) ≡ 206 ⌝ }
     ensures { λ _. ⌜ EnforcerSized enforcer × (now (bytes .exit) ≡ enforcerBytes enforcer) ⌝ }
 {
     let estimator = enforcer.estimator;
@@ -283,10 +350,10 @@ fn write_enforcer(bytes: &mut [u8], enforcer: Enforcer)
     let pending = enforcer.pending;
     let waits = enforcer.waits;
     write_estimator(bytes, estimator);
-    put(bytes, 144, notion_byte(notion));
-    put(bytes, 145, enforcer.count);
-    store16(bytes, 146, pending);
-    store16(bytes, 162, waits);
+    put(bytes, 172, notion_byte(notion));
+    put(bytes, 173, enforcer.count);
+    store16(bytes, 174, pending);
+    store16(bytes, 190, waits);
 }
 
 // Decodes an encoding: the table, and the header's 46 bytes.
@@ -308,26 +375,31 @@ pub extern "C" fn opacity_decode(encoding: &[u8], table: &mut [u64], header: &mu
     }
 }
 
-// A fresh estimator: its 144 bytes, and in 3 bytes the two verdicts of the empty trace and how many states are possible.
+// A fresh estimator with the further secrets of 28 bytes: its 172 bytes, and in 9 bytes the two verdicts of each secret for the empty trace and how
+// many states are possible.
 #[no_mangle]
 pub extern "C" fn opacity_fresh(
     table: &[u64],
     header: &[u8],
+    further: &[u8],
     estimator: &mut [u8],
     judgement: &mut [u8],
 ) -> u8
-    ensures { λ r. ⌜ Fresh (now (table .entry)) (now (header .entry)) (now (estimator .entry)) (now (judgement .entry)) r (now (estimator .exit)) (now (judgement .exit)) ⌝ }
+    ensures { λ r. ⌜ Fresh (now (table .entry)) (now (header .entry)) (now (further .entry)) (now (estimator .entry)) (now (judgement .entry)) r (now (estimator .exit)) (now (judgement .exit)) ⌝ }
 {
     if header.len() != 46 {
         return 9;
     }
-    if estimator.len() != 144 {
+    if estimator.len() != 172 {
         return 9;
     }
-    if judgement.len() != 3 {
+    if judgement.len() != 9 {
         return 9;
     }
-    let reply = Estimator::fresh(table, read_header(header));
+    if further.len() != 28 {
+        return 9;
+    }
+    let reply = Estimator::fresh(table, read_header(header), read_further(further, 0));
     let answer = reply.answer;
     match answer {
         Answer::Refused(refusal) => automaton::number(refusal),
@@ -340,7 +412,7 @@ pub extern "C" fn opacity_fresh(
     }
 }
 
-// Accepts one symbol: the estimator after it, the two verdicts, and how many states are possible.
+// Accepts one symbol: the estimator after it, the two verdicts of each secret, and how many states are possible.
 #[no_mangle]
 pub extern "C" fn opacity_accept(
     table: &[u64],
@@ -354,10 +426,10 @@ pub extern "C" fn opacity_accept(
     if header.len() != 46 {
         return 9;
     }
-    if estimator.len() != 144 {
+    if estimator.len() != 172 {
         return 9;
     }
-    if judgement.len() != 3 {
+    if judgement.len() != 9 {
         return 9;
     }
     let before = read_estimator(estimator);
@@ -374,10 +446,16 @@ pub extern "C" fn opacity_accept(
     }
 }
 
-// Starts an enforcer under a notion, 0 weak or 1 strong: its 178 bytes.
+// Starts an enforcer under a notion, 0 weak or 1 strong, with the further secrets of 28 bytes: its 206 bytes.
 #[no_mangle]
-pub extern "C" fn opacity_start(table: &[u64], header: &[u8], notion: u8, enforcer: &mut [u8]) -> u8
-    ensures { λ r. ⌜ Start (now (table .entry)) (now (header .entry)) notion (now (enforcer .entry)) r (now (enforcer .exit)) ⌝ }
+pub extern "C" fn opacity_start(
+    table: &[u64],
+    header: &[u8],
+    notion: u8,
+    further: &[u8],
+    enforcer: &mut [u8],
+) -> u8
+    ensures { λ r. ⌜ Start (now (table .entry)) (now (header .entry)) notion (now (further .entry)) (now (enforcer .entry)) r (now (enforcer .exit)) ⌝ }
 {
     if header.len() != 46 {
         return 9;
@@ -385,10 +463,18 @@ pub extern "C" fn opacity_start(table: &[u64], header: &[u8], notion: u8, enforc
     if 1 < notion {
         return 9;
     }
-    if enforcer.len() != 178 {
+    if enforcer.len() != 206 {
         return 9;
     }
-    let start = Enforcer::start(table, read_header(header), notion_of(notion));
+    if further.len() != 28 {
+        return 9;
+    }
+    let start = Enforcer::start(
+        table,
+        read_header(header),
+        notion_of(notion),
+        read_further(further, 0),
+    );
     let answer = start.answer;
     match answer {
         StartAnswer::Refused(refusal) => automaton::number(refusal),
@@ -415,10 +501,10 @@ pub extern "C" fn opacity_offer(
     if header.len() != 46 {
         return 9;
     }
-    if enforcer.len() != 178 {
+    if enforcer.len() != 206 {
         return 9;
     }
-    if 1 < enforcer[144] {
+    if 1 < enforcer[172] {
         return 9;
     }
     if release.len() != 2 {

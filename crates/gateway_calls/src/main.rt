@@ -25,8 +25,10 @@ const ENFORCER: usize = 5;
 const OUTPUT: usize = 6;
 
 const RELEASE: usize = 7;
+
+const FURTHER: usize = 8;
 // What is lent where a function takes nothing; its size stays 0.
-const NONE: usize = 8;
+const NONE: usize = 9;
 
 // The words of the commands, as `word_at` reads them: their last eight letters.
 const OPEN_WORD: u64 = 0x6f70656e;
@@ -41,8 +43,13 @@ const START: u64 = 0x7374617274;
 
 const OFFER: u64 = 0x6f66666572;
 
+// Where an estimator, and so an enforcer, has its further secrets: their number, and behind it three places, each ending with a K; and their size.
+const SECRETS: usize = 144;
+
+const SECRETS_SIZE: usize = 28;
+
 // Where an enforcer has the number of its pending symbols, and behind it those symbols.
-const PENDING: usize = 145;
+const PENDING: usize = 173;
 
 // Stands for every answer that is allowed where the answer is left open.
 const OPEN: u8 = 255;
@@ -61,9 +68,10 @@ struct Element {
     next: usize,
 }
 
-// What a function is lent: a slot to read, those to write to, and whether it takes a byte.
+// What a function is lent: slots to read, those to write to, and whether it takes a byte.
 struct Slots {
     input: usize,
+    also: usize,
     first: usize,
     second: usize,
     third: usize,
@@ -77,32 +85,32 @@ fn wide(byte: u8) -> usize
 }
 
 fn place_of(slot: usize, i: usize) -> usize
-    ensures { λ r. ⌜ r < 36864 ⌝ }
+    ensures { λ r. ⌜ r < 40960 ⌝ }
 {
     if slot <= NONE {
         if i < SLOT {
             return slot * SLOT + i;
         }
     }
-    36863
+    40959
 }
 
-fn word_of(memory: &[u64; 36864], slot: usize, i: usize) -> u64 {
+fn word_of(memory: &[u64; 40960], slot: usize, i: usize) -> u64 {
     memory[place_of(slot, i)]
 }
 
-fn byte_of(memory: &[u64; 36864], slot: usize, i: usize) -> u8 {
+fn byte_of(memory: &[u64; 40960], slot: usize, i: usize) -> u8 {
     (word_of(memory, slot, i) % 256) as u8
 }
 
-fn set_word(memory: &mut [u64; 36864], slot: usize, i: usize, word: u64) {
+fn set_word(memory: &mut [u64; 40960], slot: usize, i: usize, word: u64) {
     memory[place_of(slot, i)] = word;
 }
 
-fn size_of(sizes: &[usize; 9], slot: usize) -> usize
+fn size_of(sizes: &[usize; 10], slot: usize) -> usize
     ensures { λ r. ⌜ r ≤ 4096 ⌝ }
 {
-    if slot < 9 {
+    if slot < 10 {
         let n = sizes[slot];
         if n <= SLOT {
             return n;
@@ -111,14 +119,14 @@ fn size_of(sizes: &[usize; 9], slot: usize) -> usize
     0
 }
 
-fn set_size(sizes: &mut [usize; 9], slot: usize, n: usize) {
+fn set_size(sizes: &mut [usize; 10], slot: usize, n: usize) {
     if slot < NONE {
         sizes[slot] = n;
     }
 }
 
 // Copies of the table and of another slot, to be lent to a call.
-fn table_of(memory: &[u64; 36864]) -> [u64; 4096]
+fn table_of(memory: &[u64; 40960]) -> [u64; 4096]
     ensures { λ r. ⌜ 4096 ≡ length r ⌝ }
 {
     let mut words = [0u64; 4096];
@@ -130,7 +138,7 @@ fn table_of(memory: &[u64; 36864]) -> [u64; 4096]
     words
 }
 
-fn copy_of(memory: &[u64; 36864], slot: usize) -> [u8; 4096]
+fn copy_of(memory: &[u64; 40960], slot: usize) -> [u8; 4096]
     ensures { λ r. ⌜ 4096 ≡ length r ⌝ }
 {
     let mut bytes = [0u8; 4096];
@@ -143,7 +151,7 @@ fn copy_of(memory: &[u64; 36864], slot: usize) -> [u8; 4096]
 }
 
 // What a call left in a copy.
-fn keep_table(memory: &mut [u64; 36864], words: &[u64; 4096]) {
+fn keep_table(memory: &mut [u64; 40960], words: &[u64; 4096]) {
     let mut i: usize = 0;
     while i < 4096 {
         memory[i] = words[i];
@@ -151,7 +159,7 @@ fn keep_table(memory: &mut [u64; 36864], words: &[u64; 4096]) {
     }
 }
 
-fn keep(memory: &mut [u64; 36864], slot: usize, bytes: &[u8; 4096]) {
+fn keep(memory: &mut [u64; 40960], slot: usize, bytes: &[u8; 4096]) {
     let mut i: usize = 0;
     while i < 4096 {
         set_word(memory, slot, i, wide(bytes[i]) as u64);
@@ -161,10 +169,10 @@ fn keep(memory: &mut [u64; 36864], slot: usize, bytes: &[u8; 4096]) {
 
 // Whether n words of a slot are as those of a slot of another memory, each from a place on.
 fn matches(
-    memory: &[u64; 36864],
+    memory: &[u64; 40960],
     slot: usize,
     from: usize,
-    other: &[u64; 36864],
+    other: &[u64; 40960],
     there: usize,
     at: usize,
     n: usize,
@@ -182,7 +190,7 @@ fn matches(
 }
 
 // How often the element at a place stands from there on, before the slot's size.
-fn run_at(memory: &[u64; 36864], slot: usize, at: usize, size: usize) -> usize
+fn run_at(memory: &[u64; 40960], slot: usize, at: usize, size: usize) -> usize
     requires { ⌜ at < size ⌝ }
     ensures { λ r. ⌜ (0 < r) × (at + r ≤ size) ⌝ }
 {
@@ -215,7 +223,7 @@ fn show_run(before: u64, at: usize, word: u64, times: usize) {
     }
 }
 
-fn show_runs(memory: &[u64; 36864], slot: usize, size: usize) {
+fn show_runs(memory: &[u64; 40960], slot: usize, size: usize) {
     let mut before: u64 = 0;
     let mut at: usize = 0;
     while at < size {
@@ -238,11 +246,11 @@ fn show_name(names: &[u8], slot: usize) {
 }
 
 // The line of a slot: its name, its size, and its elements that are not 0.
-fn show(memory: &[u64; 36864], sizes: &[usize; 9], slot: usize) {
+fn show(memory: &[u64; 40960], sizes: &[usize; 10], slot: usize) {
     if slot < NONE {
         let size = size_of(sizes, slot);
         show_name(
-            b"table    encoding header   estimatorjudgementenforcer output   release  ",
+            b"table    encoding header   estimatorjudgementenforcer output   release  further  ",
             slot,
         );
         io::write_all(1, b" ");
@@ -256,6 +264,7 @@ fn show(memory: &[u64; 36864], sizes: &[usize; 9], slot: usize) {
 fn slots_of(call: u64) -> Slots {
     let mut slots = Slots {
         input: HEADER,
+        also: NONE,
         first: NONE,
         second: NONE,
         third: NONE,
@@ -267,6 +276,7 @@ fn slots_of(call: u64) -> Slots {
         slots.byte = false;
     }
     if call == FRESH {
+        slots.also = FURTHER;
         slots.first = ESTIMATOR;
         slots.second = JUDGEMENT;
         slots.byte = false;
@@ -276,6 +286,7 @@ fn slots_of(call: u64) -> Slots {
         slots.second = JUDGEMENT;
     }
     if call == START {
+        slots.also = FURTHER;
         slots.first = ENFORCER;
     }
     if call == OFFER {
@@ -287,11 +298,18 @@ fn slots_of(call: u64) -> Slots {
 }
 
 // The functions, by how many slices they write to.
-fn apply1(call: u64, byte: u8, table: &mut [u64], input: &[u8], first: &mut [u8]) -> u8 {
+fn apply1(
+    call: u64,
+    byte: u8,
+    table: &mut [u64],
+    input: &[u8],
+    also: &[u8],
+    first: &mut [u8],
+) -> u8 {
     if call == DECODE {
         return gateway::opacity_decode(input, table, first);
     }
-    gateway::opacity_start(table, input, byte, first)
+    gateway::opacity_start(table, input, byte, also, first)
 }
 
 fn apply2(
@@ -299,11 +317,12 @@ fn apply2(
     byte: u8,
     table: &[u64],
     input: &[u8],
+    also: &[u8],
     first: &mut [u8],
     second: &mut [u8],
 ) -> u8 {
     if call == FRESH {
-        return gateway::opacity_fresh(table, input, first, second);
+        return gateway::opacity_fresh(table, input, also, first, second);
     }
     gateway::opacity_accept(table, input, byte, first, second)
 }
@@ -314,15 +333,16 @@ fn apply(
     byte: u8,
     table: &mut [u64],
     input: &[u8],
+    also: &[u8],
     first: &mut [u8],
     second: &mut [u8],
     third: &mut [u8],
 ) -> u8 {
     if slots.second == NONE {
-        return apply1(call, byte, table, input, first);
+        return apply1(call, byte, table, input, also, first);
     }
     if slots.third == NONE {
-        return apply2(call, byte, table, input, first, second);
+        return apply2(call, byte, table, input, also, first, second);
     }
     gateway::opacity_offer(table, input, byte, first, second, third)
 }
@@ -331,18 +351,20 @@ fn apply(
 fn lend(
     call: u64,
     byte: u8,
-    sizes: &[usize; 9],
+    sizes: &[usize; 10],
     table: &mut [u64],
     input: &[u8],
+    also: &[u8],
     first: &mut [u8],
     second: &mut [u8],
     third: &mut [u8],
 ) -> u8
-    requires { ⌜ (4096 ≡ length (now table)) × (4096 ≡ length (now input)) × (4096 ≡ length (now first)) × (4096 ≡ length (now second)) × (4096 ≡ length (now third)) ⌝ }
+    requires { ⌜ (4096 ≡ length (now table)) × (4096 ≡ length (now input)) × (4096 ≡ length (now also)) × (4096 ≡ length (now first)) × (4096 ≡ length (now second)) × (4096 ≡ length (now third)) ⌝ }
 {
     let slots = slots_of(call);
     let words = size_of(sizes, TABLE);
     let n = size_of(sizes, slots.input);
+    let m = size_of(sizes, slots.also);
     let n1 = size_of(sizes, slots.first);
     let n2 = size_of(sizes, slots.second);
     let n3 = size_of(sizes, slots.third);
@@ -352,6 +374,7 @@ fn lend(
         byte,
         &mut table[0..words],
         &input[0..n],
+        &also[0..m],
         &mut first[0..n1],
         &mut second[0..n2],
         &mut third[0..n3],
@@ -359,10 +382,11 @@ fn lend(
 }
 
 // A call: its answer, after which the memory is as the function left it.
-fn answer_of(call: u64, byte: u8, memory: &mut [u64; 36864], sizes: &[usize; 9]) -> u8 {
+fn answer_of(call: u64, byte: u8, memory: &mut [u64; 40960], sizes: &[usize; 10]) -> u8 {
     let slots = slots_of(call);
     let mut table = table_of(memory);
     let input = copy_of(memory, slots.input);
+    let also = copy_of(memory, slots.also);
     let mut first = copy_of(memory, slots.first);
     let mut second = copy_of(memory, slots.second);
     let mut third = copy_of(memory, slots.third);
@@ -372,6 +396,7 @@ fn answer_of(call: u64, byte: u8, memory: &mut [u64; 36864], sizes: &[usize; 9])
         sizes,
         &mut table,
         &input,
+        &also,
         &mut first,
         &mut second,
         &mut third,
@@ -386,12 +411,12 @@ fn answer_of(call: u64, byte: u8, memory: &mut [u64; 36864], sizes: &[usize; 9])
 // Calls on states within their limits that did not grow from a fresh one. Which answer they get is left open, so OPEN stands for any that is
 // allowed, and every slot gets back what it held. A state is within its limits if byte 255, which is never observable, gets 6 and not 9.
 
-// A verdict from 0 to K, or none.
-fn bounded(verdict: u8, k: u8) -> bool {
+// A verdict from 0 to K, or none; none where the secret is not given.
+fn bounded(verdict: u8, given: bool, k: u8) -> bool {
     if verdict == 255 {
         return true;
     }
-    verdict <= k
+    given & (verdict <= k)
 }
 
 // A number of states, 1 to 64.
@@ -402,20 +427,53 @@ fn some_states(size: u8) -> bool {
     size <= 64
 }
 
-fn judgement_allowed(memory: &[u64; 36864]) -> bool {
-    let k = byte_of(memory, HEADER, 1);
-    let verdicts = bounded(byte_of(memory, JUDGEMENT, 0), k)
-        & bounded(byte_of(memory, JUDGEMENT, 1), k);
-    verdicts & some_states(byte_of(memory, JUDGEMENT, 2))
+// The two verdicts of the secret with a number, by its own K.
+fn told(memory: &[u64; 40960], number: usize, given: bool, k: u8) -> bool
+    requires { ⌜ number ≤ 3 ⌝ }
+{
+    let weak = byte_of(memory, JUDGEMENT, 2 * number);
+    let strong = byte_of(memory, JUDGEMENT, 2 * number + 1);
+    bounded(weak, given, k) & bounded(strong, given, k)
 }
 
-fn unchanged(memory: &[u64; 36864], slot: usize, before: &[u64; 36864]) -> bool {
+// Whether a state holds the further secrets that it held.
+fn same_secrets(memory: &[u64; 40960], slot: usize, before: &[u64; 40960]) -> bool {
+    matches(memory, slot, SECRETS, before, slot, SECRETS, SECRETS_SIZE)
+}
+
+fn judgement_allowed(memory: &[u64; 40960], before: &[u64; 40960]) -> bool {
+    let count = byte_of(memory, ESTIMATOR, SECRETS);
+    let own = told(memory, 0, true, byte_of(memory, HEADER, 1));
+    let first = told(
+        memory,
+        1,
+        0 < count,
+        byte_of(memory, ESTIMATOR, SECRETS + 9),
+    );
+    let second = told(
+        memory,
+        2,
+        1 < count,
+        byte_of(memory, ESTIMATOR, SECRETS + 18),
+    );
+    let third = told(
+        memory,
+        3,
+        2 < count,
+        byte_of(memory, ESTIMATOR, SECRETS + 27),
+    );
+    let states = some_states(byte_of(memory, JUDGEMENT, 8));
+    let secrets = same_secrets(memory, ESTIMATOR, before);
+    own & first & second & third & states & secrets
+}
+
+fn unchanged(memory: &[u64; 40960], slot: usize, before: &[u64; 40960]) -> bool {
     matches(memory, slot, 0, before, slot, 0, SLOT)
 }
 
 // Whether, of the symbols that were pending and the new one behind them, the first ones stand at the front of the output, with what it had behind
-// them, and the others are pending; and whether the number of states is from 1 to 64.
-fn release_allowed(memory: &[u64; 36864], symbol: u8, before: &[u64; 36864]) -> bool {
+// them, and the others are pending; whether the number of states is from 1 to 64; and whether the further secrets are as they were.
+fn release_allowed(memory: &[u64; 40960], symbol: u8, before: &[u64; 40960]) -> bool {
     let count = wide(byte_of(before, ENFORCER, PENDING));
     let released = wide(byte_of(memory, RELEASE, 0));
     let pending = wide(byte_of(memory, ENFORCER, PENDING));
@@ -449,7 +507,8 @@ fn release_allowed(memory: &[u64; 36864], symbol: u8, before: &[u64; 36864]) -> 
         pending,
     );
     let states = some_states(byte_of(memory, RELEASE, 1));
-    front & behind & others & states
+    let secrets = same_secrets(memory, ENFORCER, before);
+    front & behind & others & states & secrets
 }
 
 // Whether what a call answered and left is allowed.
@@ -457,8 +516,8 @@ fn allowed(
     call: u64,
     symbol: u8,
     answer: u8,
-    memory: &[u64; 36864],
-    before: &[u64; 36864],
+    memory: &[u64; 40960],
+    before: &[u64; 40960],
 ) -> bool {
     if answer == 7 {
         let slots = slots_of(call);
@@ -472,10 +531,10 @@ fn allowed(
     if call == OFFER {
         return release_allowed(memory, symbol, before);
     }
-    judgement_allowed(memory)
+    judgement_allowed(memory, before)
 }
 
-fn open_answer_of(call: u64, symbol: u8, memory: &mut [u64; 36864], sizes: &[usize; 9]) -> u8 {
+fn open_answer_of(call: u64, symbol: u8, memory: &mut [u64; 40960], sizes: &[usize; 10]) -> u8 {
     let before = *memory;
     let answer = answer_of(call, symbol, memory, sizes);
     let fine = allowed(call, symbol, answer, memory, &before);
@@ -562,7 +621,7 @@ fn times_at(line: &[u8], at: usize) -> Number {
     times
 }
 
-fn repeat(memory: &mut [u64; 36864], slot: usize, from: usize, word: u64, times: usize)
+fn repeat(memory: &mut [u64; 40960], slot: usize, from: usize, word: u64, times: usize)
     requires { ⌜ from + times ≤ 4096 ⌝ }
 {
     let mut i: usize = 0;
@@ -574,7 +633,7 @@ fn repeat(memory: &mut [u64; 36864], slot: usize, from: usize, word: u64, times:
 
 // Sets an element so many times: the place behind them, or one behind the slot if they do not fit, or it is no byte.
 fn set_element(
-    memory: &mut [u64; 36864],
+    memory: &mut [u64; 40960],
     slot: usize,
     place: usize,
     word: u64,
@@ -620,7 +679,7 @@ fn value_at(line: &[u8], at: usize, mark: u8, place: usize) -> Element {
 }
 
 // Sets elements from a place of the line on.
-fn fill(memory: &mut [u64; 36864], slot: usize, line: &[u8], from: usize) -> bool {
+fn fill(memory: &mut [u64; 40960], slot: usize, line: &[u8], from: usize) -> bool {
     let mut at = from;
     let mut place: usize = 0;
     while at < line.len() {
@@ -640,8 +699,8 @@ fn fill(memory: &mut [u64; 36864], slot: usize, line: &[u8], from: usize) -> boo
 
 // A slot's size and elements: those that are not named are 0.
 fn set(
-    memory: &mut [u64; 36864],
-    sizes: &mut [usize; 9],
+    memory: &mut [u64; 40960],
+    sizes: &mut [usize; 10],
     slot: usize,
     line: &[u8],
     at: usize,
@@ -685,6 +744,7 @@ fn slot_of(name: u64) -> usize {
         0x656e666f72636572 => ENFORCER,
         0x6f7574707574 => OUTPUT,
         0x72656c65617365 => RELEASE,
+        0x66757274686572 => FURTHER,
         _ => NONE,
     }
 }
@@ -701,7 +761,7 @@ fn show_answer(line: &[u8], answer: u8) {
     io::write_all(1, b"\n");
 }
 
-fn show_call(line: &[u8], call: u64, answer: u8, memory: &[u64; 36864], sizes: &[usize; 9]) {
+fn show_call(line: &[u8], call: u64, answer: u8, memory: &[u64; 40960], sizes: &[usize; 10]) {
     let slots = slots_of(call);
     show_answer(line, answer);
     if call == DECODE {
@@ -717,8 +777,8 @@ fn make_call(
     open: bool,
     call: u64,
     byte: u8,
-    memory: &mut [u64; 36864],
-    sizes: &[usize; 9],
+    memory: &mut [u64; 40960],
+    sizes: &[usize; 10],
 ) {
     if open {
         show_answer(line, open_answer_of(call, byte, memory, sizes));
@@ -733,8 +793,8 @@ fn called(
     line: &[u8],
     at: usize,
     open: bool,
-    memory: &mut [u64; 36864],
-    sizes: &[usize; 9],
+    memory: &mut [u64; 40960],
+    sizes: &[usize; 10],
 ) -> bool {
     let word = word_at(line, at);
     let call = word.value;
@@ -757,7 +817,7 @@ fn called(
 }
 
 // Whether the line is understood.
-fn obeyed(line: &[u8], memory: &mut [u64; 36864], sizes: &mut [usize; 9]) -> bool {
+fn obeyed(line: &[u8], memory: &mut [u64; 40960], sizes: &mut [usize; 10]) -> bool {
     let word = word_at(line, 0);
     let slot = slot_of(word.value);
     let end = word.next;
@@ -780,7 +840,7 @@ fn comment(line: &[u8]) -> bool {
     line[0] == b'#'
 }
 
-fn run(line: &[u8], memory: &mut [u64; 36864], sizes: &mut [usize; 9]) {
+fn run(line: &[u8], memory: &mut [u64; 40960], sizes: &mut [usize; 10]) {
     if comment(line) {
         io::write_all(1, line);
         io::write_all(1, b"\n");
@@ -805,7 +865,7 @@ fn line_end(input: &[u8], from: usize) -> usize
     i
 }
 
-fn all(input: &[u8], memory: &mut [u64; 36864], sizes: &mut [usize; 9]) {
+fn all(input: &[u8], memory: &mut [u64; 40960], sizes: &mut [usize; 10]) {
     let mut at: usize = 0;
     while at < input.len() {
         let end = line_end(input, at);
@@ -823,8 +883,8 @@ fn room() -> [u8; 1048576]
 
 fn main() {
     let mut input = room();
-    let mut memory = [0u64; 36864];
-    let mut sizes = [0usize; 9];
+    let mut memory = [0u64; 40960];
+    let mut sizes = [0usize; 10];
     let n = io::read_full(0, &mut input);
     all(&input[0..n], &mut memory, &mut sizes);
 }

@@ -14,12 +14,12 @@ use Rattle.verifier.specs.declared.Notion.the-variants.{Weak, Strong}
 use Rattle.verifier.specs.declared.Verdict.{Verdict}
 use Rattle.verifier.specs.declared.Verdict.the-variants.{NoLeak, Leak}
 use Rattle.verifier.specs.Verdicts.{none, leak, stepsOf, LeakAt, Words}
-use Rattle.verifier.specs.Calls.{Right, RightSize}
+use Rattle.verifier.specs.Calls.{RightSize}
 use Rattle.verifier.proofs.Exactness.{words-exactly, right-size}
 use Rattle.encoding.proofs.Refusing.{decoding-never}
 use Rattle.encoding.proofs.Listing.{decoded-sound}
 use Rattle.report.specs.Text.{digits, decimal, idleLine, endLine}
-use Rattle.monitor.specs.Opening.{frontSize, encodingOf}
+use Rattle.monitor.specs.Opening.{frontSize, encodingOf, RightOwn}
 use Rattle.monitor.specs.Log.{OpeningLeak, Refused, truncated, not-decoded, initial-leak, Monitored, Output, refused, idle, ended}
 use Rattle.monitor.proofs.OneOutput.{one-automaton, not-both}
 
@@ -49,7 +49,7 @@ pub data Idle (t : List ℕ) (h : Header) : List ℕ → Type 0 where
   leaks : {n : ℕ} → EstimateSize (automatonOf t h) [] n → OpeningLeak Strong t h → Idle t h (idleLine NoLeak (Leak 0) n ++ endLine 0 0 0)
 
 -- whose weak verdict is none, since it is not refused by 8
-idle-text : (t : List ℕ) (h : Header) (v w : Verdict) (n : ℕ) → (OpeningLeak Weak t h → ⊥) → Right t h [] (stepsOf v) (stepsOf w) n
+idle-text : (t : List ℕ) (h : Header) (v w : Verdict) (n : ℕ) → (OpeningLeak Weak t h → ⊥) → RightOwn t h [] (record { weak = v; strong = w }) n
     → Idle t h (idleLine v w n ++ endLine 0 0 0)
 idle-text t h v w n closed right =
     by (opening-verdict t h Weak v (right .weak (stepsOf v) .0 refl)) (opening-verdict t h Strong w (right .strong (stepsOf w) .0 refl)) (right .size .exactly n .0 refl)
@@ -72,12 +72,12 @@ opening-size {input} {t} {h} n m size =
     } size
 
 text-idle : {input t text : List ℕ} {h : Header} → Monitored input t h → length input ≡ frontSize input → Idle t h text → Output input text
-text-idle {t = t} {h = h} m e (clear {n = n} size never) = idle (record { verdicts = record { weak = NoLeak; strong = NoLeak }; size = n }) m e record {
+text-idle {t = t} {h = h} m e (clear {n = n} size never) = idle (record { weak = NoLeak; strong = NoLeak }) n m e record {
   weak = words-exactly Weak _ _ _ [] none (none-words t h Weak (m .closed));
   strong = words-exactly Strong _ _ _ [] none (none-words t h Strong never);
   size = opening-size n m size;
 }
-text-idle {t = t} {h = h} m e (leaks {n = n} size x) = idle (record { verdicts = record { weak = NoLeak; strong = Leak 0 }; size = n }) m e record {
+text-idle {t = t} {h = h} m e (leaks {n = n} size x) = idle (record { weak = NoLeak; strong = Leak 0 }) n m e record {
   weak = words-exactly Weak _ _ _ [] none (none-words t h Weak (m .closed));
   strong = words-exactly Strong _ _ _ [] (leak 0) (leak-words t h Strong x);
   size = opening-size n m size;
@@ -90,9 +90,9 @@ idle-exactly {input} {t} {h} m e text = (go, text-idle m e)
     go : {text : List ℕ} → Output input text → Idle t h text
     go (refused r x) = absurd (not-both x m)
     go (ended m′ l p) = absurd (omega arith)
-    go (idle j m′ e′ right) =
-        idle-text t h (j .verdicts .weak) (j .verdicts .strong) (j .size) (m .closed)
-        (one-automaton (λ (x : List ℕ) (y : Header). Right x y [] (stepsOf (j .verdicts .weak)) (stepsOf (j .verdicts .strong)) (j .size)) (m′ .decodes) (m .decodes) right)
+    go (idle v n m′ e′ right) =
+        idle-text t h (v .weak) (v .strong) n (m .closed)
+        (one-automaton (λ (x : List ℕ) (y : Header). RightOwn x y [] v n) (m′ .decodes) (m .decodes) right)
 
 -- their bytes: around the number's digits
 around : (ds rest : List ℕ) → ((ds ++ (32 ∷ 45 ∷ [])) ++ (10 ∷ [])) ++ rest ≡ ds ++ (32 ∷ 45 ∷ 10 ∷ rest)

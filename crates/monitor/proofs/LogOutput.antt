@@ -8,11 +8,12 @@ use native.Mathlib.Omega.{arith}
 use native.Mathlib.Decide.{decLt}
 use lib.ListN.{length, getD, take, drop, length-append, length-drop, length-take, take-append-drop, List·getD-append}
 use lib.Seq.{sets, sets-eq, length-sets, slice, slice-empty, take-at, drop-at, take-all, take-nil, take-append-le, drop-append-le, drop-length, length-take-le}
-use Rattle.automaton.specs.Run.{Automaton, automatonOf, Sound}
+use Rattle.automaton.specs.Run.{automatonOf, Sound}
 use Rattle.automaton.specs.declared.Header.{Header}
 use Rattle.encoding.specs.Decoding.{Outcome, Decoding}
 use Rattle.verifier.specs.declared.Notion.the-variants.{Weak}
-use Rattle.verifier.specs.Verdicts.{LeakAt}
+use Rattle.verifier.specs.Secrets.{noFurther, secretsOf, secretAt}
+use Rattle.verifier.specs.Verdicts.{leak, Tells}
 use Rattle.verifier.proofs.Growing.{grown-limits}
 use Rattle.enforcer.specs.declared.Enforcer.{Enforcer}
 use Rattle.enforcer.specs.Enforcers as enforcers
@@ -180,18 +181,24 @@ fed-events {left} {bytes} {rest} e few (inr full) = sym (ap (take 4294967295) (s
 fresh-within : (t : List ℕ) (h : Header) (m : Monitor) → Sound t h → Fresh t h m → Within t h m
 fresh-within t h m so f = record {
   sound = so;
-  estimator = grown-limits (automatonOf t h) (h .k) [] (m .estimator) (f .estimator) (so .symbols-small);
+  estimator = grown-limits (automatonOf t h) _ [] (m .estimator) (f .estimator) (so .symbols-small);
   enforcer = f .enforcer .limits;
   balanced = record { among = omega (arith, f .accepted, f .offered); balance = omega (arith, f .accepted, f .released, f .enforcer .queue .few) };
 }
 
-no-secret : (p : Automaton) (secret K : ℕ) (s : Enforcer) → enforcers.Grown Weak p secret K [] s → LeakAt Weak p secret K [] 0 → ⊥
-no-secret p secret K s g leak =
-    let safe : Safe Weak p secret K [] 0 = subst (λ (l : List ℕ). Safe Weak p secret K l 0) (take-nil {A = ℕ} (0 - s .count)) (g .queue .longest .safe) in
-    safe 0 (omega arith) (omega arith) (leak .sure)
+no-secret : (t : List ℕ) (h : Header) (s : Enforcer) → enforcers.GrownOn Weak t h [] s → OpeningLeak Weak t h → ⊥
+no-secret t h s g opens =
+    let safe : Safe Weak (automatonOf t h) (h .secret) (h .k) [] 0 =
+    subst (λ (l : List ℕ). Safe Weak (automatonOf t h) (h .secret) (h .k) l 0) (take-nil {A = ℕ} (0 - s .count)) (g .queue .longest .safe .each 0 (omega arith)) in
+    safe 0 (omega arith) (omega arith) (opens .sure)
 
-secret-open : (t : List ℕ) (h : Header) (s : Enforcer) → Starting t h Weak (not-started 8) s → OpeningLeak Weak t h
-secret-open t h s (Starting.initial-leak so tells out) = record { within = tells .within; reached = tells .reached; sure = tells .sure }
+-- where a start with no further secret is refused by 8, it is the automaton's own that opens as leak 0
+secret-open : (t : List ℕ) (h : Header) (s : Enforcer) → Starting t h noFurther Weak (not-started 8) s → OpeningLeak Weak t h
+secret-open t h s (Starting.initial-leak so allowed opens out) =
+    let own : opens .number ≡ 0 = omega (arith, opens .given) in
+    let tells : Tells Weak (automatonOf t h) (h .secret) (h .k) [] (leak 0) =
+    subst (λ (i : ℕ). Tells Weak (automatonOf t h) (secretAt (secretsOf h noFurther) i .states) (secretAt (secretsOf h noFurther) i .k) [] (leak 0)) own (opens .tells) in
+    record { within = tells .within; reached = tells .reached; sure = tells .sure }
 
 refuses : {input t : List ℕ} {h : Header} {m : Monitor} {n : ℕ} → Opening input (opening.refused n) t h m → Refused input n
 refuses (Opening.truncated short out) = log.truncated short
@@ -215,8 +222,8 @@ ends-there input none whole = omega (arith, none)
 fresh-idle : {input t : List ℕ} {h : Header} {m : Monitor} → Monitored input t h → Fresh t h m → length input ≡ frontSize input → Output input (lastLines m)
 fresh-idle {input} {t} {h} {m} monitored f e =
     let pending : 0 ≡ m .enforcer .count = omega (arith, f .enforcer .queue .few) in
-    subst (Output input) ((λ i. idleLine (m .opening .verdicts .weak) (m .opening .verdicts .strong) (m .opening .size) ++ endLine (sym (f .accepted) i) (sym (f .released) i) (pending i)) ∙ with-none m (f .offered))
-    (log.idle (m .opening) monitored e (f .opening))
+    subst (Output input) ((λ i. idleLine (m .opening .verdicts .own .weak) (m .opening .verdicts .own .strong) (m .opening .size) ++ endLine (sym (f .accepted) i) (sym (f .released) i) (pending i)) ∙ with-none m (f .offered))
+    (log.idle (m .opening .verdicts .own) (m .opening .size) monitored e (f .opening))
 
 -- the lines of all events that a log may have, and the last lines
 pub lines-output : {input t bytes rest text : List ℕ} {h : Header} {m e : Monitor} {n : ℕ} → Opening input (opening.started n) t h m → bytes ++ rest ≡ drop n input
@@ -225,7 +232,7 @@ pub lines-output : {input t bytes rest text : List ℕ} {h : Header} {m e : Moni
 lines-output {input} {t} {bytes} {rest} {text} {h} {m} {e} (Opening.opened l d fresh) splits lines few stop =
     let counted : length bytes ≡ e .offered = omega (arith, lines-count lines, fresh .offered) in
     let all-of : bytes ≡ eventsOf input = fed-events splits (omega arith) (subst (λ (k : ℕ). (rest ≡ []) ⊎ (k ≡ 4294967295)) (sym counted) stop) in
-    go record { whole = l; decodes = d; closed = no-secret (automatonOf t h) (h .secret) (h .k) (m .enforcer) (fresh .enforcer) } all-of counted (decLt (frontSize input) (length input))
+    go record { whole = l; decodes = d; closed = no-secret t h (m .enforcer) (fresh .enforcer) } all-of counted (decLt (frontSize input) (length input))
   where
     go : Monitored input t h → bytes ≡ eventsOf input → length bytes ≡ e .offered → Dec (frontSize input < length input) → Output input (text ++ lastLines e)
     go monitored is counted (yes some) =

@@ -12,26 +12,27 @@ use Rattle.automaton.specs.Refusals.{numberOf}
 use Rattle.verifier.specs.declared.Notion.the-variants.{Weak}
 use Rattle.verifier.specs.declared.Estimator.{Estimator}
 use Rattle.verifier.specs.declared.Judgement.{Judgement}
-use Rattle.verifier.specs.Verdicts.{Steps, stepsOf}
+use Rattle.verifier.specs.Secrets.{noFurther, secretsOf}
 use Rattle.verifier.specs.Estimators as estimators
 use Rattle.verifier.specs.Replies as verifier
-use Rattle.verifier.specs.Replies.{Accepting}
-use Rattle.verifier.specs.Calls.{Right}
+use Rattle.verifier.specs.Replies.{Told, toldEach, Accepting}
 use Rattle.verifier.proofs.SecondPoint.{right}
 use Rattle.verifier.proofs.Growing.{grown-limits}
 use Rattle.encoding.proofs.Listing.{decoded-sound}
 use Rattle.enforcer.specs.declared.Enforcer.{Enforcer}
-use Rattle.enforcer.specs.Enforcers as enforcers
 use Rattle.enforcer.specs.Offerings as enforcer
 use Rattle.enforcer.specs.Offerings.{Offering}
-use Rattle.enforcer.specs.SafePrefix.{Safe}
-use Rattle.enforcer.proofs.Lists.{passes-accepted}
+use Rattle.enforcer.specs.Queues.{Longest}
+use Rattle.enforcer.specs.SafePrefix.{SafeForAll}
+use Rattle.enforcer.proofs.ForAll.{only-longest}
+use Rattle.enforcer.proofs.ThirdPoint as third
 use Rattle.report.specs.Text.{decimal, line, acceptedLine, refusedLine}
 use Rattle.monitor.specs.Stepping.{offeredOnce, acceptedOnce, not-verified, not-enforced, accepted, Lines, done, next}
-use Rattle.monitor.specs.Opening.{started, encodingOf, Opening, opened}
+use Rattle.monitor.specs.Opening.{started, encodingOf, RightOwn, Opening, opened}
 use Rattle.monitor.specs.LogText as log
 use Rattle.monitor.specs.LogText.{Released, Prints, Promise}
 use Rattle.monitor.specs.declared.Monitor.{Monitor}
+use Rattle.monitor.proofs.Openings.{right-own}
 
 -- a refused event's line depends on the number alone
 refused-as : (b : ℕ) (r q : Refusal) → numberOf q ≡ numberOf r → refusedLine b r ≡ refusedLine b q
@@ -40,8 +41,8 @@ refused-as b r q e = ap (λ (n : ℕ). line ((33 ∷ []) ∷ decimal b ∷ decim
 module _ (t : List ℕ) (h : Header) (sound : Sound t h) where
   -- a monitor after the accepted events, of which r are released
   record After (trace : List ℕ) (r : ℕ) (m : Monitor) : Type 0 where
-    estimator : estimators.Grown (automatonOf t h) (h .k) trace (m .estimator)
-    enforcer : enforcers.Grown Weak (automatonOf t h) (h .secret) (h .k) trace (m .enforcer)
+    estimator : estimators.GrownOn t h trace (m .estimator)
+    enforcer : third.After Weak t h noFurther trace (m .enforcer)
     accepted : m .accepted ≡ length trace
     released : m .released ≡ r
     pending : r + m .enforcer .count ≡ length trace
@@ -53,65 +54,65 @@ module _ (t : List ℕ) (h : Header) (sound : Sound t h) where
   by-verifier : (trace : List ℕ) (r : ℕ) (m : Monitor) (b : ℕ) (q : Refusal) (n : ℕ) (s : Estimator) (bytes rest after : List ℕ) (r′ : ℕ) → After trace r m
       → numberOf q ≡ n → Accepting t h (m .estimator) b (verifier.refused n) s → Prints t h trace r bytes rest after r′
       → Prints t h trace r (b ∷ bytes) (refusedLine b q ++ rest) after r′
-  by-verifier trace r m b q n s bytes rest after r′ a e (Accepting.malformed bad) p = absurd (bad (sound, grown-limits (automatonOf t h) (h .k) trace (m .estimator) (a .estimator) (sound .symbols-small)))
+  by-verifier trace r m b q n s bytes rest after r′ a e (Accepting.malformed bad) p = absurd (bad (sound, grown-limits (automatonOf t h) _ trace (m .estimator) (a .estimator) (sound .symbols-small)))
   by-verifier trace r m b q n s bytes rest after r′ a e (Accepting.not-observable so li never) p =
       subst (λ (l : List ℕ). Prints t h trace r (b ∷ bytes) (l ++ rest) after r′) (sym (refused-as b q NotObservable (sym e))) (log.not-observable never p)
   by-verifier trace r m b q n s bytes rest after r′ a e (Accepting.incompatible so li ob impossible) p =
       subst (λ (l : List ℕ). Prints t h trace r (b ∷ bytes) (l ++ rest) after r′) (sym (refused-as b q Incompatible (sym e))) (log.incompatible ob (impossible trace (a .estimator)) p)
 
   -- the enforcer refuses nothing that the verifier accepts
-  agree : (trace : List ℕ) (r : ℕ) (m : Monitor) (b n : ℕ) (v w : Steps) (k : ℕ) (s : Estimator) (output left : List ℕ) (e : Enforcer) → After trace r m
-      → Accepting t h (m .estimator) b (verifier.verdicts v w k) s → length output ≡ 17 → Offering t h (m .enforcer) b output (enforcer.refused n) e left → ⊥
-  agree trace r m b n v w k s output left e a acc wide (Offering.malformed bad) = bad (sound, a .enforcer .limits)
-  agree trace r m b n v w k s output left e a acc wide (Offering.output-too-small so li small) = omega arith
-  agree trace r m b n v w k s output left e a (Accepting.accepted so li ob ls bw bs size exact) wide (Offering.not-observable so′ li′ enough never) = never ob
-  agree trace r m b n v w k s output left e a (Accepting.accepted so li ob ls bw bs size exact) wide (Offering.incompatible so′ li′ enough ob′ impossible) =
+  agree : (trace : List ℕ) (r : ℕ) (m : Monitor) (b n : ℕ) (vs : List Told) (k : ℕ) (s : Estimator) (output left : List ℕ) (e : Enforcer) → After trace r m
+      → Accepting t h (m .estimator) b (verifier.verdicts vs k) s → length output ≡ 17 → Offering t h (m .enforcer) b output (enforcer.refused n) e left → ⊥
+  agree trace r m b n vs k s output left e a acc wide (Offering.malformed bad) = bad (sound, third.held Weak t h noFurther trace (m .enforcer) (a .enforcer) .limits)
+  agree trace r m b n vs k s output left e a acc wide (Offering.output-too-small so li small) = omega arith
+  agree trace r m b n vs k s output left e a (Accepting.accepted so li ob same ls many bounded size exact) wide (Offering.not-observable so′ li′ enough never) = never ob
+  agree trace r m b n vs k s output left e a (Accepting.accepted so li ob same ls many bounded size exact) wide (Offering.incompatible so′ li′ enough ob′ impossible) =
       let x = exact trace (a .estimator) in
       let p = x .grown .possible in
-      impossible Weak trace (a .enforcer) (p .run) (p .compatible)
+      impossible Weak trace (third.held Weak t h noFurther trace (m .enforcer) (a .enforcer)) (p .run) (p .compatible)
 
   -- an event that both accept
   record Accepted (trace : List ℕ) (r : ℕ) (m : Monitor) (b : ℕ) (j : Judgement) (s : Estimator) (f : ℕ) (e : Enforcer) (left : List ℕ) : Type 0 where
     observable : Observable h b
     possible : Possible (automatonOf t h) (trace ++ b ∷ [])
-    told : Right t h (trace ++ b ∷ []) (stepsOf (j .verdicts .weak)) (stepsOf (j .verdicts .strong)) (j .size)
+    told : RightOwn t h (trace ++ b ∷ []) (j .verdicts .own) (j .size)
     longest : Released t h (trace ++ b ∷ []) (r + f)
     piece : take f left ≡ take f (drop r (trace ++ b ∷ []))
     then : After (trace ++ b ∷ []) (r + f) (acceptedOnce m s e f)
 
   by-both : (trace : List ℕ) (r : ℕ) (m : Monitor) (b : ℕ) (j : Judgement) (s : Estimator) (f n : ℕ) (e : Enforcer) (output left : List ℕ) → After trace r m
-      → Accepting t h (m .estimator) b (verifier.verdicts (stepsOf (j .verdicts .weak)) (stepsOf (j .verdicts .strong)) (j .size)) s → Offering t h (m .enforcer) b output (enforcer.released f n) e left
-      → Accepted trace r m b j s f e left
-  by-both trace r m b j s f n e output left a (Accepting.accepted so li ob ls bw bs size exact) (Offering.accepted so′ li′ wide ob′ after bal front rest size′ exact′) =
+      → Accepting t h (m .estimator) b (verifier.verdicts (toldEach (m .estimator .further) (j .verdicts)) (j .size)) s
+      → Offering t h (m .enforcer) b output (enforcer.released f n) e left → Accepted trace r m b j s f e left
+  by-both trace r m b j s f n e output left a (Accepting.accepted so li ob same ls many bounded size exact) off =
       let x = exact trace (a .estimator) in
-      let y = exact′ Weak trace (a .enforcer) in
-      let c = m .enforcer .count in
+      let y = third.one Weak t h noFurther sound trace (m .enforcer) b output (enforcer.released f n) e left (a .enforcer) off in
       let len : length (trace ++ b ∷ []) ≡ length trace + 1 = length-append trace (b ∷ []) in
-      let here : length trace - c ≡ r = omega (arith, a .pending) in
-      let there : length (trace ++ b ∷ []) - e .count ≡ r + f = omega (arith, a .pending) in
-      let passes = passes-accepted (Safe Weak (automatonOf t h) (h .secret) (h .k)) trace c (m .enforcer .pending) (m .enforcer .waits) b f n output left (e .count) (a .enforcer .queue) bal front in
+      let here : length trace - m .enforcer .count ≡ r = omega (arith, a .pending) in
+      let there : length (trace ++ b ∷ []) - e .count ≡ r + f = omega (arith, a .pending, y .passes .shifted) in
       record {
         observable = ob;
-        possible = y .possible;
-        told = right t h (trace ++ b ∷ []) (stepsOf (j .verdicts .weak)) (stepsOf (j .verdicts .strong)) (j .size) s size x;
-        longest = subst (Released t h (trace ++ b ∷ [])) there (y .grown .queue .longest);
-        piece = passes .piece ∙ ap (λ (k : ℕ). take f (drop k (trace ++ b ∷ []))) here;
+        possible = x .possible;
+        told = right-own t h (m .estimator .further) (trace ++ b ∷ []) j
+            (right t h (m .estimator .further) (trace ++ b ∷ []) (toldEach (m .estimator .further) (j .verdicts)) (j .size) s many size x);
+        longest = only-longest Weak (automatonOf t h) h noFurther (trace ++ b ∷ []) (r + f) refl
+            (subst (Longest (SafeForAll Weak (automatonOf t h) (secretsOf h noFurther)) (trace ++ b ∷ [])) there (y .after .grown .queue .longest));
+        piece = y .passes .piece ∙ ap (λ (k : ℕ). take f (drop k (trace ++ b ∷ []))) here;
         then = record {
           estimator = x .grown;
-          enforcer = y .grown;
+          enforcer = y .after;
           accepted = omega (arith, a .accepted);
           released = omega (arith, a .released);
-          pending = omega (arith, a .pending);
+          pending = omega (arith, there, y .passes .few);
         };
       }
 
   print-accepted : (trace : List ℕ) (r : ℕ) (m : Monitor) (b : ℕ) (j : Judgement) (s : Estimator) (f : ℕ) (e : Enforcer) (left bytes rest after : List ℕ) (r′ : ℕ) → After trace r m
       → Accepted trace r m b j s f e left → Prints t h (trace ++ b ∷ []) (r + f) bytes rest after r′
-      → Prints t h trace r (b ∷ bytes) (acceptedLine (m .accepted + 1) b (j .verdicts .weak) (j .verdicts .strong) (j .size) (take f left) ++ rest) after r′
+      → Prints t h trace r (b ∷ bytes) (acceptedLine (m .accepted + 1) b (j .verdicts .own .weak) (j .verdicts .own .strong) (j .size) (take f left) ++ rest) after r′
   print-accepted trace r m b j s f e left bytes rest after r′ a x p =
-      subst (λ (l : List ℕ). Prints t h trace r (b ∷ bytes) (acceptedLine (m .accepted + 1) b (j .verdicts .weak) (j .verdicts .strong) (j .size) l ++ rest) after r′) (sym (x .piece))
-      (subst (λ (k : ℕ). Prints t h trace r (b ∷ bytes) (acceptedLine (k + 1) b (j .verdicts .weak) (j .verdicts .strong) (j .size) (take f (drop r (trace ++ b ∷ []))) ++ rest) after r′) (sym (a .accepted))
-      (log.accepted j f (x .observable) (x .possible) (x .told) (x .longest) p))
+      subst (λ (l : List ℕ). Prints t h trace r (b ∷ bytes) (acceptedLine (m .accepted + 1) b (j .verdicts .own .weak) (j .verdicts .own .strong) (j .size) l ++ rest) after r′) (sym (x .piece))
+      (subst (λ (k : ℕ). Prints t h trace r (b ∷ bytes) (acceptedLine (k + 1) b (j .verdicts .own .weak) (j .verdicts .own .strong) (j .size) (take f (drop r (trace ++ b ∷ []))) ++ rest) after r′) (sym (a .accepted))
+      (log.accepted (j .verdicts .own) (j .size) f (x .observable) (x .possible) (x .told) (x .longest) p))
 
   -- all event bytes
   record Ended (trace : List ℕ) (r : ℕ) (bytes text : List ℕ) (e : Monitor) : Type 0 where
@@ -135,8 +136,8 @@ module _ (t : List ℕ) (h : Header) (sound : Sound t h) where
         accepted = y .accepted;
         pending = y .pending;
       }
-  follow trace r m bytes text e a (next {byte = b} (not-enforced q {v = v} {w = w} {n = k} {s = s} {e = e′} {output = output} {left = left} acc wide off) ls) =
-      absurd (agree trace r m b (numberOf q) v w k s output left e′ a acc wide off)
+  follow trace r m bytes text e a (next {byte = b} (not-enforced q {vs = vs} {n = k} {s = s} {e = e′} {output = output} {left = left} acc wide off) ls) =
+      absurd (agree trace r m b (numberOf q) vs k s output left e′ a acc wide off)
   follow trace r m bytes text e a (next {byte = b} {bytes = bs} {rest = rest} (accepted j {s = s} {f = f} {n = n} {e = e′} {output = output} {left = left} acc wide off) ls) =
       let x = by-both trace r m b j s f n e′ output left a acc off in
       let y = follow (trace ++ b ∷ []) (r + f) (acceptedOnce m s e′ f) bs rest e (x .then) ls in
@@ -155,7 +156,7 @@ log-promise log n t h m bytes text e (opened within d fresh) ls =
     let few = fresh .enforcer .queue .few in
     let a : After t h sound [] 0 m = record {
       estimator = fresh .estimator;
-      enforcer = fresh .enforcer;
+      enforcer = third.after-held Weak t h noFurther [] (m .enforcer) (fresh .enforcer-alone) (fresh .enforcer);
       accepted = fresh .accepted;
       released = fresh .released;
       pending = omega arith;

@@ -10,13 +10,12 @@ use Rattle.encoding.proofs.Only.{Same, one-decoding}
 use Rattle.verifier.specs.declared.Notion.the-variants.{Weak}
 use Rattle.verifier.specs.declared.Verdict.{Verdict}
 use Rattle.verifier.specs.declared.Verdict.the-variants.{NoLeak, Leak}
-use Rattle.verifier.specs.declared.Judgement.{Judgement}
+use Rattle.verifier.specs.declared.Verdicts.{Verdicts}
 use Rattle.verifier.specs.Verdicts.{stepsOf}
-use Rattle.verifier.specs.Calls.{Right}
 use Rattle.enforcer.proofs.Unique.{one-longest}
 use Rattle.report.specs.Text.{decimal, line, acceptedLine, idleLine, refusedLine, endLine}
 use Rattle.automaton.specs.declared.Refusal.the-variants.{NotObservable, Incompatible}
-use Rattle.monitor.specs.Opening.{encodingOf, Decodes}
+use Rattle.monitor.specs.Opening.{encodingOf, RightOwn, Decodes}
 use Rattle.monitor.specs.LogText.{Prints, none, not-observable, incompatible, accepted}
 use Rattle.monitor.specs.Log.{eventsOf, OpeningLeak, Refused, truncated, not-decoded, initial-leak, Monitored, Output, refused, idle, ended}
 
@@ -72,14 +71,15 @@ one-verdict (Leak l) NoLeak e = let z : _≡_ {A = ℕ} 0 1 = cc in absurd (omeg
 one-verdict (Leak l) (Leak m) e = cc
 
 -- verdicts and a number that are right leave no choice
-one-judgement : (t : List ℕ) (h : Header) (trace : List ℕ) (j k : Judgement)
-    → Right t h trace (stepsOf (j .verdicts .weak)) (stepsOf (j .verdicts .strong)) (j .size)
-    → Right t h trace (stepsOf (k .verdicts .weak)) (stepsOf (k .verdicts .strong)) (k .size) → j ≡ k
-one-judgement t h trace j k x y =
-    let weak = one-verdict (j .verdicts .weak) (k .verdicts .weak) (x .weak _ .1 (y .weak _ .0 refl)) in
-    let strong = one-verdict (j .verdicts .strong) (k .verdicts .strong) (x .strong _ .1 (y .strong _ .0 refl)) in
-    let size = x .size .exactly (k .size) .1 (y .size .exactly (k .size) .0 refl) in
-    λ i. record { verdicts = record { weak = weak i; strong = strong i }; size = size i }
+record OneJudgement (v w : Verdicts) (n m : ℕ) : Type 0 where
+  verdicts : v ≡ w
+  size : n ≡ m
+
+one-judgement : (t : List ℕ) (h : Header) (trace : List ℕ) (v w : Verdicts) (n m : ℕ) → RightOwn t h trace v n → RightOwn t h trace w m → OneJudgement v w n m
+one-judgement t h trace v w n m x y =
+    let weak = one-verdict (v .weak) (w .weak) (x .weak _ .1 (y .weak _ .0 refl)) in
+    let strong = one-verdict (v .strong) (w .strong) (x .strong _ .1 (y .strong _ .0 refl)) in
+    record { verdicts = λ i. record { weak = weak i; strong = strong i }; size = x .size .exactly m .1 (y .size .exactly m .0 refl) }
 
 -- the same lines, and the same events accepted and released
 record Alike (text text′ after after′ : List ℕ) (r r′ : ℕ) : Type 0 where
@@ -95,20 +95,20 @@ module _ (t : List ℕ) (h : Header) where
       let y = print-more trace r bs p p′ in
       record { text-is = ap (λ (l : List ℕ). refusedLine b NotObservable ++ l) (y .text-is); after-is = y .after-is; released-is = y .released-is }
   print-more trace r bytes (not-observable n p) (incompatible o i p′) = absurd (n o)
-  print-more trace r bytes (not-observable n p) (accepted j f o po ri re p′) = absurd (n o)
+  print-more trace r bytes (not-observable never p) (accepted v n f o po ri re p′) = absurd (never o)
   print-more trace r bytes (incompatible o i p) (not-observable n p′) = absurd (n o)
   print-more trace r bytes (incompatible {bytes = bs} {b = b} o i p) (incompatible o′ i′ p′) =
       let y = print-more trace r bs p p′ in
       record { text-is = ap (λ (l : List ℕ). refusedLine b Incompatible ++ l) (y .text-is); after-is = y .after-is; released-is = y .released-is }
-  print-more trace r bytes (incompatible o i p) (accepted j f o′ po ri re p′) = absurd (i (po .run) (po .compatible))
-  print-more trace r bytes (accepted j f o po ri re p) (not-observable n p′) = absurd (n o)
-  print-more trace r bytes (accepted j f o po ri re p) (incompatible o′ i p′) = absurd (i (po .run) (po .compatible))
-  print-more trace r bytes (accepted {bytes = bs} {b = b} j f o po ri re p) (accepted {text = text′} {after = after′} {r′ = k′} j′ f′ o′ po′ ri′ re′ p′) =
+  print-more trace r bytes (incompatible o i p) (accepted v n f o′ po ri re p′) = absurd (i (po .run) (po .compatible))
+  print-more trace r bytes (accepted v n f o po ri re p) (not-observable never p′) = absurd (never o)
+  print-more trace r bytes (accepted v n f o po ri re p) (incompatible o′ i p′) = absurd (i (po .run) (po .compatible))
+  print-more trace r bytes (accepted {bytes = bs} {b = b} v n f o po ri re p) (accepted {text = text′} {after = after′} {r′ = k′} w m f′ o′ po′ ri′ re′ p′) =
       let same : f′ ≡ f = omega (arith, one-longest _ (trace ++ b ∷ []) (r + f) (r + f′) re re′) in
-      let one = one-judgement t h (trace ++ b ∷ []) j j′ ri ri′ in
+      let one = one-judgement t h (trace ++ b ∷ []) v w n m ri ri′ in
       let y = print-more (trace ++ b ∷ []) (r + f) bs p (subst (λ (k : ℕ). Prints t h (trace ++ b ∷ []) (r + k) bs text′ after′ k′) same p′) in
       record {
-        text-is = λ i. acceptedLine (length trace + 1) b (one i .verdicts .weak) (one i .verdicts .strong) (one i .size) (take (sym same i) (drop r (trace ++ b ∷ []))) ++ y .text-is i;
+        text-is = λ i. acceptedLine (length trace + 1) b (one .verdicts i .weak) (one .verdicts i .strong) (one .size i) (take (sym same i) (drop r (trace ++ b ∷ []))) ++ y .text-is i;
         after-is = y .after-is;
         released-is = y .released-is;
       }
@@ -116,16 +116,16 @@ module _ (t : List ℕ) (h : Header) where
 pub one-output : (input : List ℕ) {a b : List ℕ} → Output input a → Output input b → a ≡ b
 one-output input (refused r x) (refused q y) =
     ap (λ (n : ℕ). line ((114 ∷ 101 ∷ 102 ∷ 117 ∷ 115 ∷ 101 ∷ 100 ∷ []) ∷ decimal n ∷ [])) (one-refusal x y)
-one-output input (refused r x) (idle j m e ri) = absurd (not-both x m)
+one-output input (refused r x) (idle v n m e ri) = absurd (not-both x m)
 one-output input (refused r x) (ended m l p) = absurd (not-both x m)
-one-output input (idle j m e ri) (refused r x) = absurd (not-both x m)
-one-output input (idle {t = t} {h = h} j m e ri) (idle j′ m′ e′ ri′) =
-    let here = one-automaton (λ (x : List ℕ) (y : Header). Right x y [] (stepsOf (j′ .verdicts .weak)) (stepsOf (j′ .verdicts .strong)) (j′ .size)) (m′ .decodes) (m .decodes) ri′ in
-    let one = one-judgement t h [] j j′ ri here in
-    λ i. idleLine (one i .verdicts .weak) (one i .verdicts .strong) (one i .size) ++ endLine 0 0 0
-one-output input (idle j m e ri) (ended m′ l p) = absurd (omega arith)
+one-output input (idle v n m e ri) (refused r x) = absurd (not-both x m)
+one-output input (idle {t = t} {h = h} v n m e ri) (idle v′ n′ m′ e′ ri′) =
+    let here = one-automaton (λ (x : List ℕ) (y : Header). RightOwn x y [] v′ n′) (m′ .decodes) (m .decodes) ri′ in
+    let one = one-judgement t h [] v v′ n n′ ri here in
+    λ i. idleLine (one .verdicts i .weak) (one .verdicts i .strong) (one .size i) ++ endLine 0 0 0
+one-output input (idle v n m e ri) (ended m′ l p) = absurd (omega arith)
 one-output input (ended m l p) (refused r x) = absurd (not-both x m)
-one-output input (ended m l p) (idle j m′ e ri) = absurd (omega arith)
+one-output input (ended m l p) (idle v n m′ e ri) = absurd (omega arith)
 one-output input (ended {t = t} {h = h} m l p) (ended {text = text′} {trace = trace′} {r = r′} m′ l′ p′) =
     let here = one-automaton (λ (x : List ℕ) (y : Header). Prints x y [] 0 (eventsOf input) text′ trace′ r′) (m′ .decodes) (m .decodes) p′ in
     let y = print-more t h [] 0 (eventsOf input) p here in

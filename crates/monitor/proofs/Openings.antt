@@ -5,43 +5,58 @@ use Prim.Native.Nat.{ℕ, _-_, _≤_, _<_}
 use native.Mathlib.Omega.{arith}
 use Rattle.automaton.specs.Run.{Sound}
 use Rattle.automaton.specs.declared.Header.{Header}
-use Rattle.verifier.specs.declared.Notion.the-variants.{Weak}
+use Rattle.verifier.specs.declared.Notion.the-variants.{Weak, Strong}
 use Rattle.verifier.specs.declared.Estimator.{Estimator}
 use Rattle.verifier.specs.declared.Judgement.{Judgement}
-use Rattle.verifier.specs.Verdicts.{stepsOf}
+use Rattle.verifier.specs.declared.Further.{Further}
+use Rattle.verifier.specs.Secrets.{noFurther}
 use Rattle.verifier.specs.Replies as verifier
+use Rattle.verifier.specs.Replies.{toldEach, OthersNoLeak}
+use Rattle.verifier.specs.Calls.{Right}
 use Rattle.verifier.proofs.SecondPoint.{right}
 use lib.ListN.{length, take, drop}
 use Rattle.encoding.specs.Decoding.{Outcome, accept, Decoding}
 use Rattle.enforcer.specs.declared.Enforcer.{Enforcer}
 use Rattle.enforcer.specs.Offerings as enforcer
 use Rattle.enforcer.specs.Offerings.{Starting}
-use Rattle.monitor.specs.Opening.{Said, refused, started, frontSize, Decodes, NoMonitor, Opening, opened, Begun, leaks, begun}
+use Rattle.monitor.specs.Opening.{Said, refused, started, frontSize, RightOwn, Decodes, NoMonitor, Opening, opened, Begun, leaks, begun}
 use Rattle.monitor.specs.declared.Monitor.{Monitor}
 
 pub not-begun : (t : List ℕ) (h : Header) (events n : ℕ) (e : Enforcer) (t′ : List ℕ) (h′ : Header) (m : Monitor) → Sound t h
-    → Starting t h Weak (enforcer.not-started n) e → NoMonitor h′ m → Begun t h events (refused n) t′ h′ m
+    → Starting t h noFurther Weak (enforcer.not-started n) e → NoMonitor h′ m → Begun t h events (refused n) t′ h′ m
 not-begun t h events n e t′ h′ m so (Starting.malformed bad out) b = absurd (bad so)
-not-begun t h events n e t′ h′ m so (Starting.initial-leak so′ tells out) b = leaks (Starting.initial-leak so′ tells out) b
+not-begun t h events n e t′ h′ m so (Starting.too-many-secrets so′ many out) b = absurd (omega arith)
+not-begun t h events n e t′ h′ m so (Starting.look-back-too-large so′ few large out) b = absurd (omega (arith, large .given))
+not-begun t h events n e t′ h′ m so (Starting.initial-leak so′ allowed opens out) b = leaks (Starting.initial-leak so′ allowed opens out) b
+
+-- of all verdicts that are right, those of the automaton's own secret
+pub right-own : (t : List ℕ) (h : Header) (f : Further) (trace : List ℕ) (j : Judgement) → Right t h f trace (toldEach f (j .verdicts)) (j .size)
+    → RightOwn t h trace (j .verdicts .own) (j .size)
+right-own t h f trace j x = record { weak = x .each Weak 0 (omega arith); strong = x .each Strong 0 (omega arith); size = x .size }
 
 abbrev freshOf : Judgement → Estimator → Enforcer → Monitor
 freshOf j s e = record { opening = j; estimator = s; enforcer = e; offered = 0; accepted = 0; released = 0 }
 
-pub is-begun : (t : List ℕ) (h : Header) (events : ℕ) (e : Enforcer) (j : Judgement) (s : Estimator) → Starting t h Weak enforcer.started e
-    → verifier.Opening t h (verifier.verdicts (stepsOf (j .verdicts .weak)) (stepsOf (j .verdicts .strong)) (j .size)) s
+pub is-begun : (t : List ℕ) (h : Header) (events : ℕ) (e : Enforcer) (j : Judgement) (s : Estimator) → Starting t h noFurther Weak enforcer.started e
+    → verifier.Opening t h noFurther (verifier.verdicts (toldEach noFurther (j .verdicts)) (j .size)) s → OthersNoLeak noFurther (j .verdicts)
     → Begun t h events (started events) t h (freshOf j s e)
-is-begun t h events e j s (Starting.ready so′ tells grown) (verifier.Opening.opened so li within x) = begun record {
-  opening = right t h [] (stepsOf (j .verdicts .weak)) (stepsOf (j .verdicts .strong)) (j .size) s within x;
+is-begun t h events e j s (Starting.ready so′ allowed′ tells same′ grown) (verifier.Opening.opened so allowed same li many within x) others = begun record {
+  opening = right-own t h noFurther [] j (right t h noFurther [] (toldEach noFurther (j .verdicts)) (j .size) s many within x);
+  others = others;
   estimator = x .grown;
   enforcer = grown;
+  alone = same;
+  enforcer-alone = same′;
   offered = refl;
   accepted = refl;
   released = refl;
 }
 
 -- a fresh verifier refuses no automaton
-pub verified : {t : List ℕ} {h : Header} {n : ℕ} {s : Estimator} → Sound t h → verifier.Opening t h (verifier.refused n) s → ⊥
+pub verified : {t : List ℕ} {h : Header} {n : ℕ} {s : Estimator} → Sound t h → verifier.Opening t h noFurther (verifier.refused n) s → ⊥
 verified so (verifier.Opening.malformed bad out) = bad so
+verified so (verifier.Opening.too-many-secrets so′ many out) = omega arith
+verified so (verifier.Opening.look-back-too-large so′ few large out) = omega (arith, large .given)
 
 -- a log without its encoding ends too early
 pub short : (log : List ℕ) → (frontSize log ≤ length log → ⊥) → length log < frontSize log

@@ -11,10 +11,10 @@ use Rattle.automaton.specs.declared.Refusal.{Refusal}
 use Rattle.automaton.specs.Refusals.{numberOf}
 use Rattle.verifier.specs.declared.Estimator.{Estimator}
 use Rattle.verifier.specs.declared.Judgement.{Judgement}
-use Rattle.verifier.specs.Verdicts.{Steps, stepsOf}
 use Rattle.verifier.specs.Estimators as estimators
 use Rattle.verifier.specs.Replies as verifier
-use Rattle.verifier.specs.Replies.{Accepting}
+use Rattle.verifier.specs.Replies.{Told, toldEach, Accepting}
+use Rattle.verifier.proofs.Numbering.{look-back-small}
 use Rattle.enforcer.specs.declared.Enforcer.{Enforcer}
 use Rattle.enforcer.specs.Enforcers as enforcers
 use Rattle.enforcer.specs.Offerings as enforcer
@@ -47,25 +47,26 @@ pub by-verifier : (t : List ℕ) (h : Header) (m : Monitor) (byte : ℕ) (r : Re
 by-verifier t h m byte r s after {out} {out′} {at} {next} b acc e p = subst (λ (x : Monitor). Stepped t h m byte out at x next out′) (sym e)
     record { text = refusedLine byte r; steps = not-verified r acc; printed = p; within = refused-within t h m b }
 
-pub by-enforcer : (t : List ℕ) (h : Header) (m : Monitor) (byte : ℕ) (r : Refusal) (v w : Steps) (n : ℕ) (s : Estimator) (e : Enforcer) (output left : List ℕ) (after : Monitor)
-    {out out′ : List ℕ} {at next : ℕ} → Within t h m → Accepting t h (m .estimator) byte (verifier.verdicts v w n) s
+pub by-enforcer : (t : List ℕ) (h : Header) (m : Monitor) (byte : ℕ) (r : Refusal) (vs : List Told) (n : ℕ) (s : Estimator) (e : Enforcer) (output left : List ℕ) (after : Monitor)
+    {out out′ : List ℕ} {at next : ℕ} → Within t h m → Accepting t h (m .estimator) byte (verifier.verdicts vs n) s
     → length output ≡ 17 → Offering t h (m .enforcer) byte output (enforcer.refused (numberOf r)) e left → after ≡ offeredOnce m → Printed out at (refusedLine byte r) next out′
     → Stepped t h m byte out at after next out′
-by-enforcer t h m byte r v w n s e output left after {out} {out′} {at} {next} b acc wide off eq p = subst (λ (x : Monitor). Stepped t h m byte out at x next out′) (sym eq)
+by-enforcer t h m byte r vs n s e output left after {out} {out′} {at} {next} b acc wide off eq p = subst (λ (x : Monitor). Stepped t h m byte out at x next out′) (sym eq)
     record { text = refusedLine byte r; steps = not-enforced r acc wide off; printed = p; within = refused-within t h m b }
 
-accepted-limits : (t : List ℕ) (h : Header) (self : Estimator) (byte : ℕ) (v w : Steps) (n : ℕ) (s : Estimator) → Accepting t h self byte (verifier.verdicts v w n) s
-    → estimators.Limits (h .k) s
-accepted-limits t h self byte v w n s (Accepting.accepted so li ob after bw bs size exact) = after
+accepted-limits : (t : List ℕ) (h : Header) (self : Estimator) (byte : ℕ) (vs : List Told) (n : ℕ) (s : Estimator) → Accepting t h self byte (verifier.verdicts vs n) s
+    → estimators.InLimits h s
+accepted-limits t h self byte vs n s (Accepting.accepted so li ob same after many bounded size exact) = after
 
 -- the counts of an offer
 record Counted (h : Header) (m : Monitor) (f : ℕ) (e : Enforcer) : Type 0 where
   few : f ≤ 17
   kept : f + e .count ≡ m .enforcer .count + 1
-  limits : enforcers.Limits (h .k) e
+  limits : enforcers.InLimits h e
 
 counted : (t : List ℕ) (h : Header) (m : Monitor) (byte f n : ℕ) (e : Enforcer) (output left : List ℕ) → Offering t h (m .enforcer) byte output (enforcer.released f n) e left → Counted h m f e
-counted t h m byte f n e output left (Offering.accepted so li wide ob after bal front rest size exact) = record { few = omega (arith, li .few, so .back); kept = bal; limits = after }
+counted t h m byte f n e output left (Offering.accepted so li wide ob same after bal front rest size exact) =
+    record { few = omega (arith, li .few, look-back-small h (m .enforcer .estimator .further) (so .back) (li .estimator .allowed)); kept = bal; limits = after }
 
 pub countable : (t : List ℕ) (h : Header) (m : Monitor) (byte f n : ℕ) (e : Enforcer) (output left : List ℕ) (out : List ℕ) (at : ℕ) → Within t h m → Ready m out at
     → Offering t h (m .enforcer) byte output (enforcer.released f n) e left → Countable m f
@@ -79,20 +80,20 @@ countable t h m byte f n e output left out at b ready off =
 
 pub by-both : (t : List ℕ) (h : Header) (m : Monitor) (byte : ℕ) (j : Judgement) (s : Estimator) (f n : ℕ) (e : Enforcer) (output left : List ℕ) (after : Monitor)
     {out out′ : List ℕ} {at next : ℕ} → Within t h m
-    → Accepting t h (m .estimator) byte (verifier.verdicts (stepsOf (j .verdicts .weak)) (stepsOf (j .verdicts .strong)) (j .size)) s
+    → Accepting t h (m .estimator) byte (verifier.verdicts (toldEach (m .estimator .further) (j .verdicts)) (j .size)) s
     → length output ≡ 17 → Offering t h (m .enforcer) byte output (enforcer.released f n) e left → after ≡ acceptedOnce m s e f
-    → Printed out at (acceptedLine (m .accepted + 1) byte (j .verdicts .weak) (j .verdicts .strong) (j .size) (take f left)) next out′
+    → Printed out at (acceptedLine (m .accepted + 1) byte (j .verdicts .own .weak) (j .verdicts .own .strong) (j .size) (take f left)) next out′
     → Stepped t h m byte out at after next out′
 by-both t h m byte j s f n e output left after {out} {out′} {at} {next} b acc wide off eq p =
     let c = counted t h m byte f n e output left off in
     subst (λ (x : Monitor). Stepped t h m byte out at x next out′) (sym eq)
     record {
-      text = acceptedLine (m .accepted + 1) byte (j .verdicts .weak) (j .verdicts .strong) (j .size) (take f left);
+      text = acceptedLine (m .accepted + 1) byte (j .verdicts .own .weak) (j .verdicts .own .strong) (j .size) (take f left);
       steps = accepted j acc wide off;
       printed = p;
       within = record {
         sound = b .sound;
-        estimator = accepted-limits t h (m .estimator) byte (stepsOf (j .verdicts .weak)) (stepsOf (j .verdicts .strong)) (j .size) s acc;
+        estimator = accepted-limits t h (m .estimator) byte (toldEach (m .estimator .further) (j .verdicts)) (j .size) s acc;
         enforcer = c .limits;
         balanced = record { among = omega (arith, b .balanced .among); balance = omega (arith, b .balanced .balance, c .kept) };
       };

@@ -21,7 +21,7 @@ abbrev pub said : AdvanceAnswer → Said
 said (answer.Refused r) = refused (numberOf r)
 said (answer.Taken n next) = taken n next
 
--- there is room for a line, and a further event byte is allowed: 01 ends a log after 4,294,967,295 of them
+-- there is room for a line, and one more event byte is allowed: 01 ends a log after 4,294,967,295 of them
 pub record Ready (m : Monitor) (out : List ℕ) (at : ℕ) : Type 0 where
   pub room : at + 256 ≤ length out
   pub allowed : m .offered + 1 ≤ 4294967295

@@ -7,7 +7,7 @@ use Rattle.monitor.specs.declared.Monitor.{Monitor}
 
 -- where no event byte was offered, the line of an idle log; else nothing, also where every byte was refused
 abbrev pub beforeLast : (offered : ℕ) → Judgement → List ℕ
-beforeLast zero opening = idleLine (opening .verdicts .weak) (opening .verdicts .strong) (opening .size)
+beforeLast zero opening = idleLine (opening .verdicts .own .weak) (opening .verdicts .own .strong) (opening .size)
 beforeLast (suc n) opening = []
 
 -- and the last line, behind it

@@ -11,11 +11,10 @@ use Rattle.automaton.specs.declared.Refusal.{Refusal}
 use Rattle.encoding.specs.Decoding.{accept, refuse}
 use Rattle.verifier.specs.declared.Notion.{Notion}
 use Rattle.verifier.specs.declared.Notion.the-variants.{Weak}
-use Rattle.verifier.specs.declared.Judgement.{Judgement}
-use Rattle.verifier.specs.Verdicts.{stepsOf, LeakAt}
-use Rattle.verifier.specs.Calls.{Right}
+use Rattle.verifier.specs.declared.Verdicts.{Verdicts}
+use Rattle.verifier.specs.Verdicts.{LeakAt}
 use Rattle.report.specs.Text.{idleLine, refusedLog, endLine}
-use Rattle.monitor.specs.Opening.{frontSize, Decodes}
+use Rattle.monitor.specs.Opening.{frontSize, RightOwn, Decodes}
 use Rattle.monitor.specs.LogText.{Prints}
 
 -- one byte an event. (01: after 4,294,967,295 event bytes it ends as if the input had ended)
@@ -43,8 +42,7 @@ pub record Monitored (input t : List ℕ) (h : Header) : Type 0 where
 -- released and pending (01: freed, held)
 pub data Output (input : List ℕ) : List ℕ → Type 0 where
   refused : (r : Refusal) → Refused input (numberOf r) → Output input (refusedLog r)
-  idle : {t : List ℕ} {h : Header} (j : Judgement) → Monitored input t h → length input ≡ frontSize input
-      → Right t h [] (stepsOf (j .verdicts .weak)) (stepsOf (j .verdicts .strong)) (j .size)
-      → Output input (idleLine (j .verdicts .weak) (j .verdicts .strong) (j .size) ++ endLine 0 0 0)
+  idle : {t : List ℕ} {h : Header} (v : Verdicts) (n : ℕ) → Monitored input t h → length input ≡ frontSize input → RightOwn t h [] v n
+      → Output input (idleLine (v .weak) (v .strong) n ++ endLine 0 0 0)
   ended : {t text trace : List ℕ} {h : Header} {r : ℕ} → Monitored input t h → frontSize input < length input → Prints t h [] 0 (eventsOf input) text trace r
       → Output input (text ++ endLine (length trace) r (length trace - r))

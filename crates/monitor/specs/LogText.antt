@@ -7,12 +7,11 @@ use Rattle.automaton.specs.Run.{automatonOf, Observable, Possible, Impossible}
 use Rattle.automaton.specs.declared.Header.{Header}
 use Rattle.automaton.specs.declared.Refusal.the-variants.{NotObservable, Incompatible}
 use Rattle.verifier.specs.declared.Notion.the-variants.{Weak}
-use Rattle.verifier.specs.declared.Judgement.{Judgement}
-use Rattle.verifier.specs.Verdicts.{stepsOf}
-use Rattle.verifier.specs.Calls.{Right}
+use Rattle.verifier.specs.declared.Verdicts.{Verdicts}
 use Rattle.enforcer.specs.SafePrefix.{Safe}
 use Rattle.enforcer.specs.Queues.{Longest}
 use Rattle.report.specs.Text.{acceptedLine, refusedLine}
+use Rattle.monitor.specs.Opening.{RightOwn}
 use Rattle.monitor.specs.declared.Monitor.{Monitor}
 
 -- the first r events of the trace are its longest safe prefix (01: safe under weak)
@@ -27,10 +26,10 @@ pub data Prints (t : List ℕ) (h : Header) : (trace : List ℕ) (released : ℕ
   incompatible : {trace bytes text after : List ℕ} {r r′ b : ℕ} → Observable h b → Impossible (automatonOf t h) (trace ++ b ∷ []) → Prints t h trace r bytes text after r′
       → Prints t h trace r (b ∷ bytes) (refusedLine b Incompatible ++ text) after r′
   -- an accepted event: its place, itself, the verdicts, how many states are possible, and what is now in the longest safe prefix and was not before
-  accepted : {trace bytes text after : List ℕ} {r r′ b : ℕ} (j : Judgement) (f : ℕ) → Observable h b → Possible (automatonOf t h) (trace ++ b ∷ [])
-      → Right t h (trace ++ b ∷ []) (stepsOf (j .verdicts .weak)) (stepsOf (j .verdicts .strong)) (j .size) → Released t h (trace ++ b ∷ []) (r + f)
+  accepted : {trace bytes text after : List ℕ} {r r′ b : ℕ} (v : Verdicts) (n f : ℕ) → Observable h b → Possible (automatonOf t h) (trace ++ b ∷ [])
+      → RightOwn t h (trace ++ b ∷ []) v n → Released t h (trace ++ b ∷ []) (r + f)
       → Prints t h (trace ++ b ∷ []) (r + f) bytes text after r′
-      → Prints t h trace r (b ∷ bytes) (acceptedLine (length trace + 1) b (j .verdicts .weak) (j .verdicts .strong) (j .size) (take f (drop r (trace ++ b ∷ []))) ++ text) after r′
+      → Prints t h trace r (b ∷ bytes) (acceptedLine (length trace + 1) b (v .weak) (v .strong) n (take f (drop r (trace ++ b ∷ []))) ++ text) after r′
 
 -- a log that has started: the lines of its event bytes and the numbers of its last line
 pub record Promise (t : List ℕ) (h : Header) (bytes text : List ℕ) (e : Monitor) : Type 0 where

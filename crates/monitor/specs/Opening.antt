@@ -6,10 +6,14 @@ use lib.ListN.{length, getD, take, drop}
 use Rattle.automaton.specs.Run.{automatonOf}
 use Rattle.automaton.specs.Refusals.{numberOf}
 use Rattle.automaton.specs.declared.Header.{Header}
-use Rattle.verifier.specs.declared.Notion.the-variants.{Weak}
-use Rattle.verifier.specs.declared.Verdict.the-variants.{NoLeak}
-use Rattle.verifier.specs.Verdicts.{stepsOf}
-use Rattle.verifier.specs.Calls.{Right}
+use Rattle.verifier.specs.declared.Notion.the-variants.{Weak, Strong}
+use Rattle.verifier.specs.declared.Verdicts.{Verdicts}
+use Rattle.verifier.specs.declared.Judgement.{Judgement}
+use Rattle.verifier.specs.Secrets.{noFurther}
+use Rattle.verifier.specs.Verdicts.{stepsOf, Exactly}
+use Rattle.verifier.specs.Replies as verifier
+use Rattle.verifier.specs.Replies.{noLeaks, OthersNoLeak}
+use Rattle.verifier.specs.Calls.{RightSize}
 use Rattle.verifier.specs.Estimators as estimators
 use Rattle.encoding.specs.Decoding.{Outcome, accept, refuse, Decoding}
 use Rattle.enforcer.specs.declared.Enforcer.{Enforcer}
@@ -36,12 +40,21 @@ frontSize log = 2 + (getD log 0 0 * 256 + getD log 1 0)
 abbrev pub encodingOf : List ℕ → List ℕ
 encodingOf log = take (frontSize log - 2) (drop 2 log)
 
--- a fresh monitor: the verdicts and the number of possible states of the empty trace, a fresh estimator, an enforcer that a weak start has handed back,
--- and no event so far
+-- the verdicts of a trace for the automaton's own secret, the one secret of a log (02, S-6), and the number of possible states, are those of the definition
+pub record RightOwn (t : List ℕ) (h : Header) (trace : List ℕ) (v : Verdicts) (n : ℕ) : Type 0 where
+  pub weak : Exactly Weak (automatonOf t h) (h .secret) (h .k) trace (stepsOf (v .weak))
+  pub strong : Exactly Strong (automatonOf t h) (h .secret) (h .k) trace (stepsOf (v .strong))
+  pub size : RightSize (automatonOf t h) trace n
+
+-- a fresh monitor: the verdicts of the empty trace, with no leak in the places of further secrets, and its number of possible states; a fresh estimator and
+-- an enforcer that a weak start has handed back, both with no further secret; and no event so far
 pub record Fresh (t : List ℕ) (h : Header) (m : Monitor) : Type 0 where
-  pub opening : Right t h [] (stepsOf (m .opening .verdicts .weak)) (stepsOf (m .opening .verdicts .strong)) (m .opening .size)
-  pub estimator : estimators.Grown (automatonOf t h) (h .k) [] (m .estimator)
-  pub enforcer : enforcers.Grown Weak (automatonOf t h) (h .secret) (h .k) [] (m .enforcer)
+  pub opening : RightOwn t h [] (m .opening .verdicts .own) (m .opening .size)
+  pub others : OthersNoLeak noFurther (m .opening .verdicts)
+  pub estimator : estimators.GrownOn t h [] (m .estimator)
+  pub enforcer : enforcers.GrownOn Weak t h [] (m .enforcer)
+  pub alone : m .estimator .further ≡ noFurther
+  pub enforcer-alone : m .enforcer .estimator .further ≡ noFurther
   pub offered : m .offered ≡ 0
   pub accepted : m .accepted ≡ 0
   pub released : m .released ≡ 0
@@ -52,15 +65,19 @@ pub record Decodes (log : List ℕ) (h : Header) (answer : Outcome) (t : List �
   pub words : length before ≡ 2048
   pub decoding : Decoding (encodingOf log) before h answer t
 
+-- no leak and no state to tell
+abbrev pub nothingTold : Judgement
+nothingTold = record { verdicts = record { own = noLeaks; first = noLeaks; second = noLeaks; third = noLeaks }; size = 0 }
+
 -- what a refused log hands back: a header, an estimator and an enforcer that are outside their limits on every automaton, and a monitor that takes no byte
 pub record NoMonitor (h : Header) (m : Monitor) : Type 0 where
   pub header : 15 < h .k
-  pub estimator : (K : ℕ) → K ≤ 15 → estimators.Limits K (m .estimator) → ⊥
+  pub estimator : verifier.Unusable (m .estimator)
   pub enforcer : Unusable (m .enforcer)
   pub counts : Balanced m → ⊥
   -- it has had all event bytes that a log may have, so that its end is not that of an idle log; and it has no leak and no state to tell
   pub spent : m .offered ≡ 4294967295
-  pub opening : m .opening ≡ record { verdicts = record { weak = NoLeak; strong = NoLeak }; size = 0 }
+  pub opening : m .opening ≡ nothingTold
 
 -- the start of a log, in the order of its refusals: 1, those of the encoding, 8. What stands behind the encoding does not matter
 pub data Opening (log : List ℕ) : Said → (table : List ℕ) → Header → Monitor → Type 0 where
@@ -68,10 +85,10 @@ pub data Opening (log : List ℕ) : Said → (table : List ℕ) → Header → M
   not-decoded : {n : ℕ} {t t′ : List ℕ} {h h′ : Header} {m : Monitor} → frontSize log ≤ length log → Decodes log h′ (refuse n) t′ → NoMonitor h m
       → Opening log (refused n) t h m
   initial-leak : {t t′ : List ℕ} {h h′ : Header} {m : Monitor} {e : Enforcer} → frontSize log ≤ length log → Decodes log h′ accept t′
-      → Starting t′ h′ Weak (not-started 8) e → NoMonitor h m → Opening log (refused 8) t h m
+      → Starting t′ h′ noFurther Weak (not-started 8) e → NoMonitor h m → Opening log (refused 8) t h m
   opened : {t : List ℕ} {h : Header} {m : Monitor} → frontSize log ≤ length log → Decodes log h accept t → Fresh t h m → Opening log (started (frontSize log)) t h m
 
 -- a start on an automaton, inside `open`
 pub data Begun (t : List ℕ) (h : Header) (events : ℕ) : Said → List ℕ → Header → Monitor → Type 0 where
-  leaks : {t′ : List ℕ} {h′ : Header} {m : Monitor} {e : Enforcer} → Starting t h Weak (not-started 8) e → NoMonitor h′ m → Begun t h events (refused 8) t′ h′ m
+  leaks : {t′ : List ℕ} {h′ : Header} {m : Monitor} {e : Enforcer} → Starting t h noFurther Weak (not-started 8) e → NoMonitor h′ m → Begun t h events (refused 8) t′ h′ m
   begun : {m : Monitor} → Fresh t h m → Begun t h events (started events) t h m

@@ -11,10 +11,9 @@ use Rattle.automaton.specs.declared.Refusal.{Refusal}
 use Rattle.automaton.specs.Refusals.{numberOf}
 use Rattle.verifier.specs.declared.Estimator.{Estimator}
 use Rattle.verifier.specs.declared.Judgement.{Judgement}
-use Rattle.verifier.specs.Verdicts.{Steps, stepsOf}
 use Rattle.verifier.specs.Estimators as estimators
 use Rattle.verifier.specs.Replies as verifier
-use Rattle.verifier.specs.Replies.{Accepting}
+use Rattle.verifier.specs.Replies.{Told, toldEach, Accepting}
 use Rattle.enforcer.specs.declared.Enforcer.{Enforcer}
 use Rattle.enforcer.specs.Enforcers as enforcers
 use Rattle.enforcer.specs.Offerings as enforcer
@@ -32,8 +31,8 @@ pub record Balanced (m : Monitor) : Type 0 where
 -- on this automaton within its limits: its estimator and its enforcer are, and the counts agree
 pub record Within (t : List ℕ) (h : Header) (m : Monitor) : Type 0 where
   pub sound : Sound t h
-  pub estimator : estimators.Limits (h .k) (m .estimator)
-  pub enforcer : enforcers.Limits (h .k) (m .enforcer)
+  pub estimator : estimators.InLimits h (m .estimator)
+  pub enforcer : enforcers.InLimits h (m .enforcer)
   pub balanced : Balanced m
 
 -- one event more, and so many released ones, can be counted and printed
@@ -51,17 +50,17 @@ abbrev pub acceptedOnce : Monitor → Estimator → Enforcer → ℕ → Monitor
 acceptedOnce m s e f = record { opening = m .opening; estimator = s; enforcer = e; offered = m .offered + 1; accepted = m .accepted + 1; released = m .released + f }
 
 -- an event byte: the line, and the monitor after it. The byte is offered to the verifier, and where that accepts it to the enforcer, with an output of 17
--- bytes. The verdicts and the number of possible states in the line are the verifier's
+-- bytes. The verdicts of the automaton's own secret and the number of possible states in the line are the verifier's
 pub data Stepping (t : List ℕ) (h : Header) (m : Monitor) (byte : ℕ) : List ℕ → Monitor → Type 0 where
   not-verified : (r : Refusal) {s : Estimator} → Accepting t h (m .estimator) byte (verifier.refused (numberOf r)) s
       → Stepping t h m byte (refusedLine byte r) (offeredOnce m)
-  not-enforced : (r : Refusal) {v w : Steps} {n : ℕ} {s : Estimator} {e : Enforcer} {output left : List ℕ} → Accepting t h (m .estimator) byte (verifier.verdicts v w n) s
+  not-enforced : (r : Refusal) {vs : List Told} {n : ℕ} {s : Estimator} {e : Enforcer} {output left : List ℕ} → Accepting t h (m .estimator) byte (verifier.verdicts vs n) s
       → length output ≡ 17 → Offering t h (m .enforcer) byte output (enforcer.refused (numberOf r)) e left
       → Stepping t h m byte (refusedLine byte r) (offeredOnce m)
   accepted : (j : Judgement) {s : Estimator} {f n : ℕ} {e : Enforcer} {output left : List ℕ}
-      → Accepting t h (m .estimator) byte (verifier.verdicts (stepsOf (j .verdicts .weak)) (stepsOf (j .verdicts .strong)) (j .size)) s
+      → Accepting t h (m .estimator) byte (verifier.verdicts (toldEach (m .estimator .further) (j .verdicts)) (j .size)) s
       → length output ≡ 17 → Offering t h (m .enforcer) byte output (enforcer.released f n) e left
-      → Stepping t h m byte (acceptedLine (m .accepted + 1) byte (j .verdicts .weak) (j .verdicts .strong) (j .size) (take f left)) (acceptedOnce m s e f)
+      → Stepping t h m byte (acceptedLine (m .accepted + 1) byte (j .verdicts .own .weak) (j .verdicts .own .strong) (j .size) (take f left)) (acceptedOnce m s e f)
 
 -- event bytes one after another: their lines, and the monitor after them
 pub data Lines (t : List ℕ) (h : Header) : Monitor → List ℕ → List ℕ → Monitor → Type 0 where

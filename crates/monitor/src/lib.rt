@@ -9,6 +9,7 @@ use verifier::Answer;
 use verifier::Estimator;
 use verifier::Judgement;
 use verifier::Notion;
+use verifier::SecretVerdicts;
 use verifier::Verdict;
 use verifier::Verdicts;
 ghost use mathlib.Core.Path.{_≡_};
@@ -17,12 +18,11 @@ ghost use lib.ListN.{length};
 ghost use Rattle.stateset.specs.Set.{Decided};
 ghost use Rattle.automaton.specs.Run.{Sound};
 ghost use Rattle.verifier.specs.Replies as verifier;
-ghost use Rattle.verifier.specs.Replies.{Accepting};
-ghost use Rattle.verifier.specs.Verdicts.{stepsOf};
+ghost use Rattle.verifier.specs.Replies.{toldEach, Accepting};
 ghost use Rattle.report.specs.Writing.{roomAtEnd, Written};
 ghost use Rattle.report.specs.Text.{acceptedLine, refusedLine};
 ghost use Rattle.monitor.specs.Stepping.{Balanced, Within, Countable, offeredOnce, acceptedOnce, placeOf, Printed, Stepped};
-ghost use Rattle.monitor.specs.Opening.{frontSize, NoMonitor, Opening, Begun, said as opened};
+ghost use Rattle.monitor.specs.Opening.{frontSize, nothingTold, NoMonitor, Opening, Begun, said as opened};
 ghost use Rattle.monitor.specs.declared.OpenAnswer.the-variants as answer;
 ghost use Rattle.monitor.specs.Advancing.{Advancing, Ready, said as advanced};
 ghost use Rattle.monitor.specs.Ending.{lastLines};
@@ -163,7 +163,7 @@ impl Monitor {
     ) -> Entry
         requires { ⌜ Ready self (now out) at × Countable self (length (now released)) ⌝ }
         ensures { λ r. ⌜ (r .monitor ≡ acceptedOnce self estimator enforcer (length (now (released .entry))))
-            × Printed (now (out .entry)) at (acceptedLine (self .accepted + 1) byte (judgement .verdicts .weak) (judgement .verdicts .strong) (judgement .size) (now (released .entry))) (r .next) (now (out .exit)) ⌝ }
+            × Printed (now (out .entry)) at (acceptedLine (self .accepted + 1) byte (judgement .verdicts .own .weak) (judgement .verdicts .own .strong) (judgement .size) (now (released .entry))) (r .next) (now (out .exit)) ⌝ }
     {
         let opening = self.opening;
         let accepted = self.accepted + 1;
@@ -192,7 +192,7 @@ impl Monitor {
         out: &mut [u8],
         at: usize,
     ) -> Entry
-        requires { ⌜ Within (now table) header self × Ready self (now out) at × Accepting (now table) header (self .estimator) byte (verifier.verdicts (stepsOf (judgement .verdicts .weak)) (stepsOf (judgement .verdicts .strong)) (judgement .size)) estimator ⌝ }
+        requires { ⌜ Within (now table) header self × Ready self (now out) at × Accepting (now table) header (self .estimator) byte (verifier.verdicts (toldEach (self .estimator .further) (judgement .verdicts)) (judgement .size)) estimator ⌝ }
         ensures { λ r. ⌜ Stepped (now (table .entry)) header self byte (now (out .entry)) at (r .monitor) (r .next) (now (out .exit)) ⌝ }
     {
         let mut output = [0u8; 17];
@@ -297,14 +297,35 @@ pub fn has_encoding(log: &[u8]) -> bool
     true
 }
 
+// No leak and no state to tell.
+fn nothing_told() -> Judgement
+    ensures { λ r. ⌜ r ≡ nothingTold ⌝ }
+{
+    let silent = Verdicts {
+        weak: Verdict::NoLeak,
+        strong: Verdict::NoLeak,
+    };
+    Judgement {
+        verdicts: SecretVerdicts {
+            own: silent,
+            first: silent,
+            second: silent,
+            third: silent,
+        },
+        size: 0,
+    }
+}
+
 // What a refused log hands back: header, estimator and enforcer are outside their limits, and the monitor takes no byte.
 fn refused(refusal: Refusal) -> Opened
     ensures { λ r. ⌜ (r .answer ≡ answer.Refused refusal) × NoMonitor (r .header) (r .monitor) ⌝ }
 {
+    let further = verifier::no_further();
     let estimator = Estimator {
         count: 255,
         symbols: [0u8; 15],
         entries: [0u64; 16],
+        further: further,
     };
     let enforcer = Enforcer {
         estimator: estimator,
@@ -313,6 +334,7 @@ fn refused(refusal: Refusal) -> Opened
         pending: [0u8; 16],
         waits: [0u8; 16],
     };
+    let opening = nothing_told();
     Opened {
         table: [0u64; 2048],
         header: Header {
@@ -323,13 +345,7 @@ fn refused(refusal: Refusal) -> Opened
             symbols: [0u8; 32],
         },
         monitor: Monitor {
-            opening: Judgement {
-                verdicts: Verdicts {
-                    weak: Verdict::NoLeak,
-                    strong: Verdict::NoLeak,
-                },
-                size: 0,
-            },
+            opening: opening,
             estimator: estimator,
             enforcer: enforcer,
             offered: u32::MAX,
@@ -340,17 +356,18 @@ fn refused(refusal: Refusal) -> Opened
     }
 }
 
-// A weak enforcer and a fresh verifier, for events that start at a place.
+// A weak enforcer and a fresh verifier, both with no further secret, for events that start at a place.
 fn start(table: [u64; 2048], header: Header, events: usize) -> Opened
     requires { ⌜ Sound table header ⌝ }
     ensures { λ r. ⌜ Begun table header events (opened (r .answer)) (r .table) (r .header) (r .monitor) ⌝ }
 {
-    let begun = Enforcer::start(&table, header, Notion::Weak);
+    let alone = verifier::no_further();
+    let begun = Enforcer::start(&table, header, Notion::Weak, alone);
     let answer = begun.answer;
     match answer {
         StartAnswer::Refused(refusal) => refused(refusal),
         StartAnswer::Started => {
-            let reply = Estimator::fresh(&table, header);
+            let reply = Estimator::fresh(&table, header, alone);
             let verified = reply.answer;
             let Answer::Accepted(opening) = verified else {
                 return refused(Refusal::Malformed);

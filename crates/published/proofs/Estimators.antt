@@ -18,7 +18,9 @@ use Rattle.automaton.proofs.Estimates.{delayed-arrives, arrives-delayed}
 use Rattle.automaton.proofs.Positions.{part-run, estimate-sure, sure-estimate}
 use Rattle.verifier.specs.declared.Notion.the-variants.{Weak}
 use Rattle.verifier.specs.Verdicts.{Steps, none, leak, LeakAt, Tells, Words, Exactly}
-use Rattle.verifier.specs.Replies.{Said}
+use Rattle.verifier.specs.declared.Further.{Further}
+use Rattle.verifier.specs.Secrets.{secretsOf, secretAt}
+use Rattle.verifier.specs.Replies.{toldAt, Said}
 use Rattle.verifier.proofs.Exactness.{exactly}
 use Rattle.published.specs.Source.{Prefix, Trace, RightVerdict, SaysAfter}
 use Rattle.published.specs.Estimators.{EstimateAt, estimatorAfter, Parts, StillAt, Within, Gamma, SaysGamma}
@@ -227,19 +229,22 @@ one-right : (p : Automaton) (secret K : ℕ) (μ : List ℕ) (v w : Steps) → R
 one-right p secret K μ v none x y = x .clear .1 (y .clear .0 refl)
 one-right p secret K μ v (leak l) x y = x .leaks l (y .domain l refl) .1 (y .leaks l (y .domain l refl) .0 refl)
 
--- our verifier, offered the events of an observed trace one after another, says by the weak notion what Γ(δ_D(m_init, μ)) is
-pub verifier-gamma : (t : List ℕ) (h : Header) (μ : List ℕ) → Trace (automatonOf t h) μ → (r : Said) → SaysAfter t h μ r → SaysGamma t h μ r
-verifier-gamma t h μ x r says =
+-- our verifier, offered the events of an observed trace one after another, says of each secret by the weak notion what Γ(δ_D(m_init, μ)) is
+pub verifier-gamma : (t : List ℕ) (h : Header) (f : Further) (μ : List ℕ) → Trace (automatonOf t h) μ → (r : Said) → SaysAfter t h f μ r → SaysGamma t h f μ r
+verifier-gamma t h f μ x r says =
     let p = automatonOf t h in
-    let right = definition-6 t h μ x r says in
-    let (γ, only) = one-gamma p (h .k) μ (h .secret) in
-    let gamma = only γ .0 refl in
-    let e : γ ≡ right .weak = one-right p (h .secret) (h .k) μ γ (right .weak) (proposition-4 p (h .k) μ (h .secret) x γ gamma) (right .weak-right) in
+    let right = definition-6 t h f μ x r says in
     record {
-      weak = right .weak;
-      strong = right .strong;
+      told = right .told;
       size = right .size;
       said-is = right .said-is;
-      gamma = subst (Gamma (estimatorAfter p (h .k) μ) (h .secret) (h .k)) e gamma;
-      current = size-current p (h .k) μ (right .size) .0 (right .size-right);
+      as-many = right .as-many;
+      gamma = λ i given.
+          let c = secretAt (secretsOf h f) i in
+          let (γ, only) = one-gamma p (c .k) μ (c .states) in
+          let gamma = only γ .0 refl in
+          let v = toldAt Weak (right .told) i in
+          let e : γ ≡ v = one-right p (c .states) (c .k) μ γ v (proposition-4 p (c .k) μ (c .states) x γ gamma) (right .each-right Weak i given) in
+          subst (Gamma (estimatorAfter p (c .k) μ) (c .states) (c .k)) e gamma;
+      current = λ K. size-current p K μ (right .size) .0 (right .size-right);
     }

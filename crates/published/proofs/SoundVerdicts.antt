@@ -10,9 +10,10 @@ use Rattle.automaton.specs.declared.Header.{Header}
 use Rattle.automaton.specs.Run.{Automaton, automatonOf, Possible, Observable}
 use Rattle.automaton.proofs.Traces.{trace-observable, prefix-possible}
 use Rattle.verifier.specs.declared.Notion.{Notion}
-use Rattle.verifier.specs.declared.Notion.the-variants.{Weak, Strong}
+use Rattle.verifier.specs.declared.Further.{Further}
+use Rattle.verifier.specs.Secrets.{secretsOf, secretAt}
 use Rattle.verifier.specs.Verdicts.{Steps}
-use Rattle.verifier.specs.Replies.{Said, refused, verdicts}
+use Rattle.verifier.specs.Replies.{Told, toldAt, Said, refused, verdicts}
 use Rattle.verifier.specs.Calls.{Call, takenBy, Right, Answered, AllAnswered}
 use Rattle.verifier.proofs.SecondPoint.{second-point}
 use Rattle.published.specs.Source.{Published, RightVerdict, RightVerdicts, SoundComplete, offered, lastSaid, SaysAfter}
@@ -25,27 +26,29 @@ right-verdict notion p secret K μ γ = (
   (λ x. record { leaks = λ l. ((λ e. (x .domain l e, x .leaks l (x .domain l e) .0 e)), (λ y. x .leaks l (y .0) .1 (y .1))); clear = x .clear }),
 )
 
-module _ (t : List ℕ) (h : Header) where
+module _ (t : List ℕ) (h : Header) (f : Further) where
   abbrev RightAfter : List ℕ → Said → Type 0
-  RightAfter μ r = RightVerdicts (automatonOf t h) (h .secret) (h .k) μ r
+  RightAfter μ r = RightVerdicts (automatonOf t h) (secretsOf h f) μ r
 
-  right-after : (μ : List ℕ) (v w : Steps) (n : ℕ) → Possible (automatonOf t h) μ → Right t h μ v w n → RightAfter μ (verdicts v w n)
-  right-after μ v w n x right = record {
-    weak = v;
-    strong = w;
+  right-after : (μ : List ℕ) (vs : List Told) (n : ℕ) → Possible (automatonOf t h) μ → Right t h f μ vs n → RightAfter μ (verdicts vs n)
+  right-after μ vs n x right = record {
+    told = vs;
     size = n;
     said-is = refl;
-    weak-right = right-verdict Weak (automatonOf t h) (h .secret) (h .k) μ v .0 (published (automatonOf t h) (h .secret) μ x Weak (h .k) v (right .weak));
-    strong-right = right-verdict Strong (automatonOf t h) (h .secret) (h .k) μ w .0 (published (automatonOf t h) (h .secret) μ x Strong (h .k) w (right .strong));
+    as-many = right .as-many;
+    each-right = λ notion i given.
+        let p = automatonOf t h in
+        let c = secretAt (secretsOf h f) i in
+        right-verdict notion p (c .states) (c .k) μ (toldAt notion vs i) .0 (published p (c .states) μ x notion (c .k) (toldAt notion vs i) (right .each notion i given));
     size-right = right .size .exactly n .0 refl;
   }
 
   -- an event of an observed trace is not refused
-  answer-right : (trace : List ℕ) (byte : ℕ) (says : Said) → Answered t h trace byte says → Observable h byte → Possible (automatonOf t h) (trace ++ byte ∷ [])
+  answer-right : (trace : List ℕ) (byte : ℕ) (says : Said) → Answered t h f trace byte says → Observable h byte → Possible (automatonOf t h) (trace ++ byte ∷ [])
       → (takenBy says byte ≡ byte ∷ []) × RightAfter (trace ++ byte ∷ []) says
   answer-right trace byte (refused n) (inl x) seen possible = absurd (x .1 seen)
   answer-right trace byte (refused n) (inr x) seen possible = absurd (x .2 (possible .run) (possible .compatible))
-  answer-right trace byte (verdicts v w n) x seen possible = (refl, right-after (trace ++ byte ∷ []) v w n possible (x .2))
+  answer-right trace byte (verdicts vs n) x seen possible = (refl, right-after (trace ++ byte ∷ []) vs n possible (x .2))
 
   event-seen : (trace : List ℕ) (byte : ℕ) (rest : List ℕ) → Possible (automatonOf t h) (trace ++ byte ∷ rest) → Observable h byte
   event-seen trace byte rest x =
@@ -56,12 +59,12 @@ module _ (t : List ℕ) (h : Header) where
   front-possible a b x =
       rw (take-at a b (length a) refl) at (prefix-possible (automatonOf t h) (a ++ b) x (length a) (rw length-append (omega arith)))
 
-  split : (trace : List ℕ) (c : Call) (cs : List Call) → AllAnswered t h trace (c ∷ cs)
-      → Answered t h trace (c .byte) (c .says) × AllAnswered t h (trace ++ takenBy (c .says) (c .byte)) cs
+  split : (trace : List ℕ) (c : Call) (cs : List Call) → AllAnswered t h f trace (c ∷ cs)
+      → Answered t h f trace (c .byte) (c .says) × AllAnswered t h f (trace ++ takenBy (c .says) (c .byte)) cs
   split trace c cs (AllAnswered.more x y) = (x, y)
 
   -- the last answer to the events of an observed trace, one after another
-  follow : (trace : List ℕ) (r : Said) (cs : List Call) → RightAfter trace r → AllAnswered t h trace cs → Possible (automatonOf t h) (trace ++ offered cs)
+  follow : (trace : List ℕ) (r : Said) (cs : List Call) → RightAfter trace r → AllAnswered t h f trace cs → Possible (automatonOf t h) (trace ++ offered cs)
       → RightAfter (trace ++ offered cs) (lastSaid r cs)
   follow trace r [] x all possible = rw (append-nil trace) x
   follow trace r (c ∷ cs) x all possible =
@@ -69,15 +72,15 @@ module _ (t : List ℕ) (h : Header) where
       let here = append-assoc trace (c .byte ∷ []) (offered cs) in
       let later : Possible (automatonOf t h) ((trace ++ c .byte ∷ []) ++ offered cs) = subst (Possible (automatonOf t h)) (sym here) possible in
       let y = answer-right trace (c .byte) (c .says) (parts .0) (event-seen trace (c .byte) (offered cs) possible) (front-possible (trace ++ c .byte ∷ []) (offered cs) later) in
-      let rest : AllAnswered t h (trace ++ c .byte ∷ []) cs = subst (λ (l : List ℕ). AllAnswered t h (trace ++ l) cs) (y .0) (parts .1) in
+      let rest : AllAnswered t h f (trace ++ c .byte ∷ []) cs = subst (λ (l : List ℕ). AllAnswered t h f (trace ++ l) cs) (y .0) (parts .1) in
       subst (λ (l : List ℕ). RightAfter l (lastSaid (c .says) cs)) here (follow (trace ++ c .byte ∷ []) (c .says) cs (y .1) rest later)
 
 -- Definition 6 of our verifier: a fresh estimator that was not refused and is offered the events of an observed trace refuses none of them, and its verdicts are
--- the trace's by both notions
-pub definition-6 : (t : List ℕ) (h : Header) → SoundComplete (automatonOf t h) (h .secret) (h .k) (SaysAfter t h)
-definition-6 t h μ x r y =
-    let promise = second-point t h (y .weak) (y .strong) (y .size) (y .fresh) (y .calls) (y .last) (y .opening) (y .made) in
+-- the trace's for every secret, by both notions
+pub definition-6 : (t : List ℕ) (h : Header) (f : Further) → SoundComplete (automatonOf t h) (secretsOf h f) (SaysAfter t h f)
+definition-6 t h f μ x r y =
+    let promise = second-point t h f (y .told) (y .size) (y .fresh) (y .calls) (y .last) (y .opening) (y .made) in
     let start : Possible (automatonOf t h) [] = record { run = []; compatible = record { takes = tt; shown-is = refl } } in
-    let last = follow t h [] (verdicts (y .weak) (y .strong) (y .size)) (y .calls) (right-after t h [] (y .weak) (y .strong) (y .size) start (promise .opening)) (promise .answered)
+    let last = follow t h f [] (verdicts (y .told) (y .size)) (y .calls) (right-after t h f [] (y .told) (y .size) start (promise .opening)) (promise .answered)
     (subst (Possible (automatonOf t h)) (sym (y .events)) x) in
-    subst (RightAfter t h μ) (y .says) (subst (λ (l : List ℕ). RightAfter t h l (lastSaid (verdicts (y .weak) (y .strong) (y .size)) (y .calls))) (y .events) last)
+    subst (RightAfter t h f μ) (y .says) (subst (λ (l : List ℕ). RightAfter t h f l (lastSaid (verdicts (y .told) (y .size)) (y .calls))) (y .events) last)

@@ -9,8 +9,11 @@ use Rattle.stateset.specs.Set.{In, Counts}
 use Rattle.automaton.specs.declared.Header.{Header}
 use Rattle.automaton.specs.Run.{Automaton, automatonOf, Step, Takes, endOf, shown, Compatible}
 use Rattle.automaton.specs.Reaching.{Arrives}
+use Rattle.verifier.specs.Secrets.{secretsOf, ForEach}
 use Rattle.verifier.specs.Verdicts.{Steps, none, leak}
-use Rattle.verifier.specs.Replies.{Said, verdicts}
+use Rattle.verifier.specs.Replies.{Told, toldAt, Said, verdicts}
+use Rattle.verifier.specs.declared.Notion.the-variants.{Weak}
+use Rattle.verifier.specs.declared.Further.{Further}
 use Rattle.published.specs.Source.{Prefix, Still}
 
 -- "trajectory mapping": a set of trajectories, which are lists of states. The paper writes a trajectory oldest state first, (q_1, .., q_l). Here the newest
@@ -94,11 +97,12 @@ abbrev pub Gamma : Mapping → (secret K : ℕ) → Steps → Type 0
 Gamma m secret K none = (k : ℕ) → k ≤ K → Within m k secret → ⊥
 Gamma m secret K (leak l) = (l ≤ K) × Within m l secret × ((k : ℕ) → k < l → Within m k secret → ⊥)
 
--- our verifier's answer after the trace: a verdict by the weak notion, and it is Γ's; and how many states are possible, which is how many m(0) has
-pub record SaysGamma (t : List ℕ) (h : Header) (μ : List ℕ) (r : Said) : Type 0 where
-  pub weak : Steps
-  pub strong : Steps
+-- our verifier's answer after the trace: a verdict of each secret by the weak notion, and it is Γ's of the estimator with that secret's K; and how many
+-- states are possible, which is how many m(0) has, whatever K is
+pub record SaysGamma (t : List ℕ) (h : Header) (f : Further) (μ : List ℕ) (r : Said) : Type 0 where
+  pub told : List Told
   pub size : ℕ
-  pub said-is : r ≡ verdicts weak strong size
-  pub gamma : Gamma (estimatorAfter (automatonOf t h) (h .k) μ) (h .secret) (h .k) weak
-  pub current : Counts (EstimateAt (estimatorAfter (automatonOf t h) (h .k) μ) 0) size
+  pub said-is : r ≡ verdicts told size
+  pub as-many : length told ≡ length (secretsOf h f)
+  pub gamma : ForEach (secretsOf h f) (λ i c. Gamma (estimatorAfter (automatonOf t h) (c .k) μ) (c .states) (c .k) (toldAt Weak told i))
+  pub current : (K : ℕ) → Counts (EstimateAt (estimatorAfter (automatonOf t h) K μ) 0) size

@@ -89,6 +89,7 @@ module _ (p q : Automaton) (same : SameSymbols p q) (trace : List ℕ) where
   grown-to : (K : ℕ) (s : Estimator) → Grown p K trace s → Grown q K trace s
   grown-to K s g =
       record {
+        allowed = g .allowed;
         possible = possible-agree p q trace trace (same-agree p q same trace) (g .possible);
         count-is = g .count-is;
         symbols-are = g .symbols-are;

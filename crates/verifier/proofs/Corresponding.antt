@@ -1,10 +1,11 @@
 -- Fresh estimators and lists of calls under two headers that are the same but for symbols. Where they tell the same observable events apart, they are
 -- answered alike, call by call; where they differ in the symbols of unobservable events alone, the contracts say the same. Assumes nothing.
-use mathlib.Core.Path.{_≡_, refl, ap, sym, subst, _∙_}
+use mathlib.Core.Path.{_≡_, refl, ap, ap₂, sym, subst, _∙_}
 use mathlib.Core.List.{List, [], _∷_, _++_}
 use mathlib.Core.Logic.{inl, inr, _↔_}
-use Prim.Native.Nat.{ℕ, _<_, _^_}
+use Prim.Native.Nat.{ℕ, suc, _<_, _^_}
 use native.Mathlib.Omega.{arith}
+use lib.ListN.{length, getD}
 use Rattle.automaton.specs.Run.{automatonOf, Sound}
 use Rattle.automaton.specs.Symbols.{
   WithoutSymbols,
@@ -26,9 +27,16 @@ use Rattle.automaton.proofs.Agreeing.{possible-agree, impossible-agree, size-ag
 use Rattle.automaton.proofs.Spelling.{no-events, one-event, join-events, alike-agree, alike-impossible, distinct-alike, spelled-own, same-agree}
 use Rattle.automaton.proofs.Headers.{both-observable, own-sound, same-observable, same-sound, relabelled, same-header}
 use Rattle.verifier.specs.declared.Notion.{Notion}
+use Rattle.verifier.specs.declared.Notion.the-variants.{Weak, Strong}
+use Rattle.verifier.specs.declared.Secret.{Secret}
+use Rattle.verifier.specs.declared.Further.{Further}
 use Rattle.verifier.specs.declared.Estimator.{Estimator}
-use Rattle.verifier.specs.Verdicts.{Steps, Words, Exactly}
+use Rattle.verifier.specs.Secrets.{furtherOf, secretsOf, secretAt, ForEach, lookBackOf}
+use Rattle.verifier.specs.Verdicts.{Steps, none, Exactly}
+use Rattle.verifier.specs.Estimators.{GrownOn}
 use Rattle.verifier.specs.Replies.{
+  Told,
+  toldAt,
   Said,
   refused,
   verdicts,
@@ -47,25 +55,43 @@ use Rattle.verifier.specs.Replies.{
 use Rattle.verifier.specs.Calls.{Call, Calls, done, takenBy, Right, Answered, AllAnswered, end, more}
 use Rattle.verifier.specs.Paired.{SameCalled, Corresponds, CallsFollow}
 use Rattle.verifier.proofs.Agreed.{alike-words, sizes-agree, same-tells, same-grown}
+use Rattle.verifier.proofs.Numbering.{allowed-not-large}
 use Rattle.verifier.proofs.SecondPoint.{second-point}
 
-module _ (t : List ℕ) (h h′ : Header) (like : Alike (automatonOf t h) (automatonOf t h′)) (secret : h .secret ≡ h′ .secret) (k : h .k ≡ h′ .k) where
+-- lists of verdicts that tell the same of each number
+pub same-told : (vs vs′ : List Told) → length vs ≡ length vs′ → ((notion : Notion) (i : ℕ) → i < length vs → toldAt notion vs i ≡ toldAt notion vs′ i) → vs ≡ vs′
+same-told [] [] e each = refl
+same-told [] (v ∷ vs) e each = absurd (omega arith)
+same-told (v ∷ vs) [] e each = absurd (omega arith)
+same-told (v ∷ vs) (v′ ∷ vs′) e each =
+    let weak : v .weak ≡ v′ .weak = each Weak 0 (omega arith) in
+    let strong : v .strong ≡ v′ .strong = each Strong 0 (omega arith) in
+    ap₂ (λ (x y : Steps). record { weak = x; strong = y } ∷ vs) weak strong
+    ∙ ap (λ (xs : List Told). v′ ∷ xs) (same-told vs vs′ (omega arith) (λ notion i h. each notion (suc i) (omega arith)))
+
+module _ (t : List ℕ) (h h′ : Header) (like : Alike (automatonOf t h) (automatonOf t h′)) (secret : h .secret ≡ h′ .secret) (k : h .k ≡ h′ .k) (given : Further) where
   abbrev Same : List ℕ → List ℕ → Type 0
   Same a b = SameEvents (automatonOf t h) (automatonOf t h′) a b
 
-  -- verdicts by definition are equal over the same events
-  exactly-alike : (notion : Notion) (a b : List ℕ) (v v′ : Steps) → Same a b → Exactly notion (automatonOf t h) (h .secret) (h .k) a v
-      → Exactly notion (automatonOf t h′) (h′ .secret) (h′ .k) b v′ → v ≡ v′
-  exactly-alike notion a b v v′ x y z =
-      let w : Words notion (automatonOf t h′) (h′ .secret) (h′ .k) b v =
-      rw (← secret, ← k) (alike-words _ _ like a b x (h .secret) (h .k) notion v .0 (y v .0 refl)) in
-      sym (z v .1 w)
+  -- the secrets are the same
+  secrets : secretsOf h given ≡ secretsOf h′ given
+  secrets = ap₂ (λ (s n : ℕ). record { states = s; k = n } ∷ furtherOf given) secret k
 
-  right-alike : (a b : List ℕ) (v w : Steps) (n : ℕ) (v′ w′ : Steps) (n′ : ℕ) → Same a b → Right t h a v w n → Right t h′ b v′ w′ n′ → verdicts v w n ≡ verdicts v′ w′ n′
-  right-alike a b v w n v′ w′ n′ x y z =
+  -- verdicts of one secret by definition are equal over the same events
+  exactly-alike : (notion : Notion) (c : Secret) (a b : List ℕ) (v v′ : Steps) → Same a b → Exactly notion (automatonOf t h) (c .states) (c .k) a v
+      → Exactly notion (automatonOf t h′) (c .states) (c .k) b v′ → v ≡ v′
+  exactly-alike notion c a b v v′ x y z = sym (z v .1 (alike-words _ _ like a b x (c .states) (c .k) notion v .0 (y v .0 refl)))
+
+  right-alike : (a b : List ℕ) (vs : List Told) (n : ℕ) (vs′ : List Told) (n′ : ℕ) → Same a b → Right t h given a vs n → Right t h′ given b vs′ n′
+      → verdicts vs n ≡ verdicts vs′ n′
+  right-alike a b vs n vs′ n′ x y z =
       let size = sizes-agree _ _ a b (alike-agree _ _ like a b x) n n′ (y .size) (z .size) in
-      let weak = exactly-alike _ a b v v′ x (y .weak) (z .weak) in
-      let strong = exactly-alike _ a b w w′ x (y .strong) (z .strong) in
+      let many : length vs ≡ length vs′ = y .as-many ∙ ap length secrets ∙ sym (z .as-many) in
+      let others : (notion : Notion) → ForEach (secretsOf h given) (λ i c. Exactly notion (automatonOf t h′) (c .states) (c .k) b (toldAt notion vs′ i)) =
+      λ notion. subst (λ (cs : List Secret). ForEach cs (λ i c. Exactly notion (automatonOf t h′) (c .states) (c .k) b (toldAt notion vs′ i))) (sym secrets) (z .each notion) in
+      let each = same-told vs vs′ many (λ notion i less.
+      let g : i < length (secretsOf h given) = omega (arith, y .as-many) in
+      exactly-alike notion (secretAt (secretsOf h given) i) a b _ _ x (y .each notion i g) (others notion i g)) in
       cc
 
   -- one pair of calls, after traces with the same events behind them
@@ -77,24 +103,24 @@ module _ (t : List ℕ) (h h′ : Header) (like : Alike (automatonOf t h) (autom
     one-more : OneEvent (automatonOf t h) (automatonOf t h′) x y → Same (a ++ x ∷ []) (b ++ y ∷ [])
     one-more e = join-events _ _ a b _ _ s (one-event _ _ x y e)
 
-    one-pair : SameByte t h h′ x y → (r r′ : Said) → Answered t h a x r → Answered t h′ b y r′ → OnePair x y r r′
-    one-pair (of-none never never′) (verdicts v w size) r′ f f′ = absurd (never (f .0))
-    one-pair (of-none never never′) (refused m) (verdicts v w size) f f′ = absurd (never′ (f′ .0))
+    one-pair : SameByte t h h′ x y → (r r′ : Said) → Answered t h given a x r → Answered t h′ given b y r′ → OnePair x y r r′
+    one-pair (of-none never never′) (verdicts vs size) r′ f f′ = absurd (never (f .0))
+    one-pair (of-none never never′) (refused m) (verdicts vs size) f f′ = absurd (never′ (f′ .0))
     one-pair (of-none never never′) (refused m) (refused n) (inr f) f′ = absurd (never (f .1))
     one-pair (of-none never never′) (refused m) (refused n) (inl f) (inr f′) = absurd (never′ (f′ .1))
     one-pair (of-none never never′) (refused m) (refused n) (inl f) (inl f′) = record { says = ap refused (f .0 ∙ sym (f′ .0)); taken = no-events _ _ }
     one-pair (of-event e) (refused m) r′ (inl f) f′ = absurd (f .1 (both-observable t h h′ (like .same) x y e .0))
     one-pair (of-event e) (refused m) (refused n) (inr f) (inl f′) = absurd (f′ .1 (both-observable t h h′ (like .same) x y e .1))
     one-pair (of-event e) (refused m) (refused n) (inr f) (inr f′) = record { says = ap refused (f .0 ∙ sym (f′ .0)); taken = no-events _ _ }
-    one-pair (of-event e) (refused m) (verdicts v w size) (inr f) f′ =
+    one-pair (of-event e) (refused m) (verdicts vs size) (inr f) f′ =
         absurd (alike-impossible _ _ like _ _ (one-more e) .0 (f .2) (f′ .1 .run) (f′ .1 .compatible))
-    one-pair (of-event e) (verdicts v w size) (refused n) f (inl f′) = absurd (f′ .1 (both-observable t h h′ (like .same) x y e .1))
-    one-pair (of-event e) (verdicts v w size) (refused n) f (inr f′) =
+    one-pair (of-event e) (verdicts vs size) (refused n) f (inl f′) = absurd (f′ .1 (both-observable t h h′ (like .same) x y e .1))
+    one-pair (of-event e) (verdicts vs size) (refused n) f (inr f′) =
         absurd (alike-impossible _ _ like _ _ (one-more e) .1 (f′ .2) (f .1 .run) (f .1 .compatible))
-    one-pair (of-event e) (verdicts v w size) (verdicts v′ w′ size′) f f′ =
-        record { says = right-alike _ _ v w size v′ w′ size′ (one-more e) (f .2) (f′ .2); taken = one-event _ _ x y e }
+    one-pair (of-event e) (verdicts vs size) (verdicts vs′ size′) f f′ =
+        record { says = right-alike _ _ vs size vs′ size′ (one-more e) (f .2) (f′ .2); taken = one-event _ _ x y e }
 
-  all-pairs : (a b : List ℕ) (cs cs′ : List Call) → Same a b → Pairs (SameCalled t h h′) cs cs′ → AllAnswered t h a cs → AllAnswered t h′ b cs′
+  all-pairs : (a b : List ℕ) (cs cs′ : List Call) → Same a b → Pairs (SameCalled t h h′) cs cs′ → AllAnswered t h given a cs → AllAnswered t h′ given b cs′
       → Corresponds (automatonOf t h) (automatonOf t h′) cs cs′
   all-pairs a b cs cs′ s no-more end end = record { answers = no-more; accepted = no-events _ _ }
   all-pairs a b cs cs′ s (both {x = c} {y = c′} {xs = rest} {ys = rest′} same pairs) (more f fs) (more f′ fs′) =
@@ -105,75 +131,98 @@ module _ (t : List ℕ) (h h′ : Header) (like : Alike (automatonOf t h) (autom
 
   -- THE THEOREM of S-2 for lists of calls: fresh estimators that were not refused have the same opening verdicts and number of possible states, and what
   -- follows corresponds
-  pub alike-calls : (v w : Steps) (n : ℕ) (v′ w′ : Steps) (n′ : ℕ) (s s′ : Estimator) (cs cs′ : List Call) (e e′ : Estimator)
-      → Opening t h (verdicts v w n) s → Opening t h′ (verdicts v′ w′ n′) s′
+  pub alike-calls : (vs : List Told) (n : ℕ) (vs′ : List Told) (n′ : ℕ) (s s′ : Estimator) (cs cs′ : List Call) (e e′ : Estimator)
+      → Opening t h given (verdicts vs n) s → Opening t h′ given (verdicts vs′ n′) s′
       → Pairs (SameCalled t h h′) cs cs′ → Calls t h s cs e → Calls t h′ s′ cs′ e′
-      → (verdicts v w n ≡ verdicts v′ w′ n′) × Corresponds (automatonOf t h) (automatonOf t h′) cs cs′
-  alike-calls v w n v′ w′ n′ s s′ cs cs′ e e′ o o′ pairs f f′ =
-      let x = second-point t h v w n s cs e o f in
-      let y = second-point t h′ v′ w′ n′ s′ cs′ e′ o′ f′ in (
-        right-alike [] [] v w n v′ w′ n′ (no-events _ _) (x .opening) (y .opening),
+      → (verdicts vs n ≡ verdicts vs′ n′) × Corresponds (automatonOf t h) (automatonOf t h′) cs cs′
+  alike-calls vs n vs′ n′ s s′ cs cs′ e e′ o o′ pairs f f′ =
+      let x = second-point t h given vs n s cs e o f in
+      let y = second-point t h′ given vs′ n′ s′ cs′ e′ o′ f′ in (
+        right-alike [] [] vs n vs′ n′ (no-events _ _) (x .opening) (y .opening),
         all-pairs [] [] cs cs′ (no-events _ _) pairs (x .answered) (y .answered),
       )
 
-  -- fresh estimators are refused alike: 9 where the headers are automata alike
-  pub alike-openings : Sound t h ↔ Sound t h′ → (r r′ : Said) (s s′ : Estimator) → Opening t h r s → Opening t h′ r′ s′ → r ≡ r′
+  -- fresh estimators are refused alike: 9 where the headers are automata alike, 13 and 14 by the further secrets
+  pub alike-openings : Sound t h ↔ Sound t h′ → (r r′ : Said) (s s′ : Estimator) → Opening t h given r s → Opening t h′ given r′ s′ → r ≡ r′
   alike-openings sounds r r′ s s′ x y = go x y
     where
-      go : {r r′ : Said} → Opening t h r s → Opening t h′ r′ s′ → r ≡ r′
+      go : {r r′ : Said} → Opening t h given r s → Opening t h′ given r′ s′ → r ≡ r′
       go (Opening.malformed bad out) (Opening.malformed bad′ out′) = refl
-      go (Opening.malformed bad out) (opened so li n f) = absurd (bad (sounds .1 so))
-      go (opened so li n f) (Opening.malformed bad out) = absurd (bad (sounds .0 so))
-      go (opened {weak = v} {strong = w} {size = n} so li i f) (opened {weak = v′} {strong = w′} {size = n′} so′ li′ i′ f′) =
-          alike-calls v w n v′ w′ n′ s s′ [] [] s s′ (opened so li i f) (opened so′ li′ i′ f′) no-more done done .0
+      go (Opening.malformed bad out) (Opening.too-many-secrets so many out′) = absurd (bad (sounds .1 so))
+      go (Opening.malformed bad out) (Opening.look-back-too-large so few large out′) = absurd (bad (sounds .1 so))
+      go (Opening.malformed bad out) (opened so al same li many n f) = absurd (bad (sounds .1 so))
+      go (Opening.too-many-secrets so many out) (Opening.malformed bad out′) = absurd (bad (sounds .0 so))
+      go (Opening.too-many-secrets so many out) (Opening.too-many-secrets so′ many′ out′) = refl
+      go (Opening.too-many-secrets so many out) (Opening.look-back-too-large so′ few large out′) = absurd (omega arith)
+      go (Opening.too-many-secrets so many out) (opened so′ al same li n i f) = absurd (omega (arith, al .few))
+      go (Opening.look-back-too-large so few large out) (Opening.malformed bad out′) = absurd (bad (sounds .0 so))
+      go (Opening.look-back-too-large so few large out) (Opening.too-many-secrets so′ many out′) = absurd (omega arith)
+      go (Opening.look-back-too-large so few large out) (Opening.look-back-too-large so′ few′ large′ out′) = refl
+      go (Opening.look-back-too-large so few large out) (opened so′ al same li n i f) = absurd (allowed-not-large given al large)
+      go (opened so al same li n i f) (Opening.malformed bad out) = absurd (bad (sounds .0 so))
+      go (opened so al same li n i f) (Opening.too-many-secrets so′ many out) = absurd (omega (arith, al .few))
+      go (opened so al same li n i f) (Opening.look-back-too-large so′ few large out) = absurd (allowed-not-large given al large)
+      go (opened {vs = vs} {size = n} so al same li many i f) (opened {vs = vs′} {size = n′} so′ al′ same′ li′ many′ i′ f′) =
+          alike-calls vs n vs′ n′ s s′ [] [] s s′ (opened so al same li many i f) (opened so′ al′ same′ li′ many′ i′ f′) no-more done done .0
 
-opened-sound : (t : List ℕ) (h : Header) (v w : Steps) (size : ℕ) (s : Estimator) → Opening t h (verdicts v w size) s → Sound t h
-opened-sound t h v w size s (opened so li i x) = so
+opened-sound : (t : List ℕ) (h : Header) (given : Further) (vs : List Told) (size : ℕ) (s : Estimator) → Opening t h given (verdicts vs size) s → Sound t h
+opened-sound t h given vs size s (opened so al same li n i x) = so
 
 -- so where no two observable events share a symbol: fresh estimators with symbols and without are answered alike, and what is then accepted is the symbols
 -- of what is without symbols
 module _ (t : List ℕ) (h h′ : Header) (d : Distinct (automatonOf t h)) (n : WithoutSymbols (automatonOf t h′))
-    (same : SameButSymbols (automatonOf t h) (automatonOf t h′)) (secret : h .secret ≡ h′ .secret) (k : h .k ≡ h′ .k) (small : h .observable < 2 ^ 32) where
-  pub distinct-openings : Sound t h → (r r′ : Said) (s s′ : Estimator) → Opening t h r s → Opening t h′ r′ s′ → r ≡ r′
+    (same : SameButSymbols (automatonOf t h) (automatonOf t h′)) (secret : h .secret ≡ h′ .secret) (k : h .k ≡ h′ .k) (small : h .observable < 2 ^ 32)
+    (given : Further) where
+  pub distinct-openings : Sound t h → (r r′ : Said) (s s′ : Estimator) → Opening t h given r s → Opening t h′ given r′ s′ → r ≡ r′
   distinct-openings so r r′ s s′ o o′ =
       let so′ = own-sound t h h′ same n (omega (arith, same .observable)) k so in
-      alike-openings t h h′ (distinct-alike _ _ d n same) secret k (λ x. so′, λ x. so) r r′ s s′ o o′
+      alike-openings t h h′ (distinct-alike _ _ d n same) secret k given (λ x. so′, λ x. so) r r′ s s′ o o′
 
-  follow : (v w : Steps) (size : ℕ) (s s′ : Estimator) → Opening t h (verdicts v w size) s → Opening t h′ (verdicts v w size) s′ → CallsFollow t h h′ s s′
-  follow v w size s s′ o o′ cs cs′ e e′ pairs f f′ =
-      let x = alike-calls t h h′ (distinct-alike _ _ d n same) secret k v w size v w size s s′ cs cs′ e e′ o o′ pairs f f′ in
+  follow : (vs : List Told) (size : ℕ) (s s′ : Estimator) → Opening t h given (verdicts vs size) s → Opening t h′ given (verdicts vs size) s′ → CallsFollow t h h′ s s′
+  follow vs size s s′ o o′ cs cs′ e e′ pairs f f′ =
+      let x = alike-calls t h h′ (distinct-alike _ _ d n same) secret k given vs size vs size s s′ cs cs′ e e′ o o′ pairs f f′ in
       (x .1, spelled-own _ _ _ _ n same (x .1 .accepted) .1)
 
   -- the one with symbols was not refused
-  pub distinct-calls : (v w : Steps) (size : ℕ) (r′ : Said) (s s′ : Estimator) → Opening t h (verdicts v w size) s → Opening t h′ r′ s′
-      → (r′ ≡ verdicts v w size) × CallsFollow t h h′ s s′
-  distinct-calls v w size r′ s s′ o o′ =
-      let e = sym (distinct-openings (opened-sound t h v w size s o) (verdicts v w size) r′ s s′ o o′) in
-      (e, follow v w size s s′ o (subst (λ (r : Said). Opening t h′ r s′) e o′))
+  pub distinct-calls : (vs : List Told) (size : ℕ) (r′ : Said) (s s′ : Estimator) → Opening t h given (verdicts vs size) s → Opening t h′ given r′ s′
+      → (r′ ≡ verdicts vs size) × CallsFollow t h h′ s s′
+  distinct-calls vs size r′ s s′ o o′ =
+      let e = sym (distinct-openings (opened-sound t h given vs size s o) (verdicts vs size) r′ s s′ o o′) in
+      (e, follow vs size s s′ o (subst (λ (r : Said). Opening t h′ given r s′) e o′))
 
   -- the one without symbols was not
-  pub distinct-calls-back : Sound t h → (r : Said) (v w : Steps) (size : ℕ) (s s′ : Estimator) → Opening t h r s → Opening t h′ (verdicts v w size) s′
-      → (r ≡ verdicts v w size) × CallsFollow t h h′ s s′
-  distinct-calls-back so r v w size s s′ o o′ =
-      let e = distinct-openings so r (verdicts v w size) s s′ o o′ in
-      (e, follow v w size s s′ (subst (λ (r : Said). Opening t h r s) e o) o′)
+  pub distinct-calls-back : Sound t h → (r : Said) (vs : List Told) (size : ℕ) (s s′ : Estimator) → Opening t h given r s → Opening t h′ given (verdicts vs size) s′
+      → (r ≡ verdicts vs size) × CallsFollow t h h′ s s′
+  distinct-calls-back so r vs size s s′ o o′ =
+      let e = distinct-openings so r (verdicts vs size) s s′ o o′ in
+      (e, follow vs size s s′ (subst (λ (r : Said). Opening t h given r s) e o) o′)
 
 -- ---- an unobservable event's symbol counts for nothing
 
 module _ (t : List ℕ) (h : Header) (symbols : List ℕ) (g : SameSymbols (automatonOf t h) (automatonOf t (relabelled h symbols))) where
-  exact-to : (trace : List ℕ) (v w : Steps) (n : ℕ) (s : Estimator) → Exact t h trace v w n s → Exact t (relabelled h symbols) trace v w n s
-  exact-to trace v w n s x =
+  -- the secrets and the largest K are those of the header as it was
+  exact-to : (cs : List Secret) (trace : List ℕ) (vs : List Told) (n : ℕ) (s : Estimator) → Exact t h cs trace vs n s → Exact t (relabelled h symbols) cs trace vs n s
+  exact-to cs trace vs n s x =
       record {
         possible = possible-agree _ _ trace trace (same-agree _ _ g trace) (x .possible);
         size = size-agree _ _ trace trace (same-agree _ _ g trace) n (x .size);
-        weak = same-tells _ _ g trace (h .secret) (h .k) _ v .0 (x .weak);
-        strong = same-tells _ _ g trace (h .secret) (h .k) _ w .0 (x .strong);
-        grown = same-grown _ _ g trace (h .k) s .0 (x .grown);
+        tells = λ notion i given. same-tells _ _ g trace (secretAt cs i .states) (secretAt cs i .k) notion (toldAt notion vs i) .0 (x .tells notion i given);
+        grown = grown-to trace s .0 (x .grown);
       }
+    where
+      grown-to : (trace : List ℕ) (s : Estimator) → GrownOn t h trace s ↔ GrownOn t (relabelled h symbols) trace s
+      grown-to trace s = same-grown _ _ g trace (lookBackOf h (s .further)) s
 
-  opening-to : (r : Said) (s : Estimator) → Opening t h r s → Opening t (relabelled h symbols) r s
-  opening-to r s (Opening.malformed bad out) = Opening.malformed (λ so. bad (same-sound t h (relabelled h symbols) g refl .1 so)) out
-  opening-to r s (opened so li i x) = opened (same-sound t h (relabelled h symbols) g refl .0 so) li i (exact-to [] _ _ _ s x)
+  opening-to : (f : Further) (r : Said) (s : Estimator) → Opening t h f r s → Opening t (relabelled h symbols) f r s
+  opening-to f r s (Opening.malformed bad out) = Opening.malformed (λ so. bad (same-sound t h (relabelled h symbols) g refl .1 so)) out
+  opening-to f r s (Opening.too-many-secrets so many out) = Opening.too-many-secrets (same-sound t h (relabelled h symbols) g refl .0 so) many out
+  opening-to f r s (Opening.look-back-too-large so few large out) =
+      Opening.look-back-too-large (same-sound t h (relabelled h symbols) g refl .0 so) few large out
+  opening-to f r s (opened so al same li n i x) =
+      opened (same-sound t h (relabelled h symbols) g refl .0 so) al same li n i (exact-to (secretsOf h f) [] _ _ s x)
+
+  grown-back : (trace : List ℕ) (self : Estimator) → GrownOn t (relabelled h symbols) trace self → GrownOn t h trace self
+  grown-back trace self x = same-grown _ _ g trace (lookBackOf h (self .further)) self .1 x
 
   accepting-to : (self : Estimator) (byte : ℕ) (r : Said) (s : Estimator) → Accepting t h self byte r s → Accepting t (relabelled h symbols) self byte r s
   accepting-to self byte r s (Accepting.malformed bad) =
@@ -182,31 +231,35 @@ module _ (t : List ℕ) (h : Header) (symbols : List ℕ) (g : SameSymbols (auto
       not-observable (same-sound t h (relabelled h symbols) g refl .0 so) li (λ o. never (same-observable t h (relabelled h symbols) g byte .1 o))
   accepting-to self byte r s (incompatible so li ob nobody) =
       incompatible (same-sound t h (relabelled h symbols) g refl .0 so) li (same-observable t h (relabelled h symbols) g byte .0 ob)
-      (λ trace x. impossible-agree _ _ _ _ (same-agree _ _ g (trace ++ byte ∷ [])) (nobody trace (same-grown _ _ g trace (h .k) self .1 x)))
-  accepting-to self byte r s (accepted so li ob after weak strong i exact) =
-      accepted (same-sound t h (relabelled h symbols) g refl .0 so) li (same-observable t h (relabelled h symbols) g byte .0 ob) after weak strong i
-      (λ trace x. exact-to (trace ++ byte ∷ []) _ _ _ s (exact trace (same-grown _ _ g trace (h .k) self .1 x)))
+      (λ trace x. impossible-agree _ _ _ _ (same-agree _ _ g (trace ++ byte ∷ [])) (nobody trace (grown-back trace self x)))
+  accepting-to self byte r s (accepted so li ob same after many bounded i exact) =
+      accepted (same-sound t h (relabelled h symbols) g refl .0 so) li (same-observable t h (relabelled h symbols) g byte .0 ob) same after many bounded i
+      (λ trace x. exact-to (secretsOf h (self .further)) (trace ++ byte ∷ []) _ _ s (exact trace (grown-back trace self x)))
 
   accepting-by-to : (notion : Notion) (self : Estimator) (byte : ℕ) (r : SaidBy) (s : Estimator) → AcceptingBy notion t h self byte r s
       → AcceptingBy notion t (relabelled h symbols) self byte r s
   accepting-by-to notion self byte r s (turned-back x) = turned-back (accepting-to self byte _ s x)
-  accepting-by-to notion self byte r s (accepted-by {v = steps} {size = n} m v) =
+  accepting-by-to notion self byte r s (accepted-by {vs = vs} {size = n} m many each) =
       accepted-by (record {
         sound = same-sound t h (relabelled h symbols) g refl .0 (m .sound);
         limits = m .limits;
         observable = same-observable t h (relabelled h symbols) g byte .0 (m .observable);
+        same = m .same;
         limits-after = m .limits-after;
         size-within = m .size-within;
-        size = λ trace x. size-agree _ _ _ _ (same-agree _ _ g (trace ++ byte ∷ [])) n (m .size trace (same-grown _ _ g trace (h .k) self .1 x));
-        grown = λ trace x. same-grown _ _ g (trace ++ byte ∷ []) (h .k) s .0 (m .grown trace (same-grown _ _ g trace (h .k) self .1 x));
-      }) (record {
+        size = λ trace x. size-agree _ _ _ _ (same-agree _ _ g (trace ++ byte ∷ [])) n (m .size trace (grown-back trace self x));
+        grown = λ trace x. same-grown _ _ g (trace ++ byte ∷ []) (lookBackOf h (s .further)) s .0 (m .grown trace (grown-back trace self x));
+      }) many (λ i given.
+      let v = each i given in
+      let c = secretAt (secretsOf h (self .further)) i in
+      record {
         bounded = v .bounded;
-        tells = λ trace x. same-tells _ _ g (trace ++ byte ∷ []) (h .secret) (h .k) notion steps .0 (v .tells trace (same-grown _ _ g trace (h .k) self .1 x));
+        tells = λ trace x. same-tells _ _ g (trace ++ byte ∷ []) (c .states) (c .k) notion (getD vs i none) .0 (v .tells trace (grown-back trace self x));
       })
 
 module _ (t : List ℕ) (h h′ : Header) (g : SameSymbols (automatonOf t h) (automatonOf t h′)) (secret : h .secret ≡ h′ .secret) (k : h .k ≡ h′ .k) where
-  pub same-opening : (r : Said) (s : Estimator) → Opening t h r s ↔ Opening t h′ r s
-  same-opening r s = same-header t (λ x. Opening t x r s) (λ h symbols g. opening-to t h symbols g r s) h h′ g secret k
+  pub same-opening : (f : Further) (r : Said) (s : Estimator) → Opening t h f r s ↔ Opening t h′ f r s
+  same-opening f r s = same-header t (λ x. Opening t x f r s) (λ h symbols g. opening-to t h symbols g f r s) h h′ g secret k
 
   pub same-accepting : (self : Estimator) (byte : ℕ) (r : Said) (s : Estimator) → Accepting t h self byte r s ↔ Accepting t h′ self byte r s
   same-accepting self byte r s = same-header t (λ x. Accepting t x self byte r s) (λ h symbols g. accepting-to t h symbols g self byte r s) h h′ g secret k

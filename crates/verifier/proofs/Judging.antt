@@ -1,10 +1,14 @@
--- From the steps that an estimator remembers to K. Assumes nothing.
+-- From what was judged to what is answered: from the steps that an estimator remembers to each secret's own K, from four places to the secrets that are
+-- given, and from what is asked for to both verdicts or one. Assumes nothing.
 use mathlib.Core.Path.{_≡_, refl, sym, ap, _∙_, subst}
-use mathlib.Core.List.{List, [], _∷_, _++_}
-use Prim.Native.Nat.{ℕ, _≤_, _-_, min}
+use mathlib.Core.Bool.{Bool, true, false}
+use mathlib.Core.List.{List, [], _∷_, _++_, map}
+use Prim.Native.Nat.{ℕ, zero, suc, _≤_, _<_, _-_, min}
 use native.Mathlib.Omega.{arith}
-use lib.ListN.{length, getD, take}
-use lib.Seq.{take-length}
+use native.Mathlib.Decide.{decLt}
+use lib.ListN.{length, getD, take, length-take, List·getD-eq-default}
+use lib.Dec.{T}
+use lib.Seq.{take-length, getD-take, length-take-le}
 use Rattle.stateset.specs.Set.{Is}
 use Rattle.automaton.specs.Run.{Automaton, automatonOf, Possible, Observable, Sound}
 use Rattle.automaton.specs.Refusals.{numberOf}
@@ -15,18 +19,24 @@ use Rattle.automaton.proofs.Estimates.{size-some, size-most}
 use Rattle.verifier.specs.declared.Notion.{Notion}
 use Rattle.verifier.specs.declared.Notion.the-variants.{Weak, Strong}
 use Rattle.verifier.specs.declared.Verdict.{Verdict}
+use Rattle.verifier.specs.declared.Verdict.the-variants.{NoLeak}
 use Rattle.verifier.specs.declared.Verdicts.{Verdicts}
+use Rattle.verifier.specs.declared.Secret.{Secret}
+use Rattle.verifier.specs.declared.Further.{Further}
+use Rattle.verifier.specs.declared.SecretVerdicts.{SecretVerdicts}
 use Rattle.verifier.specs.declared.Judgement.{Judgement}
 use Rattle.verifier.specs.declared.Estimate.{Estimate}
 use Rattle.verifier.specs.declared.Estimator.{Estimator}
 use Rattle.verifier.specs.Verdicts.{Steps, none, leak, stepsOf, Tells}
-use Rattle.verifier.specs.Estimators.{Limits, Grown}
-use Rattle.verifier.specs.Replies.{refused, said, refused-by, verdict, saidBy, Bounded, SizeWithin, Exact, Opening, opened, Accepting, accepted, Moved, TellsBy, AcceptingBy, turned-back, accepted-by}
-use Rattle.verifier.specs.Inner.{Estimated, Stepped, Found, Asks, askFor, chosenAnswer, Given, Judged, AcceptingAsked}
+use Rattle.verifier.specs.Secrets.{own, secretsOf, secretAt, ForEach, lookBackOf, clearedOf, Allowed}
+use Rattle.verifier.specs.Estimators.{Limits, InLimits, Grown, GrownOn}
+use Rattle.verifier.specs.Replies.{toldOf, noneTold, noLeaks, stepsBy, toldAt, numbered, toldEach, refused, said, OthersNoLeak, Others, refused-by, verdicts-by, saidBy, OthersBy, chosen, Bounded, SizeWithin, Opening, opened, Accepting, accepted, Moved, TellsBy, AcceptingBy, turned-back, accepted-by}
+use Rattle.verifier.specs.Inner.{Estimated, Stepped, Found, Asks, askFor, chosenAnswer, Given, Judged, JudgedAt, JudgedAll, Opened, AcceptingAsked}
 use Rattle.verifier.specs.declared.Reply.{Reply}
 use Rattle.verifier.specs.declared.Asked.{Asked}
 use Rattle.verifier.specs.declared.Answer.{Answer}
 use Rattle.verifier.specs.declared.Answer.the-variants as answer
+use Rattle.verifier.proofs.Numbering.{getD-map, secret-back, how-many, how-many-most, same-secrets}
 use Rattle.verifier.proofs.Growing.{grown-remembers, grown-limits}
 use Rattle.verifier.proofs.Estimating.{estimated-size}
 
@@ -36,7 +46,7 @@ grown-entry p K trace s g =
     let e : length trace - 0 ≡ length trace = omega arith in
     subst (λ (x : List ℕ). Is (getD (s .entries) 0 0) (Enters p x)) (ap (λ (n : ℕ). take n trace) e ∙ take-length trace) (g .entries-are 0 (omega arith))
 
-bounded-up : (last K : ℕ) (v : Steps) → last ≤ K → Bounded last v → Bounded K v
+pub bounded-up : (last K : ℕ) (v : Steps) → last ≤ K → Bounded last v → Bounded K v
 bounded-up last K none h b = tt
 bounded-up last K (leak l) h b = omega arith
 
@@ -44,64 +54,183 @@ tells-up : (notion : Notion) (p : Automaton) (secret last K : ℕ) (trace : List
 tells-up notion p secret last K trace none e x = λ l h r. x l (omega arith) r
 tells-up notion p secret last K trace (leak l) e x = record { within = omega (arith, x .within); reached = x .reached; sure = x .sure; least = x .least }
 
--- the verdict by one notion, of a grown estimator
-found-tells : (notion : Notion) (p : Automaton) (secret K : ℕ) (trace : List ℕ) (s : Estimator) (v : Verdict) → Grown p K trace s → Found notion p secret (s .count) s v
-    → Tells notion p secret K trace (stepsOf v)
-found-tells notion p secret K trace s v g f =
-    tells-up notion p secret (s .count) K trace (stepsOf v) (g .count-is) (f .exact trace (grown-remembers p K trace s g (s .count) (omega arith)))
+-- the verdict of one secret by one notion, of a grown estimator: it remembers as much as the secret's own K asks for
+found-tells : (notion : Notion) (p : Automaton) (secret k K : ℕ) (trace : List ℕ) (s : Estimator) (v : Verdict) → k ≤ K → Grown p K trace s
+    → Found notion p secret (min k (s .count)) s v → Tells notion p secret k trace (stepsOf v)
+found-tells notion p secret k K trace s v low g f =
+    let c = g .count-is in
+    tells-up notion p secret (min k (s .count)) k trace (stepsOf v) (omega arith) (f .exact trace (grown-remembers p K trace s g (min k (s .count)) (omega arith)))
 
-pub judged-exact : (t : List ℕ) (h : Header) (trace : List ℕ) (s : Estimator) (a : Asked) (v : Verdicts) (n : ℕ) → Asks Weak a → Asks Strong a
-    → Grown (automatonOf t h) (h .k) trace s → Judged t h s a v → EstimateSize (automatonOf t h) trace n → Exact t h trace (stepsOf (v .weak)) (stepsOf (v .strong)) n s
-judged-exact t h trace s a v n weak strong g j size =
+pub judged-of : (t : List ℕ) (h : Header) (s : Estimator) (c d : Secret) (a : Asked) (v : Verdicts) → c ≡ d → Judged t h s c a v → Judged t h s d a v
+judged-of t h s c d a v e j = subst (λ (x : Secret). Judged t h s x a v) e j
+
+-- a notion is asked for, or it is not
+pub not-both : (b : Bool) → b ≡ true → b ≡ false → ⊥
+not-both b t f = subst T (sym t ∙ f) tt
+
+-- both verdicts of one secret
+pub judged-both : (t : List ℕ) (h : Header) (s : Estimator) (c : Secret) (a : Asked) (weak strong : Verdict)
+    → Given Weak a weak (Found Weak (automatonOf t h) (c .states) (min (c .k) (s .count)) s weak)
+    → Given Strong a strong (Found Strong (automatonOf t h) (c .states) (min (c .k) (s .count)) s strong) → Judged t h s c a (record { weak = weak; strong = strong })
+judged-both t h s c a weak strong x y Weak = x
+judged-both t h s c a weak strong x y Strong = y
+
+pub found-last : {notion : Notion} {p : Automaton} {secret last n : ℕ} {s : Estimator} {v : Verdict} → last ≡ n → Found notion p secret last s v → Found notion p secret n s v
+found-last {notion} {p} {secret} {last} {n} {s} {v} e f = subst (λ (m : ℕ). Found notion p secret m s v) e f
+
+both : (a : Asked) → Asks Weak a → Asks Strong a → (notion : Notion) → Asks notion a
+both a weak strong Weak = weak
+both a weak strong Strong = strong
+
+-- the verdicts of four places make those of all
+pub judged-four : (t : List ℕ) (h : Header) (s : Estimator) (a : Asked) (v w x y : Verdicts) → s .further .count ≤ 3 → JudgedAt t h s a 0 v → JudgedAt t h s a 1 w
+    → JudgedAt t h s a 2 x → JudgedAt t h s a 3 y → JudgedAll t h s a (record { own = v; first = w; second = x; third = y })
+judged-four t h s a v w x y few j k l m zero = j
+judged-four t h s a v w x y few j k l m (suc zero) = k
+judged-four t h s a v w x y few j k l m (suc (suc zero)) = l
+judged-four t h s a v w x y few j k l m (suc (suc (suc zero))) = m
+judged-four t h s a v w x y few j k l m (suc (suc (suc (suc i)))) =
+    record { given = λ g. absurd (omega (arith, how-many-most h (s .further))); other = λ o. refl }
+
+-- with none further the own one alone is judged
+pub judged-alone : (t : List ℕ) (h : Header) (s : Estimator) (a : Asked) (v : Verdicts) → s .further .count ≡ 0 → Judged t h s (own h) a v
+    → JudgedAll t h s a (record { own = v; first = noLeaks; second = noLeaks; third = noLeaks })
+judged-alone t h s a v alone j =
+    judged-four t h s a v noLeaks noLeaks noLeaks (omega arith) (record { given = λ g. j; other = λ o. absurd (omega arith) }) (not-given 1 (omega arith)) (not-given 2 (omega arith))
+    (not-given 3 (omega arith))
+  where
+    not-given : (i : ℕ) → 0 < i → JudgedAt t h s a i noLeaks
+    not-given i h′ = record { given = λ g. absurd (omega (arith, how-many-most h (s .further))); other = λ o. refl }
+
+-- what is told of a secret that is given is the verdict of its place
+at-place : (notion : Notion) (vs : List Verdicts) (i : ℕ) → stepsBy notion (getD (map toldOf vs) i noneTold) ≡ stepsOf (chosen notion (getD vs i noLeaks))
+at-place notion vs i = ap (stepsBy notion) (getD-map toldOf vs i noLeaks noneTold refl) ∙ by notion (getD vs i noLeaks)
+  where
+    by : (notion : Notion) (v : Verdicts) → stepsBy notion (toldOf v) ≡ stepsOf (chosen notion v)
+    by Weak v = refl
+    by Strong v = refl
+
+pub told-place : (h : Header) (f : Further) (v : SecretVerdicts) (notion : Notion) (i : ℕ) → i < length (secretsOf h f)
+    → toldAt notion (toldEach f v) i ≡ stepsOf (chosen notion (getD (numbered v) i noLeaks))
+told-place h f v notion i g =
+    ap (stepsBy notion) (getD-take (suc (f .count)) (map toldOf (numbered v)) i noneTold (omega (arith, how-many-most h f))) ∙ at-place notion (numbered v) i
+
+-- with those of the other places none, they are the same at every number
+pub told-others : (f : Further) (v : SecretVerdicts) → OthersNoLeak f v → (i : ℕ) → getD (toldEach f v) i noneTold ≡ getD (map toldOf (numbered v)) i noneTold
+told-others f v others i = go (decLt i (suc (f .count)))
+  where
+    go : Dec (i < suc (f .count)) → getD (toldEach f v) i noneTold ≡ getD (map toldOf (numbered v)) i noneTold
+    go (yes h) = getD-take (suc (f .count)) (map toldOf (numbered v)) i noneTold h
+    go (no h) =
+        let long : length (toldEach f v) ≤ i = omega (arith, length-take (suc (f .count)) (map toldOf (numbered v))) in
+        List·getD-eq-default (toldEach f v) noneTold long
+        ∙ sym (getD-map toldOf (numbered v) i noLeaks noneTold refl ∙ ap toldOf (others i (omega arith)))
+
+pub as-many : (h : Header) (f : Further) (v : SecretVerdicts) → f .count ≤ 3 → length (toldEach f v) ≡ length (secretsOf h f)
+as-many h f v few = length-take-le (suc (f .count)) (map toldOf (numbered v)) (omega arith) ∙ sym (how-many h f few)
+
+others-no-leak : (t : List ℕ) (h : Header) (s : Estimator) (a : Asked) (v : SecretVerdicts) → JudgedAll t h s a v → OthersNoLeak (s .further) v
+others-no-leak t h s a v j i more = j i .other (omega (arith, how-many-most h (s .further)))
+
+-- the verdicts of a grown estimator, where both notions are asked for
+pub judged-tells : (t : List ℕ) (h : Header) (trace : List ℕ) (s : Estimator) (a : Asked) (v : SecretVerdicts) → Asks Weak a → Asks Strong a → GrownOn t h trace s
+    → JudgedAll t h s a v → (notion : Notion) → ForEach (secretsOf h (s .further)) (λ i c. Tells notion (automatonOf t h) (c .states) (c .k) trace (toldAt notion (toldEach (s .further) v) i))
+judged-tells t h trace s a v weak strong g j notion i given =
+    subst (Tells notion (automatonOf t h) (secretAt (secretsOf h (s .further)) i .states) (secretAt (secretsOf h (s .further)) i .k) trace)
+    (sym (told-place h (s .further) v notion i given))
+    (found-tells notion _ _ _ _ trace s _ (secret-back h (s .further) i given) g (j i .given given notion .found (both a weak strong notion)))
+
+-- the opening of an estimator with no symbol, from the estimate that was worked out and what was judged
+pub opened-of : (t : List ℕ) (h : Header) (s : Estimator) (a : Asked) (j : Judgement) (from : ℕ) (silent : List ℕ) (e : Estimate) → GrownOn t h [] s
+    → Estimated (automatonOf t h) from (getD (s .entries) 0 0) silent e → JudgedAll t h s a (j .verdicts) × (j .size ≡ e .size) → Opened t h s a j
+opened-of t h s a j from silent e g estimate judged =
+    let p = automatonOf t h in
     record {
-      possible = g .possible;
-      size = size;
-      weak = found-tells Weak _ _ _ trace s (v .weak) g (j Weak .found weak);
-      strong = found-tells Strong _ _ _ trace s (v .strong) g (j Strong .found strong);
-      grown = g;
+      judged = judged .0;
+      size = subst (EstimateSize p []) (sym (judged .1)) (estimated-size p from _ silent e [] estimate (grown-entry p (lookBackOf h (s .further)) [] s g));
     }
 
--- a fresh estimator's answer, from the estimate that was worked out and what was judged
-pub opening-of : (t : List ℕ) (h : Header) (s : Estimator) (a : Asked) (j : Judgement) (from : ℕ) (silent : List ℕ) (e : Estimate) → Sound t h → Asks Weak a → Asks Strong a
-    → Grown (automatonOf t h) (h .k) [] s → Estimated (automatonOf t h) from (getD (s .entries) 0 0) silent e → Judged t h s a (j .verdicts) × (j .size ≡ e .size)
-    → Opening t h (said (answer.Accepted j)) s
-opening-of t h s a j from silent e so weak strong g estimate judged =
+-- a fresh estimator's answer: the secrets are those that were given
+pub opening-of : (t : List ℕ) (h : Header) (f : Further) (s : Estimator) (a : Asked) (j : Judgement) → Sound t h → Allowed f → Asks Weak a → Asks Strong a
+    → s .further ≡ clearedOf f → GrownOn t h [] s → Opened t h s a j → Opening t h f (said f (answer.Accepted j)) s × Others f (answer.Accepted j)
+opening-of t h f s a j so allowed weak strong same g o =
     let p = automatonOf t h in
-    let size = subst (EstimateSize p []) (sym (judged .1)) (estimated-size p from _ silent e [] estimate (grown-entry p (h .k) [] s g)) in
-    opened so (grown-limits p (h .k) [] s g (so .symbols-small))
-    (record { some = size-some p [] _ (g .possible) size; most = size-most p [] _ (so .start) size })
-    (judged-exact t h [] s a (j .verdicts) (j .size) weak strong g (judged .0) size)
+    let secrets : secretsOf h (s .further) ≡ secretsOf h f = ap (secretsOf h) same ∙ same-secrets h f in
+    let count : s .further .count ≡ f .count = ap (λ (x : Further). x .count) same in
+    let tells = judged-tells t h [] s a (j .verdicts) weak strong g (o .judged) in (
+      opened so allowed same (grown-limits p _ [] s g (so .symbols-small)) (as-many h f (j .verdicts) (allowed .few))
+          (record { some = size-some p [] _ (g .possible) (o .size); most = size-most p [] _ (so .start) (o .size) })
+          (record {
+            possible = g .possible;
+            tells = λ notion.
+                subst (λ (cs : List Secret). ForEach cs (λ i c. Tells notion p (c .states) (c .k) [] (toldAt notion (toldEach f (j .verdicts)) i))) secrets
+                (λ i given. subst (λ (n : ℕ). Tells notion p (secretAt (secretsOf h (s .further)) i .states) (secretAt (secretsOf h (s .further)) i .k) []
+                (toldAt notion (take (suc n) (map toldOf (numbered (j .verdicts)))) i)) count (tells notion i given));
+            size = o .size;
+            grown = g;
+          }),
+      λ i more. others-no-leak t h s a (j .verdicts) (o .judged) i (omega (arith, count)),
+    )
+
+-- a fresh estimator that is refused
+pub refused-opening : (t : List ℕ) (h : Header) (f : Further) (refusal : Refusal) (r : Reply) → r .answer ≡ answer.Refused refusal
+    → Opening t h f (refused (numberOf refusal)) (r .estimator) → Opening t h f (said f (r .answer)) (r .estimator) × Others f (r .answer)
+refused-opening t h f refusal r e x = rw e (x, tt)
+
+-- the limits with the largest K, of an estimator with the same further secrets
+pub limits-as : (h : Header) (self s : Estimator) (k : ℕ) → k ≡ lookBackOf h (self .further) → s .further ≡ self .further → Limits k s → InLimits h s
+limits-as h self s k e same li = subst (λ (f : Further). Limits (lookBackOf h f) s) (sym same) (subst (λ (n : ℕ). Limits n s) e li)
 
 -- an accepted symbol, from the estimate after it and the estimator with it pushed
-pub moved-by : (t : List ℕ) (h : Header) (self : Estimator) (symbol n from : ℕ) (silent : List ℕ) (e : Estimate) (s : Estimator) → Sound t h → Limits (h .k) self
-    → Observable h symbol → Stepped (automatonOf t h) from (getD (self .entries) 0 0) symbol silent e → n ≡ e .size → Limits (h .k) s
-    → ((trace : List ℕ) → Grown (automatonOf t h) (h .k) trace self → Is (e .entry) (Enters (automatonOf t h) (trace ++ symbol ∷ []))
-    → Possible (automatonOf t h) (trace ++ symbol ∷ []) → Grown (automatonOf t h) (h .k) (trace ++ symbol ∷ []) s) → Moved t h self symbol n s
-moved-by t h self symbol n from silent e s so li ob x is after push =
+pub moved-by : (t : List ℕ) (h : Header) (self : Estimator) (symbol n from k : ℕ) (silent : List ℕ) (e : Estimate) (s : Estimator) → Sound t h → InLimits h self
+    → Observable h symbol → Stepped (automatonOf t h) from (getD (self .entries) 0 0) symbol silent e → n ≡ e .size → k ≡ lookBackOf h (self .further)
+    → s .further ≡ self .further → Limits k s
+    → ((trace : List ℕ) → Grown (automatonOf t h) k trace self → Is (e .entry) (Enters (automatonOf t h) (trace ++ symbol ∷ []))
+    → Possible (automatonOf t h) (trace ++ symbol ∷ []) → Grown (automatonOf t h) k (trace ++ symbol ∷ []) s) → Moved t h self symbol n s
+moved-by t h self symbol n from k silent e s so li ob x is largest same after push =
     let p = automatonOf t h in
+    let K = lookBackOf h (self .further) in
     record {
       sound = so;
       limits = li;
       observable = ob;
-      limits-after = after;
+      same = same;
+      limits-after = limits-as h self s k largest same after;
       size-within = subst SizeWithin (sym is) (x .size-within);
-      grown = λ trace g. let E = grown-entry p (h .k) trace self g in push trace g (x .enters trace E) (x .possible trace E);
+      grown = λ trace g.
+          let E = grown-entry p K trace self g in
+          subst (λ (f : Further). Grown p (lookBackOf h f) (trace ++ symbol ∷ []) s) (sym same)
+          (subst (λ (n : ℕ). Grown p n (trace ++ symbol ∷ []) s) largest
+          (push trace (subst (λ (n : ℕ). Grown p n trace self) (sym largest) g) (x .enters trace E) (x .possible trace E)));
       size = λ trace g.
           subst (EstimateSize p (trace ++ symbol ∷ [])) (sym is)
-          (estimated-size p from _ silent e (trace ++ symbol ∷ []) (x .estimated) (x .enters trace (grown-entry p (h .k) trace self g)));
+          (estimated-size p from _ silent e (trace ++ symbol ∷ []) (x .estimated) (x .enters trace (grown-entry p K trace self g)));
     }
 
--- the verdict that was found for an estimator, as that of the event that led to it
-pub found-by : (notion : Notion) (t : List ℕ) (h : Header) (self : Estimator) (symbol n : ℕ) (s : Estimator) (v : Verdict) → Moved t h self symbol n s
-    → Found notion (automatonOf t h) (h .secret) (s .count) s v → TellsBy notion t h self symbol (stepsOf v)
-found-by notion t h self symbol n s v m f =
+-- the verdict of one secret that was found for an estimator, as that of the symbol that led to it
+found-by : (notion : Notion) (t : List ℕ) (h : Header) (self : Estimator) (symbol n : ℕ) (s : Estimator) (c : Secret) (v : Verdict) → c .k ≤ lookBackOf h (s .further)
+    → Moved t h self symbol n s → Found notion (automatonOf t h) (c .states) (min (c .k) (s .count)) s v → TellsBy notion t h self symbol c (stepsOf v)
+found-by notion t h self symbol n s c v low m f =
     record {
-      bounded = bounded-up _ _ (stepsOf v) (m .limits-after .few) (f .bounded);
-      tells = λ trace g. found-tells notion _ _ _ (trace ++ symbol ∷ []) s v (m .grown trace g) f;
+      bounded = bounded-up _ _ (stepsOf v) (omega arith) (f .bounded);
+      tells = λ trace g. found-tells notion _ _ _ _ (trace ++ symbol ∷ []) s v low (m .grown trace g) f;
     }
 
 pub given-by : {notion : Notion} {a : Asked} {v : Verdict} {P Q : Type 0} → (P → Q) → Given notion a v P → Given notion a v Q
 given-by f g = record { found = λ asks. f (g .found asks); silent = g .silent }
+
+-- the verdicts that were found for an estimator, as those of the symbol that led to it
+pub judged-by : (a : Asked) (t : List ℕ) (h : Header) (self : Estimator) (symbol : ℕ) (j : Judgement) (s : Estimator) → Moved t h self symbol (j .size) s
+    → JudgedAll t h s a (j .verdicts) → AcceptingAsked a t h self symbol (answer.Accepted j) s
+judged-by a t h self symbol j s m all = (
+  m,
+  subst (λ (f : Further). OthersNoLeak f (j .verdicts)) (m .same) (others-no-leak t h s a (j .verdicts) all),
+  λ notion.
+      subst (λ (f : Further). ForEach (secretsOf h f) (λ i c.
+      Given notion a (chosen notion (getD (numbered (j .verdicts)) i noLeaks))
+      (TellsBy notion t h self symbol c (stepsOf (chosen notion (getD (numbered (j .verdicts)) i noLeaks)))))) (m .same)
+      (λ i given. given-by (found-by notion t h self symbol _ s _ _ (secret-back h (s .further) i given) m) (all i .given given notion)),
+)
 
 -- a refusal
 pub refused-asked : (a : Asked) (t : List ℕ) (h : Header) (self : Estimator) (symbol : ℕ) (refusal : Refusal) (r : Reply) → r .estimator ≡ self → r .answer ≡ answer.Refused refusal
@@ -110,16 +239,37 @@ refused-asked a t h self symbol refusal r e f x = rw (e, f) x
 
 -- both notions make both verdicts
 pub asked-both : (t : List ℕ) (h : Header) (self : Estimator) (symbol : ℕ) (a : Asked) (r : Answer) (s : Estimator) → Asks Weak a → Asks Strong a
-    → AcceptingAsked a t h self symbol r s → Accepting t h self symbol (said r) s
-asked-both t h self symbol a (answer.Refused n) s weak strong x = x
-asked-both t h self symbol a (answer.Accepted j) s weak strong x =
-    let m = x .0 in
-    let w = x .1 Weak .found weak in
-    let u = x .1 Strong .found strong in
-    accepted (m .sound) (m .limits) (m .observable) (m .limits-after) (w .bounded) (u .bounded) (m .size-within)
-    (λ trace g.
-    let n = m .grown trace g in
-    record { possible = n .possible; weak = w .tells trace g; strong = u .tells trace g; size = m .size trace g; grown = n })
+    → AcceptingAsked a t h self symbol r s → Accepting t h self symbol (said (self .further) r) s × Others (self .further) r
+asked-both t h self symbol a (answer.Refused n) s weak strong x = (x, tt)
+asked-both t h self symbol a (answer.Accepted j) s weak strong x = (
+  accepted (m .sound) (m .limits) (m .observable) (m .same) (m .limits-after) (as-many h (self .further) (j .verdicts) (m .limits .allowed .few))
+      (λ notion i given. subst (Bounded (secretAt (secretsOf h (self .further)) i .k)) (sym (place notion i given)) (by notion i given .bounded)) (m .size-within)
+      (λ trace g.
+      let n = m .grown trace g in
+      record {
+        possible = n .possible;
+        tells = λ notion i given.
+            subst (Tells notion (automatonOf t h) (secretAt (secretsOf h (self .further)) i .states) (secretAt (secretsOf h (self .further)) i .k) (trace ++ symbol ∷ [])) (sym (place notion i given))
+            (by notion i given .tells trace g);
+        size = m .size trace g;
+        grown = n;
+      }),
+  x .1,
+)
+  where
+    m : Moved t h self symbol (j .size) s
+    m = x .0
+
+    place : (notion : Notion) (i : ℕ) → i < length (secretsOf h (self .further)) → toldAt notion (toldEach (self .further) (j .verdicts)) i ≡ stepsOf (chosen notion (getD (numbered (j .verdicts)) i noLeaks))
+    place notion i given = told-place h (self .further) (j .verdicts) notion i given
+
+    by : (notion : Notion) → ForEach (secretsOf h (self .further)) (λ i c. TellsBy notion t h self symbol c (stepsOf (chosen notion (getD (numbered (j .verdicts)) i noLeaks))))
+    by notion i given = x .2 notion i given .found (both a weak strong notion)
+
+-- a place that is not given says nothing by either notion
+nothing : (notion : Notion) → chosen notion noLeaks ≡ NoLeak
+nothing Weak = refl
+nothing Strong = refl
 
 -- one notion makes its verdict
 asks-one : (notion : Notion) → Asks notion (askFor notion)
@@ -127,15 +277,27 @@ asks-one Weak = refl
 asks-one Strong = refl
 
 pub asked-one : (notion : Notion) (t : List ℕ) (h : Header) (self : Estimator) (symbol : ℕ) (a : Asked) (r : Answer) (s : Estimator) → a ≡ askFor notion
-    → AcceptingAsked a t h self symbol r s → AcceptingBy notion t h self symbol (saidBy (chosenAnswer notion r)) s
-asked-one notion t h self symbol a (answer.Refused n) s one x = turned-back x
-asked-one notion t h self symbol a (answer.Accepted j) s one x = accepted-by (x .0) (x .1 notion .found (subst (Asks notion) (sym one) (asks-one notion)))
+    → AcceptingAsked a t h self symbol r s
+    → AcceptingBy notion t h self symbol (saidBy (self .further) (chosenAnswer notion r)) s × OthersBy (self .further) (chosenAnswer notion r)
+asked-one notion t h self symbol a (answer.Refused n) s one x = (turned-back x, tt)
+asked-one notion t h self symbol a (answer.Accepted j) s one x = (
+  accepted-by (x .0) (length-take-le (suc (self .further .count)) (map (λ v. stepsOf (chosen notion v)) (numbered (j .verdicts))) (omega (arith, few)) ∙ sym (how-many h (self .further) few))
+      (λ i given.
+      subst (TellsBy notion t h self symbol (secretAt (secretsOf h (self .further)) i))
+      (sym (getD-take (suc (self .further .count)) (map (λ v. stepsOf (chosen notion v)) (numbered (j .verdicts))) i none (omega (arith, how-many-most h (self .further))) ∙ getD-map (λ v. stepsOf (chosen notion v)) (numbered (j .verdicts)) i noLeaks none (ap stepsOf (nothing notion))))
+      (x .2 notion i given .found (subst (Asks notion) (sym one) (asks-one notion)))),
+  λ i more. getD-map (chosen notion) (numbered (j .verdicts)) i noLeaks NoLeak (nothing notion) ∙ ap (chosen notion) (x .1 i more) ∙ nothing notion,
+)
+  where
+    few : self .further .count ≤ 3
+    few = x .0 .limits .allowed .few
 
 -- and the other way round
 pub refused-of : {notion : Notion} {t : List ℕ} {h : Header} {self : Estimator} {symbol n : ℕ} {s : Estimator} → AcceptingBy notion t h self symbol (refused-by n) s
     → Accepting t h self symbol (refused n) s
 refused-of (turned-back x) = x
 
-pub accepted-of : {notion : Notion} {t : List ℕ} {h : Header} {self : Estimator} {symbol : ℕ} {v : Steps} {n : ℕ} {s : Estimator}
-    → AcceptingBy notion t h self symbol (verdict v n) s → Moved t h self symbol n s × TellsBy notion t h self symbol v
-accepted-of (accepted-by m w) = (m, w)
+pub accepted-of : {notion : Notion} {t : List ℕ} {h : Header} {self : Estimator} {symbol : ℕ} {vs : List Steps} {n : ℕ} {s : Estimator}
+    → AcceptingBy notion t h self symbol (verdicts-by vs n) s
+    → Moved t h self symbol n s × ForEach (secretsOf h (self .further)) (λ i c. TellsBy notion t h self symbol c (getD vs i none))
+accepted-of (accepted-by m as-many each) = (m, each)

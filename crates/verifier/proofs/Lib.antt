@@ -1,4 +1,5 @@
 -- Laws that belong to no one function.
+pub mod Numbering
 pub mod Exactness
 pub mod Growing
 pub mod Estimating
@@ -7,5 +8,6 @@ pub mod LookBack
 pub mod Judging
 pub mod Storing
 pub mod SecondPoint
+pub mod PastCount
 pub mod Agreed
 pub mod Corresponding

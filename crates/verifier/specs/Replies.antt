@@ -1,30 +1,77 @@
 -- What a fresh estimator and an offered symbol give, in the order that 01 gives below its refusal table.
-use mathlib.Core.List.{List, [], _∷_, _++_}
-use Prim.Native.Nat.{ℕ, _≤_}
+use mathlib.Core.Path.{_≡_}
+use mathlib.Core.List.{List, [], _∷_, _++_, map}
+use Prim.Native.Nat.{ℕ, suc, _≤_, _<_}
+use lib.ListN.{length, getD, take}
 use Rattle.automaton.specs.Run.{automatonOf, Possible, Impossible, Observable, Sound}
 use Rattle.automaton.specs.Reaching.{EstimateSize}
 use Rattle.automaton.specs.Refusals.{numberOf}
 use Rattle.automaton.specs.declared.Header.{Header}
+use Rattle.verifier.specs.Secrets.{secretsOf, ForEach, clearedOf, Allowed, TooLarge}
 use Rattle.verifier.specs.Verdicts.{Steps, none, leak, stepsOf, Tells}
-use Rattle.verifier.specs.Estimators.{Limits, Grown}
+use Rattle.verifier.specs.Estimators.{Limits, InLimits, GrownOn}
 use Rattle.verifier.specs.declared.Notion.{Notion}
 use Rattle.verifier.specs.declared.Notion.the-variants.{Weak, Strong}
+use Rattle.verifier.specs.declared.Secret.{Secret}
+use Rattle.verifier.specs.declared.Further.{Further}
 use Rattle.verifier.specs.declared.Estimator.{Estimator}
 use Rattle.verifier.specs.declared.Answer.{Answer}
 use Rattle.verifier.specs.declared.Answer.the-variants as answer
 use Rattle.verifier.specs.declared.AnswerBy.{AnswerBy}
 use Rattle.verifier.specs.declared.AnswerBy.the-variants as by
 use Rattle.verifier.specs.declared.Verdict.{Verdict}
+use Rattle.verifier.specs.declared.Verdict.the-variants.{NoLeak}
 use Rattle.verifier.specs.declared.Verdicts as declared
+use Rattle.verifier.specs.declared.SecretVerdicts.{SecretVerdicts}
+use Rattle.verifier.specs.declared.VerdictsBy.{VerdictsBy}
 
--- what an answer says: the number of a refusal, or the steps of the two verdicts and how many states are possible
+-- the steps of the two verdicts of one secret
+pub record Told : Type 0 where
+  pub weak : Steps
+  pub strong : Steps
+
+abbrev pub toldOf : declared.Verdicts → Told
+toldOf v = record { weak = stepsOf (v .weak); strong = stepsOf (v .strong) }
+
+-- the verdicts of a place that is not given
+abbrev pub noneTold : Told
+noneTold = record { weak = none; strong = none }
+
+abbrev pub noLeaks : declared.Verdicts
+noLeaks = record { weak = NoLeak; strong = NoLeak }
+
+-- what is told of the secret with a number, by the notion
+abbrev pub stepsBy : Notion → Told → Steps
+stepsBy Weak v = v .weak
+stepsBy Strong v = v .strong
+
+abbrev pub toldAt : Notion → List Told → ℕ → Steps
+toldAt notion vs i = stepsBy notion (getD vs i noneTold)
+
+-- the verdicts of all four places, as the secrets are numbered
+abbrev pub numbered : SecretVerdicts → List declared.Verdicts
+numbered v = v .own ∷ v .first ∷ v .second ∷ v .third ∷ []
+
+-- those of the secrets that are given: two for each
+abbrev pub toldEach : Further → SecretVerdicts → List Told
+toldEach f v = take (suc (f .count)) (map toldOf (numbered v))
+
+-- what an answer says: the number of a refusal, or the steps of the two verdicts of each secret, and how many states are possible
 pub data Said : Type 0 where
   refused : ℕ → Said
-  verdicts : (weak strong : Steps) (size : ℕ) → Said
+  verdicts : (each : List Told) (size : ℕ) → Said
 
-abbrev pub said : Answer → Said
-said (answer.Refused r) = refused (numberOf r)
-said (answer.Accepted j) = verdicts (stepsOf (j .verdicts .weak)) (stepsOf (j .verdicts .strong)) (j .size)
+abbrev pub said : Further → Answer → Said
+said f (answer.Refused r) = refused (numberOf r)
+said f (answer.Accepted j) = verdicts (toldEach f (j .verdicts)) (j .size)
+
+-- the places of secrets that are not given hold no leak
+abbrev pub OthersNoLeak : Further → SecretVerdicts → Type 0
+OthersNoLeak f v = (i : ℕ) → f .count < i → getD (numbered v) i noLeaks ≡ noLeaks
+
+abbrev pub Others : Further → Answer → Type 0
+Others f (answer.Refused r) = Unit {0}
+Others f (answer.Accepted j) = OthersNoLeak f (j .verdicts)
 
 -- steps from 0 to K, or none
 abbrev pub Bounded : ℕ → Steps → Type 0
@@ -36,65 +83,89 @@ pub record SizeWithin (size : ℕ) : Type 0 where
   pub some : 1 ≤ size
   pub most : size ≤ 64
 
--- the verdicts after a trace, how many states are possible, and the estimator that has grown by it. Some run is compatible with the trace: else a leak
--- would say nothing
-pub record Exact (t : List ℕ) (h : Header) (trace : List ℕ) (v w : Steps) (n : ℕ) (s : Estimator) : Type 0 where
+-- the verdicts after a trace, two for each secret by its own K, how many states are possible, and the estimator that has grown by it. Some run is
+-- compatible with the trace: else a leak would say nothing
+pub record Exact (t : List ℕ) (h : Header) (cs : List Secret) (trace : List ℕ) (vs : List Told) (n : ℕ) (s : Estimator) : Type 0 where
   pub possible : Possible (automatonOf t h) trace
-  pub weak : Tells Weak (automatonOf t h) (h .secret) (h .k) trace v
-  pub strong : Tells Strong (automatonOf t h) (h .secret) (h .k) trace w
+  pub tells : (notion : Notion) → ForEach cs (λ i c. Tells notion (automatonOf t h) (c .states) (c .k) trace (toldAt notion vs i))
   pub size : EstimateSize (automatonOf t h) trace n
-  pub grown : Grown (automatonOf t h) (h .k) trace s
+  pub grown : GrownOn t h trace s
 
--- a fresh estimator. A refused one is outside its limits on every automaton
-pub data Opening (t : List ℕ) (h : Header) : Said → Estimator → Type 0 where
-  malformed : {s : Estimator} → (Sound t h → ⊥) → ((K : ℕ) → K ≤ 15 → Limits K s → ⊥) → Opening t h (refused 9) s
-  opened : {weak strong : Steps} {size : ℕ} {s : Estimator} → Sound t h → Limits (h .k) s → SizeWithin size → Exact t h [] weak strong size s
-      → Opening t h (verdicts weak strong size) s
+-- outside its limits on every automaton
+abbrev pub Unusable : Estimator → Type 0
+Unusable s = (K : ℕ) → K ≤ 15 → Limits K s → ⊥
 
--- a symbol offered to an estimator: the answer, and the estimator after it. Of one that is Grown by no trace only the limits are said, and that the number
--- is from 1 to 64
+-- a fresh estimator with further secrets, which it keeps, the places past their count emptied. A refused one is outside its limits on every automaton
+pub data Opening (t : List ℕ) (h : Header) (f : Further) : Said → Estimator → Type 0 where
+  malformed : {s : Estimator} → (Sound t h → ⊥) → Unusable s → Opening t h f (refused 9) s
+  too-many-secrets : {s : Estimator} → Sound t h → 3 < f .count → Unusable s → Opening t h f (refused 13) s
+  look-back-too-large : {s : Estimator} → Sound t h → f .count ≤ 3 → TooLarge f → Unusable s → Opening t h f (refused 14) s
+  opened : {vs : List Told} {size : ℕ} {s : Estimator} → Sound t h → Allowed f → s .further ≡ clearedOf f → InLimits h s
+      → length vs ≡ length (secretsOf h f) → SizeWithin size → Exact t h (secretsOf h f) [] vs size s → Opening t h f (verdicts vs size) s
+
+-- a symbol offered to an estimator: the answer, and the estimator after it, with the same further secrets. Of one that is Grown by no trace only the
+-- limits are said, that each verdict is from 0 to its secret's own K or none, and that the number is from 1 to 64
 pub data Accepting (t : List ℕ) (h : Header) (self : Estimator) (symbol : ℕ) : Said → Estimator → Type 0 where
-  malformed : (Sound t h × Limits (h .k) self → ⊥) → Accepting t h self symbol (refused 9) self
-  not-observable : Sound t h → Limits (h .k) self → (Observable h symbol → ⊥) → Accepting t h self symbol (refused 6) self
-  incompatible : Sound t h → Limits (h .k) self → Observable h symbol
-      → ((trace : List ℕ) → Grown (automatonOf t h) (h .k) trace self → Impossible (automatonOf t h) (trace ++ symbol ∷ []))
+  malformed : (Sound t h × InLimits h self → ⊥) → Accepting t h self symbol (refused 9) self
+  not-observable : Sound t h → InLimits h self → (Observable h symbol → ⊥) → Accepting t h self symbol (refused 6) self
+  incompatible : Sound t h → InLimits h self → Observable h symbol
+      → ((trace : List ℕ) → GrownOn t h trace self → Impossible (automatonOf t h) (trace ++ symbol ∷ []))
       → Accepting t h self symbol (refused 7) self
-  accepted : {weak strong : Steps} {size : ℕ} {s : Estimator} → Sound t h → Limits (h .k) self → Observable h symbol
-      → Limits (h .k) s → Bounded (h .k) weak → Bounded (h .k) strong → SizeWithin size
-      → ((trace : List ℕ) → Grown (automatonOf t h) (h .k) trace self → Exact t h (trace ++ symbol ∷ []) weak strong size s)
-      → Accepting t h self symbol (verdicts weak strong size) s
+  accepted : {vs : List Told} {size : ℕ} {s : Estimator} → Sound t h → InLimits h self → Observable h symbol
+      → s .further ≡ self .further → InLimits h s → length vs ≡ length (secretsOf h (self .further))
+      → ((notion : Notion) → ForEach (secretsOf h (self .further)) (λ i c. Bounded (c .k) (toldAt notion vs i))) → SizeWithin size
+      → ((trace : List ℕ) → GrownOn t h trace self → Exact t h (secretsOf h (self .further)) (trace ++ symbol ∷ []) vs size s)
+      → Accepting t h self symbol (verdicts vs size) s
 
--- an answer with the verdict by one notion says: the number of a refusal, or the steps of that verdict and how many states are possible
+-- an answer with the verdicts by one notion says: the number of a refusal, or the steps of that verdict of each secret, and how many states are possible
 pub data SaidBy : Type 0 where
   refused-by : ℕ → SaidBy
-  verdict : Steps → (size : ℕ) → SaidBy
+  verdicts-by : (each : List Steps) (size : ℕ) → SaidBy
 
-abbrev pub saidBy : AnswerBy → SaidBy
-saidBy (by.Refused r) = refused-by (numberOf r)
-saidBy (by.Accepted j) = verdict (stepsOf (j .verdict)) (j .size)
+abbrev pub numberedBy : VerdictsBy → List Verdict
+numberedBy v = v .own ∷ v .first ∷ v .second ∷ v .third ∷ []
+
+-- those of the secrets that are given: one for each
+abbrev pub stepsEach : Further → VerdictsBy → List Steps
+stepsEach f v = take (suc (f .count)) (map stepsOf (numberedBy v))
+
+abbrev pub saidBy : Further → AnswerBy → SaidBy
+saidBy f (by.Refused r) = refused-by (numberOf r)
+saidBy f (by.Accepted j) = verdicts-by (stepsEach f (j .verdicts)) (j .size)
+
+abbrev pub OthersBy : Further → AnswerBy → Type 0
+OthersBy f (by.Refused r) = Unit {0}
+OthersBy f (by.Accepted j) = (i : ℕ) → f .count < i → getD (numberedBy (j .verdicts)) i NoLeak ≡ NoLeak
 
 abbrev pub chosen : Notion → declared.Verdicts → Verdict
 chosen Weak v = v .weak
 chosen Strong v = v .strong
 
+abbrev pub chosenEach : Notion → SecretVerdicts → VerdictsBy
+chosenEach notion v =
+    record { own = chosen notion (v .own); first = chosen notion (v .first); second = chosen notion (v .second); third = chosen notion (v .third) }
+
 -- a symbol that was accepted: how many states are possible, and the estimator after it, whatever is asked for. That it has grown says that some run is
 -- compatible (Grown.possible)
 pub record Moved (t : List ℕ) (h : Header) (self : Estimator) (symbol n : ℕ) (s : Estimator) : Type 0 where
   pub sound : Sound t h
-  pub limits : Limits (h .k) self
+  pub limits : InLimits h self
   pub observable : Observable h symbol
-  pub limits-after : Limits (h .k) s
+  pub same : s .further ≡ self .further
+  pub limits-after : InLimits h s
   pub size-within : SizeWithin n
-  pub grown : (trace : List ℕ) → Grown (automatonOf t h) (h .k) trace self → Grown (automatonOf t h) (h .k) (trace ++ symbol ∷ []) s
-  pub size : (trace : List ℕ) → Grown (automatonOf t h) (h .k) trace self → EstimateSize (automatonOf t h) (trace ++ symbol ∷ []) n
+  pub grown : (trace : List ℕ) → GrownOn t h trace self → GrownOn t h (trace ++ symbol ∷ []) s
+  pub size : (trace : List ℕ) → GrownOn t h trace self → EstimateSize (automatonOf t h) (trace ++ symbol ∷ []) n
 
--- and its verdict by one notion
-pub record TellsBy (notion : Notion) (t : List ℕ) (h : Header) (self : Estimator) (symbol : ℕ) (v : Steps) : Type 0 where
-  pub bounded : Bounded (h .k) v
-  pub tells : (trace : List ℕ) → Grown (automatonOf t h) (h .k) trace self → Tells notion (automatonOf t h) (h .secret) (h .k) (trace ++ symbol ∷ []) v
+-- and its verdict of one secret by one notion
+pub record TellsBy (notion : Notion) (t : List ℕ) (h : Header) (self : Estimator) (symbol : ℕ) (c : Secret) (v : Steps) : Type 0 where
+  pub bounded : Bounded (c .k) v
+  pub tells : (trace : List ℕ) → GrownOn t h trace self → Tells notion (automatonOf t h) (c .states) (c .k) (trace ++ symbol ∷ []) v
 
--- a symbol offered to an estimator, with the verdict by one notion: refusals as above, and an accepted symbol with that verdict and the number
+-- a symbol offered to an estimator, with the verdicts by one notion: refusals as above, and an accepted symbol with that verdict of each secret and the
+-- number
 pub data AcceptingBy (notion : Notion) (t : List ℕ) (h : Header) (self : Estimator) (symbol : ℕ) : SaidBy → Estimator → Type 0 where
   turned-back : {n : ℕ} {s : Estimator} → Accepting t h self symbol (refused n) s → AcceptingBy notion t h self symbol (refused-by n) s
-  accepted-by : {v : Steps} {size : ℕ} {s : Estimator} → Moved t h self symbol size s → TellsBy notion t h self symbol v
-      → AcceptingBy notion t h self symbol (verdict v size) s
+  accepted-by : {vs : List Steps} {size : ℕ} {s : Estimator} → Moved t h self symbol size s → length vs ≡ length (secretsOf h (self .further))
+      → ForEach (secretsOf h (self .further)) (λ i c. TellsBy notion t h self symbol c (getD vs i none))
+      → AcceptingBy notion t h self symbol (verdicts-by vs size) s

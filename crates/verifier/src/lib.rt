@@ -10,10 +10,11 @@ ghost use Rattle.automaton.specs.Run.{Automaton, automatonOf, Possible, Sound};
 ghost use Rattle.automaton.specs.Reaching.{Enters, Arrives, Showing, Known, Gained, Closed, Entered};
 ghost use Rattle.automaton.specs.Relation.{Sub};
 ghost use Rattle.verifier.specs.declared.Notion.the-variants as notion;
-ghost use Rattle.verifier.specs.Estimators.{Limits, Grown};
+ghost use Rattle.verifier.specs.Secrets.{own, furtherOf, secretsOf, secretAt, lookBackOf, clearedOf, noFurther, Allowed};
+ghost use Rattle.verifier.specs.Estimators.{Limits, InLimits, Grown, GrownOn};
 ghost use Rattle.verifier.specs.declared.Answer.the-variants as answer;
-ghost use Rattle.verifier.specs.Replies.{said, saidBy, chosen, Opening, Accepting, AcceptingBy};
-ghost use Rattle.verifier.specs.Inner.{Inside, Pushed, Estimated, Next, Sampled, UnobservableReach, Prepared, Explored, Found, askFor, chosenAnswer, Judged, AcceptingAsked};
+ghost use Rattle.verifier.specs.Replies.{said, saidBy, chosen, chosenEach, Others, OthersBy, Unusable, Opening, Accepting, AcceptingBy};
+ghost use Rattle.verifier.specs.Inner.{Inside, Pushed, Estimated, Next, Sampled, UnobservableReach, Prepared, Explored, Found, Delayed, Asks, askFor, chosenAnswer, Judged, JudgedAt, JudgedAll, Opened, AcceptingAsked};
 
 // 01's "none", or "leak" with its steps.
 pub enum Verdict {
@@ -31,11 +32,33 @@ pub struct Verdicts {
     pub strong: Verdict,
 }
 
-// What an accepted answer holds: how many states are possible (02: how many fit), 1 to 64, and the verdicts. (The number stands first: an answer is
-// copied as one byte and four, and so are the number and the verdicts read.)
+// A secret (02: recipe): a set of states, and its own look-back K.
+pub struct Secret {
+    pub states: u64,
+    pub k: u8,
+}
+
+// Up to three further secrets: three places, each a set of states and its K, and how many are given. A place past the count counts for nothing. (Two
+// arrays, and not three secrets side by side: an estimator is copied at each event, and whole words are copied faster than words with single bytes
+// between them.)
+pub struct Further {
+    pub states: [u64; 3],
+    pub k: [u8; 3],
+    pub count: u8,
+}
+
+// The two verdicts of each secret: the automaton's own, number 0, and the further ones, 1 to 3. Those of a place that is not given are NoLeak.
+pub struct SecretVerdicts {
+    pub own: Verdicts,
+    pub first: Verdicts,
+    pub second: Verdicts,
+    pub third: Verdicts,
+}
+
+// What an accepted answer holds: how many states are possible (02: how many fit), 1 to 64, and the verdicts.
 pub struct Judgement {
     pub size: u8,
-    pub verdicts: Verdicts,
+    pub verdicts: SecretVerdicts,
 }
 
 pub enum Answer {
@@ -43,11 +66,13 @@ pub enum Answer {
     Accepted(Judgement),
 }
 
-// The last symbols (02: lamps), the newest first, and for each step back the states right after the last one that is left (01: watch).
+// The last symbols (02: lamps), the newest first, and for each step back the states right after the last one that is left; and the further secrets
+// (01: watch).
 pub struct Estimator {
     pub count: u8,
     pub symbols: [u8; 15],
     pub entries: [u64; 16],
+    pub further: Further,
 }
 
 pub struct Reply {
@@ -55,9 +80,16 @@ pub struct Reply {
     pub answer: Answer,
 }
 
-// With the verdict by one notion alone.
+// The verdict of each secret by one notion alone.
+pub struct VerdictsBy {
+    pub own: Verdict,
+    pub first: Verdict,
+    pub second: Verdict,
+    pub third: Verdict,
+}
+
 pub struct JudgementBy {
-    pub verdict: Verdict,
+    pub verdicts: VerdictsBy,
     pub size: u8,
 }
 
@@ -90,6 +122,91 @@ pub struct Estimate {
 pub enum NextEstimate {
     States(Estimate),
     Empty,
+}
+
+fn smaller(a: u8, b: u8) -> u8
+    ensures { λ r. ⌜ r ≡ min a b ⌝ }
+{
+    if a < b {
+        return a;
+    }
+    b
+}
+
+// No further secret. (That is not one further secret without states.)
+pub fn no_further() -> Further
+    ensures { λ r. ⌜ r ≡ noFurther ⌝ }
+{
+    Further {
+        states: [0u64; 3],
+        k: [0u8; 3],
+        count: 0,
+    }
+}
+
+// The further secret at a place, of those that are given; else no state, K 0.
+fn further_at(further: Further, place: u8) -> Secret
+    ensures { λ r. ⌜ r ≡ secretAt (furtherOf further) place ⌝ }
+{
+    if place < further.count {
+        if place < 3 {
+            let states = further.states;
+            let k = further.k;
+            let at = place as usize;
+            return Secret {
+                states: states[at],
+                k: k[at],
+            };
+        }
+    }
+    Secret { states: 0, k: 0 }
+}
+
+// The secret with a number, of those that are given: the automaton's own, and the further ones; else no state, K 0.
+pub fn secret_at(header: Header, further: Further, i: u8) -> Secret
+    ensures { λ r. ⌜ r ≡ secretAt (secretsOf header further) i ⌝ }
+{
+    if i == 0 {
+        return Secret {
+            states: header.secret,
+            k: header.k,
+        };
+    }
+    further_at(further, i - 1)
+}
+
+// As a state keeps them: a place past the count is emptied, so that what a caller left there counts for nothing.
+fn clear(further: Further) -> Further
+    ensures { λ r. ⌜ r ≡ clearedOf further ⌝ }
+{
+    let first = further_at(further, 0);
+    let second = further_at(further, 1);
+    let third = further_at(further, 2);
+    Further {
+        states: [first.states, second.states, third.states],
+        k: [first.k, second.k, third.k],
+        count: further.count,
+    }
+}
+
+// The largest K of the secrets that are given, the automaton's own among them.
+pub fn look_back(header: Header, further: Further) -> u8
+    ensures { λ r. ⌜ r ≡ lookBackOf header further ⌝ }
+{
+    let n = further.count;
+    if n == 0 {
+        return header.k;
+    }
+    let k = further.k;
+    let one = automaton::larger(header.k, k[0]);
+    if n == 1 {
+        return one;
+    }
+    let two = automaton::larger(one, k[1]);
+    if n == 2 {
+        return two;
+    }
+    automaton::larger(two, k[2])
 }
 
 // The first `n` of the new symbol and the old ones.
@@ -222,15 +339,15 @@ fn weak_verdict(
     back: &[u64],
     states: u64,
     estimate: u64,
+    secret: u64,
     last: u8,
 ) -> Verdict
     requires { ⌜ Prepared (now table) header (now sets) estimator (now silent) (now back) states last × (last ≤ estimator .count)
         × UnobservableReach (automatonOf (now table) header) (getD (estimator .entries) 0 0) estimate ⌝ }
-    ensures { λ r. ⌜ Found notion.Weak (automatonOf (now (table .entry)) header) (header .secret) last estimator r ⌝ }
+    ensures { λ r. ⌜ Found notion.Weak (automatonOf (now (table .entry)) header) secret last estimator r ⌝ }
 {
     let symbols = estimator.symbols;
     let entries = estimator.entries;
-    let secret = header.secret;
     let mut then = states;
     let mut possible = estimate;
     let mut l: u8 = 0; // from 0 upward
@@ -239,7 +356,7 @@ fn weak_verdict(
         // whether all of m(l) is secret: the first state that is not decides
         'states: while todo != 0 {
             let q = u64::trailing_zeros(todo);
-            if secret >> q & 1 == 0 {
+            if secret >> q & 1 == 0 { // not secret
                 break 'states;
             }
             todo &= todo - 1;
@@ -247,7 +364,7 @@ fn weak_verdict(
         if todo == 0 {
             return Verdict::Leak(l);
         }
-        if l == last { // K, or n where that is less
+        if l == last { // the secret's K, or n where that is less
             return Verdict::NoLeak;
         }
         let shown = automaton::events_with(sets, symbols[l as usize]);
@@ -267,15 +384,15 @@ fn strong_verdict(
     silent: &[u64],
     back: &[u64],
     states: u64,
+    secret: u64,
     last: u8,
 ) -> Verdict
     requires { ⌜ Prepared (now table) header (now sets) estimator (now silent) (now back) states last × (last ≤ estimator .count) ⌝ }
-    ensures { λ r. ⌜ Found notion.Strong (automatonOf (now (table .entry)) header) (header .secret) last estimator r ⌝ }
+    ensures { λ r. ⌜ Found notion.Strong (automatonOf (now (table .entry)) header) secret last estimator r ⌝ }
 {
     let symbols = estimator.symbols;
     let entries = estimator.entries;
-    let secret = header.secret;
-    let clear = states & !header.secret;
+    let clear = states & !secret;
     let mut then = clear;
     let mut l: u8 = 0;
     'steps: loop {
@@ -292,23 +409,108 @@ fn strong_verdict(
     }
 }
 
-// The verdicts by the notions that are asked for, and none for the others.
-fn judge(
+// Source 000's m(l), all of it, for each step that is remembered: the states in which runs can be l steps back and from which the last l symbols can
+// follow. It depends on no secret.
+fn delayed_estimates(
     estimator: Estimator,
     table: &[u64],
     header: Header,
     sets: &[u32],
     silent: &[u64],
     back: &[u64],
-    states: u64,
-    estimate: u64,
+    estimate: Estimate,
+    past: &mut [u64],
+)
+    requires { ⌜ Prepared (now table) header (now sets) estimator (now silent) (now back) (estimate .near) (estimator .count)
+        × UnobservableReach (automatonOf (now table) header) (getD (estimator .entries) 0 0) (estimate .states) × (length (now past) ≡ 16) ⌝ }
+    ensures { λ _. ⌜ Delayed (automatonOf (now (table .entry)) header) (estimator .symbols) (estimator .entries) (estimator .count) (now (past .exit)) ⌝ }
+{
+    let symbols = estimator.symbols;
+    let entries = estimator.entries;
+    let last = estimator.count;
+    let near = estimate.near;
+    past[0] = estimate.states;
+    let mut then = near;
+    let mut l: u8 = 0;
+    while l < last {
+        let shown = automaton::events_with(sets, symbols[l as usize]);
+        then = automaton::backward_reach(table, back, near, shown, then);
+        l += 1;
+        let at = l as usize;
+        past[at] = automaton::unobservable_reach(silent, near, entries[at]) & then;
+    }
+}
+
+// These sets where they are used: by the weak verdicts.
+fn shared_estimates(
+    estimator: Estimator,
+    table: &[u64],
+    header: Header,
+    sets: &[u32],
+    silent: &[u64],
+    back: &[u64],
+    estimate: Estimate,
+    past: &mut [u64],
+    asked: Asked,
+)
+    requires { ⌜ Prepared (now table) header (now sets) estimator (now silent) (now back) (estimate .near) (estimator .count)
+        × UnobservableReach (automatonOf (now table) header) (getD (estimator .entries) 0 0) (estimate .states) × (length (now past) ≡ 16) ⌝ }
+    ensures { λ _. ⌜ (length (now (past .exit)) ≡ 16) × (Asks notion.Weak asked
+        → Delayed (automatonOf (now (table .entry)) header) (estimator .symbols) (estimator .entries) (estimator .count) (now (past .exit))) ⌝ }
+{
+    if !asked.weak {
+        return;
+    }
+    delayed_estimates(estimator, table, header, sets, silent, back, estimate, past);
+}
+
+// The weak verdict of one secret from these sets: as `weak_verdict` takes its steps, l from 0 upward, and leak l at the first l for which all of m(l) is
+// secret.
+fn first_secret(past: &[u64], secret: u64, last: u8) -> Verdict
+    requires { ⌜ (length (now past) ≡ 16) × (last ≤ 15) ⌝ }
+    ensures { λ r. ⌜ ((p : Automaton) (s : Estimator) (n : ℕ) → Delayed p (s .symbols) (s .entries) n (now (past .entry)) → last ≤ n
+        → Found notion.Weak p secret last s r) ⌝ }
+{
+    let mut l: u8 = 0;
+    'steps: loop {
+        let mut todo = past[l as usize];
+        // whether all of m(l) is secret: the first state that is not decides
+        'states: while todo != 0 {
+            let q = u64::trailing_zeros(todo);
+            if secret >> q & 1 == 0 {
+                break 'states;
+            }
+            todo &= todo - 1;
+        }
+        if todo == 0 {
+            return Verdict::Leak(l);
+        }
+        if l == last {
+            return Verdict::NoLeak;
+        }
+        l += 1;
+    }
+}
+
+// The verdicts of the automaton's own secret, where no further one shares what is worked out: by the notions that are asked for, and none for the
+// others. Each look back stops where it can.
+fn judge_alone(
+    estimator: Estimator,
+    table: &[u64],
+    header: Header,
+    sets: &[u32],
+    silent: &[u64],
+    back: &[u64],
+    estimate: Estimate,
     asked: Asked,
 ) -> Verdicts
-    requires { ⌜ Prepared (now table) header (now sets) estimator (now silent) (now back) states (estimator .count)
-        × UnobservableReach (automatonOf (now table) header) (getD (estimator .entries) 0 0) estimate ⌝ }
-    ensures { λ r. ⌜ Judged (now (table .entry)) header estimator asked r ⌝ }
+    requires { ⌜ Prepared (now table) header (now sets) estimator (now silent) (now back) (estimate .near) (estimator .count)
+        × UnobservableReach (automatonOf (now table) header) (getD (estimator .entries) 0 0) (estimate .states) × (estimator .further .count ≡ 0) ⌝ }
+    ensures { λ r. ⌜ Judged (now (table .entry)) header estimator (own header) asked r ⌝ }
 {
-    let last = estimator.count;
+    let last = estimator.count; // it remembers no more than the own K
+    let near = estimate.near;
+    let secret = header.secret;
     let mut weak = Verdict::NoLeak;
     if asked.weak {
         weak = weak_verdict(
@@ -318,14 +520,68 @@ fn judge(
             sets,
             silent,
             back,
-            states,
-            estimate,
+            near,
+            estimate.states,
+            secret,
             last,
         );
     }
     let mut strong = Verdict::NoLeak;
     if asked.strong {
-        strong = strong_verdict(estimator, table, header, sets, silent, back, states, last);
+        strong = strong_verdict(
+            estimator,
+            table,
+            header,
+            sets,
+            silent,
+            back,
+            near,
+            secret,
+            last,
+        );
+    }
+    Verdicts {
+        weak: weak,
+        strong: strong,
+    }
+}
+
+// The verdicts of one secret, each up to its own K, from the sets that all secrets share.
+fn judge(
+    estimator: Estimator,
+    table: &[u64],
+    header: Header,
+    sets: &[u32],
+    silent: &[u64],
+    back: &[u64],
+    near: u64,
+    past: &[u64],
+    secret: Secret,
+    asked: Asked,
+) -> Verdicts
+    requires { ⌜ Prepared (now table) header (now sets) estimator (now silent) (now back) near (estimator .count) × (length (now past) ≡ 16)
+        × (Asks notion.Weak asked → Delayed (automatonOf (now table) header) (estimator .symbols) (estimator .entries) (estimator .count) (now past)) ⌝ }
+    ensures { λ r. ⌜ Judged (now (table .entry)) header estimator secret asked r ⌝ }
+{
+    let last = smaller(secret.k, estimator.count);
+    let states = secret.states;
+    let mut weak = Verdict::NoLeak;
+    if asked.weak {
+        weak = first_secret(past, states, last);
+    }
+    let mut strong = Verdict::NoLeak;
+    if asked.strong {
+        strong = strong_verdict(
+            estimator,
+            table,
+            header,
+            sets,
+            silent,
+            back,
+            near,
+            states,
+            last,
+        );
     }
     Verdicts {
         weak: weak,
@@ -342,38 +598,6 @@ fn backward_rows(silent: &[u64], states: u64, last: u8, back: &mut [u64])
         return;
     }
     automaton::silent_back(silent, states, back);
-}
-
-// What an accepted answer holds, from the estimate that was worked out last: the verdicts of a look back, and the number of its states.
-fn assess(
-    estimator: Estimator,
-    table: &[u64],
-    header: Header,
-    sets: &[u32],
-    silent: &[u64],
-    back: &mut [u64],
-    estimate: Estimate,
-    asked: Asked,
-) -> Judgement
-    requires { ⌜ Explored (now table) header (now sets) estimator (now silent) estimate × (now back ≡ replicate 64 0) ⌝ }
-    ensures { λ r. ⌜ Judged (now (table .entry)) header estimator asked (r .verdicts) × (r .size ≡ estimate .size) ⌝ }
-{
-    backward_rows(silent, estimate.near, estimator.count, back);
-    let verdicts = judge(
-        estimator,
-        table,
-        header,
-        sets,
-        silent,
-        back,
-        estimate.near,
-        estimate.states,
-        asked,
-    );
-    Judgement {
-        verdicts: verdicts,
-        size: estimate.size,
-    }
 }
 
 // Asks for one notion.
@@ -402,16 +626,28 @@ pub fn choose(notion: Notion, verdicts: Verdicts) -> Verdict
     }
 }
 
-// The answer with the verdict by the notion alone.
+// The verdict of each secret by the notion.
+pub fn choose_each(notion: Notion, verdicts: SecretVerdicts) -> VerdictsBy
+    ensures { λ r. ⌜ r ≡ chosenEach notion verdicts ⌝ }
+{
+    VerdictsBy {
+        own: choose(notion, verdicts.own),
+        first: choose(notion, verdicts.first),
+        second: choose(notion, verdicts.second),
+        third: choose(notion, verdicts.third),
+    }
+}
+
+// The answer with the verdicts by the notion alone.
 fn choose_answer(notion: Notion, answer: Answer) -> AnswerBy
     ensures { λ r. ⌜ r ≡ chosenAnswer notion answer ⌝ }
 {
     match answer {
         Answer::Refused(refusal) => AnswerBy::Refused(refusal),
         Answer::Accepted(judgement) => {
-            let verdict = choose(notion, judgement.verdicts);
+            let verdicts = choose_each(notion, judgement.verdicts);
             AnswerBy::Accepted(JudgementBy {
-                verdict: verdict,
+                verdicts: verdicts,
                 size: judgement.size,
             })
         }
@@ -420,9 +656,9 @@ fn choose_answer(notion: Notion, answer: Answer) -> AnswerBy
 
 impl Estimator {
     // With no symbol: the initial state alone.
-    fn initial(state: u8) -> Estimator
+    fn initial(state: u8, further: Further) -> Estimator
         requires { ⌜ state ≤ 63 ⌝ }
-        ensures { λ r. ⌜ ((p : Automaton) (K : ℕ) → p .initial ≡ state → Grown p K [] r) ⌝ }
+        ensures { λ r. ⌜ (r .further ≡ further) × ((p : Automaton) (K : ℕ) → p .initial ≡ state → Allowed further → Grown p K [] r) ⌝ }
     {
         let mut entries = [0u64; 16];
         entries[0] = stateset::with(0, state as usize);
@@ -430,30 +666,41 @@ impl Estimator {
             count: 0,
             symbols: [0u8; 15],
             entries: entries,
+            further: further,
         }
     }
 
     // None: outside its limits on every automaton.
     fn none() -> Estimator
-        ensures { λ r. ⌜ ((K : ℕ) → K ≤ 15 → Limits K r → ⊥) ⌝ }
+        ensures { λ r. ⌜ Unusable r ⌝ }
     {
+        let further = no_further();
         Estimator {
             count: 255,
             symbols: [0u8; 15],
             entries: [0u64; 16],
+            further: further,
         }
     }
 
     // The table and the header are an automaton, and the estimator is within its limits.
     pub fn sound(self, table: &[u64], header: Header) -> bool
-        ensures { λ r. ⌜ Decided r (Sound (now (table .entry)) header × Limits (header .k) self) ⌝ }
+        ensures { λ r. ⌜ Decided r (Sound (now (table .entry)) header × InLimits header self) ⌝ }
     {
         if !automaton::sound(table, header) {
             return false;
         }
+        if 3 < self.further.count {
+            return false;
+        }
+        let further = self.further;
+        let k = look_back(header, further);
+        if 15 < k {
+            return false;
+        }
         let symbols = self.symbols;
         let count = self.count;
-        if header.k < count {
+        if k < count {
             return false;
         }
         automaton::in_range(&symbols, count)
@@ -462,54 +709,203 @@ impl Estimator {
     // With one symbol more, and the states right after it.
     fn push(self, k: u8, symbol: u8, entry: u64) -> Estimator
         requires { ⌜ (k ≤ 15) × (symbol ≤ 31) × Limits k self ⌝ }
-        ensures { λ r. ⌜ Limits k r × (getD (r .entries) 0 0 ≡ entry) × ((states : ℕ) → Sub entry states → Inside (self .entries) states → Inside (r .entries) states)
+        ensures { λ r. ⌜ (r .further ≡ self .further) × Limits k r × (getD (r .entries) 0 0 ≡ entry)
+            × ((states : ℕ) → Sub entry states → Inside (self .entries) states → Inside (r .entries) states)
             × ((p : Automaton) (trace : List ℕ) → Grown p k trace self → Is entry (Enters p (trace ++ symbol ∷ []))
             → Possible p (trace ++ symbol ∷ []) → Grown p k (trace ++ symbol ∷ []) r) ⌝ }
     {
         let count = count_after(self.count, k);
         let old_symbols = self.symbols;
         let old_entries = self.entries;
+        let further = self.further;
         let symbols = push_symbol(old_symbols, count, symbol);
         let entries = push_entry(old_entries, count + 1, entry);
         Estimator {
             count: count,
             symbols: symbols,
             entries: entries,
+            further: further,
         }
     }
 
-    // A fresh estimator, with the verdicts of the empty trace and how many states are possible then.
-    pub fn fresh(table: &[u64], header: Header) -> Reply
-        ensures { λ r. ⌜ Opening (now (table .entry)) header (said (r .answer)) (r .estimator) ⌝ }
+    // The verdicts of the secret with a number: none where it is not given.
+    fn judge_at(
+        self,
+        table: &[u64],
+        header: Header,
+        sets: &[u32],
+        silent: &[u64],
+        back: &[u64],
+        near: u64,
+        past: &[u64],
+        i: u8,
+        asked: Asked,
+    ) -> Verdicts
+        requires { ⌜ Prepared (now table) header (now sets) self (now silent) (now back) near (self .count) × (length (now past) ≡ 16)
+            × (Asks notion.Weak asked → Delayed (automatonOf (now table) header) (self .symbols) (self .entries) (self .count) (now past)) ⌝ }
+        ensures { λ r. ⌜ JudgedAt (now (table .entry)) header self asked i r ⌝ }
     {
-        if !automaton::sound(table, header) {
-            let estimator = Estimator::none();
-            return Reply {
-                estimator: estimator,
-                answer: Answer::Refused(Refusal::Malformed),
+        if self.further.count < i {
+            return Verdicts {
+                weak: Verdict::NoLeak,
+                strong: Verdict::NoLeak,
             };
         }
-        let estimator = Estimator::initial(header.initial);
-        let entry = estimator.entries[0];
+        let further = self.further;
+        let secret = secret_at(header, further, i);
+        judge(
+            self,
+            table,
+            header,
+            sets,
+            silent,
+            back,
+            near,
+            past,
+            secret,
+            asked,
+        )
+    }
+
+    // The verdicts of all secrets, with what they share.
+    fn judge_each(
+        self,
+        table: &[u64],
+        header: Header,
+        sets: &[u32],
+        silent: &[u64],
+        back: &[u64],
+        estimate: Estimate,
+        asked: Asked,
+    ) -> SecretVerdicts
+        requires { ⌜ Prepared (now table) header (now sets) self (now silent) (now back) (estimate .near) (self .count)
+            × UnobservableReach (automatonOf (now table) header) (getD (self .entries) 0 0) (estimate .states) ⌝ }
+        ensures { λ r. ⌜ JudgedAll (now (table .entry)) header self asked r ⌝ }
+    {
+        let mut past = [0u64; 16];
+        shared_estimates(
+            self,
+            table,
+            header,
+            sets,
+            silent,
+            back,
+            estimate,
+            &mut past,
+            asked,
+        );
+        let near = estimate.near;
+        let own = self.judge_at(table, header, sets, silent, back, near, &past, 0, asked);
+        let first = self.judge_at(table, header, sets, silent, back, near, &past, 1, asked);
+        let second = self.judge_at(table, header, sets, silent, back, near, &past, 2, asked);
+        let third = self.judge_at(table, header, sets, silent, back, near, &past, 3, asked);
+        SecretVerdicts {
+            own: own,
+            first: first,
+            second: second,
+            third: third,
+        }
+    }
+
+    // The verdicts of all secrets: where there is none further, nothing is shared, and the own one costs what it costs alone.
+    fn judge_all(
+        self,
+        table: &[u64],
+        header: Header,
+        sets: &[u32],
+        silent: &[u64],
+        back: &[u64],
+        estimate: Estimate,
+        asked: Asked,
+    ) -> SecretVerdicts
+        requires { ⌜ Prepared (now table) header (now sets) self (now silent) (now back) (estimate .near) (self .count)
+            × UnobservableReach (automatonOf (now table) header) (getD (self .entries) 0 0) (estimate .states) ⌝ }
+        ensures { λ r. ⌜ JudgedAll (now (table .entry)) header self asked r ⌝ }
+    {
+        if self.further.count != 0 {
+            return self.judge_each(table, header, sets, silent, back, estimate, asked);
+        }
+        let own = judge_alone(self, table, header, sets, silent, back, estimate, asked);
+        let none = Verdicts {
+            weak: Verdict::NoLeak,
+            strong: Verdict::NoLeak,
+        };
+        SecretVerdicts {
+            own: own,
+            first: none,
+            second: none,
+            third: none,
+        }
+    }
+
+    // What an accepted answer holds, from the estimate that was worked out last: the verdicts of a look back, and the number of its states.
+    fn assess(
+        self,
+        table: &[u64],
+        header: Header,
+        sets: &[u32],
+        silent: &[u64],
+        back: &mut [u64],
+        estimate: Estimate,
+        asked: Asked,
+    ) -> Judgement
+        requires { ⌜ Explored (now table) header (now sets) self (now silent) estimate × (now back ≡ replicate 64 0) ⌝ }
+        ensures { λ r. ⌜ JudgedAll (now (table .entry)) header self asked (r .verdicts) × (r .size ≡ estimate .size) ⌝ }
+    {
+        backward_rows(silent, estimate.near, self.count, back);
+        let verdicts = self.judge_all(table, header, sets, silent, back, estimate, asked);
+        Judgement {
+            verdicts: verdicts,
+            size: estimate.size,
+        }
+    }
+
+    // Outside its limits, with the reason.
+    fn turned_down(refusal: Refusal) -> Reply
+        ensures { λ r. ⌜ Unusable (r .estimator) × (r .answer ≡ answer.Refused refusal) ⌝ }
+    {
+        let estimator = Estimator::none();
+        Reply {
+            estimator: estimator,
+            answer: Answer::Refused(refusal),
+        }
+    }
+
+    // With no symbol yet: the verdicts of the empty trace, and how many states are possible then.
+    fn opening(self, table: &[u64], header: Header, asked: Asked) -> Judgement
+        requires { ⌜ Sound (now table) header × GrownOn (now table) header [] self ⌝ }
+        ensures { λ r. ⌜ Opened (now (table .entry)) header self asked r ⌝ }
+    {
+        let entry = self.entries[0];
         let mut silent = [0u64; 64];
         let estimate = estimate_from(table, header, &mut silent, 0, 0, entry);
         let mut sets = [0u32; 32];
         automaton::by_symbol(header, &mut sets);
+        let mut back = [0u64; 64];
+        self.assess(table, header, &sets, &silent, &mut back, estimate, asked)
+    }
+
+    // A fresh estimator with these further secrets, with the verdicts of the empty trace and how many states are possible then.
+    pub fn fresh(table: &[u64], header: Header, further: Further) -> Reply
+        ensures { λ r. ⌜ Opening (now (table .entry)) header further (said further (r .answer)) (r .estimator) × Others further (r .answer) ⌝ }
+    {
+        if !automaton::sound(table, header) {
+            return Estimator::turned_down(Refusal::Malformed);
+        }
+        if 3 < further.count {
+            return Estimator::turned_down(Refusal::TooManySecrets);
+        }
+        let k = look_back(header, further);
+        if 15 < k {
+            return Estimator::turned_down(Refusal::LookBackTooLarge);
+        }
+        let given = clear(further);
+        let estimator = Estimator::initial(header.initial, given);
         let asked = Asked {
             weak: true,
             strong: true,
         };
-        let mut back = [0u64; 64];
-        let judgement = assess(
-            estimator,
-            table,
-            header,
-            &sets,
-            &silent,
-            &mut back,
-            estimate,
-            asked,
-        );
+        let judgement = estimator.opening(table, header, asked);
         Reply {
             estimator: estimator,
             answer: Answer::Accepted(judgement),
@@ -548,27 +944,20 @@ impl Estimator {
         let NextEstimate::States(estimate) = next else {
             return self.refused(Refusal::Incompatible);
         };
-        let after = self.push(header.k, symbol, estimate.entry);
+        let further = self.further;
+        let k = look_back(header, further);
+        let after = self.push(k, symbol, estimate.entry);
         let mut back = [0u64; 64];
-        let judgement = assess(
-            after,
-            table,
-            header,
-            &sets,
-            &silent,
-            &mut back,
-            estimate,
-            asked,
-        );
+        let judgement = after.assess(table, header, &sets, &silent, &mut back, estimate, asked);
         Reply {
             estimator: after,
             answer: Answer::Accepted(judgement),
         }
     }
 
-    // Accepts one symbol, with both verdicts.
+    // Accepts one symbol, with both verdicts of each secret.
     pub fn accept(self, table: &[u64], header: Header, symbol: u8) -> Reply
-        ensures { λ r. ⌜ Accepting (now (table .entry)) header self symbol (said (r .answer)) (r .estimator) ⌝ }
+        ensures { λ r. ⌜ Accepting (now (table .entry)) header self symbol (said (self .further) (r .answer)) (r .estimator) × Others (self .further) (r .answer) ⌝ }
     {
         let asked = Asked {
             weak: true,
@@ -577,9 +966,9 @@ impl Estimator {
         self.accept_asked(table, header, symbol, asked)
     }
 
-    // Accepts one symbol, with the verdict by one notion: an enforcer pays for one look back.
+    // Accepts one symbol, with the verdict of each secret by one notion: an enforcer pays for the look backs of that notion alone.
     pub fn accept_by(self, table: &[u64], header: Header, symbol: u8, notion: Notion) -> ReplyBy
-        ensures { λ r. ⌜ AcceptingBy notion (now (table .entry)) header self symbol (saidBy (r .answer)) (r .estimator) ⌝ }
+        ensures { λ r. ⌜ AcceptingBy notion (now (table .entry)) header self symbol (saidBy (self .further) (r .answer)) (r .estimator) × OthersBy (self .further) (r .answer) ⌝ }
     {
         let reply = self.accept_asked(table, header, symbol, ask(notion));
         let estimator = reply.estimator;

@@ -16,11 +16,17 @@ returns-2 c = Start.size (λ s. omega (arith, c .if2 .taken, s .notion-known))
 returns-3 : tie.Need-returns-3
 returns-3 c = Start.size (λ s. c .if3 .taken (s .enforcer-size))
 
+returns-4 : tie.Need-returns-4
+returns-4 c = Start.size (λ s. c .if4 .taken (s .further-size))
+
 read-header-requires : tie.Need-read-header-requires
 read-header-requires c κs = search needs
 
 notion-of-requires : tie.Need-notion-of-requires
 notion-of-requires c κs = search needs
+
+read-further-requires : tie.Need-read-further-requires
+read-further-requires c κs = search needs
 
 start-requires : tie.Need-start-requires
 start-requires c κs = search needs
@@ -37,23 +43,35 @@ enum-told c = search needs
 write-enforcer-requires : tie.Need-write-enforcer-requires
 write-enforcer-requires c κs = search needs
 
-returns-4 : tie.Need-returns-4
-returns-4 c =
-    let a = c .before .before .before .before .before .before .before .before .before .before .before .before .before .args in
-    let called = c .before .before .before .before .start in
-    start-refused (now (a .table)) (now (a .header)) (a .notion) (now (a .enforcer)) (c .before .before .before .before .before .before .read-header .result) (c .before .before .before .before .before .notion-of .result) (called .result .enforcer) (called .result .answer)
-    (record { header-size = c .before .before .before .before .before .before .before .before .before .if1 .left; notion-known = omega (arith, c .before .before .before .before .before .before .before .before .if2 .left); enforcer-size = c .before .before .before .before .before .before .before .if3 .left }) (c .before .before .before .before .before .before .read-header .ensures) (c .before .before .before .before .before .notion-of .ensures) (called .ensures)
+returns-5 : tie.Need-returns-5
+returns-5 c =
+    let called = c .before .before .before .before in
+    let given = called .before in
+    let under = given .before in
+    let head = under .before in
+    let tested = head .before in
+    let a = c .before .before .before .before .before .before .before .before .before .before .before .before .before .before .before .before .args in
+    start-refused (now (a .table)) (now (a .header)) (a .notion) (now (a .further)) (now (a .enforcer)) (head .read-header .result) (under .notion-of .result) (given .read-further .result)
+    (called .start .result .enforcer) (called .start .result .answer)
+    (record { header-size = tested .before .before .before .if1 .left; notion-known = omega (arith, tested .before .before .if2 .left); further-size = tested .if4 .left; enforcer-size = tested .before .if3 .left })
+    (head .read-header .ensures) (under .notion-of .ensures) (given .read-further .ensures) (called .start .ensures)
     (c .before .before .answer .given .0 .0) _ (c .before .before .answer .given .1) (c .number .ensures)
 
 same-length : tie.Need-same-length
 same-length c = search needs
 
-returns-5 : tie.Need-returns-5
-returns-5 c =
-    let a = c .before .before .before .before .before .before .before .before .before .before .before .before .before .before .before .before .args in
-    let called = c .before .before .before .before .before .before .before .start in
-    start-started (now (a .table)) (now (a .header)) (a .notion) (now (a .enforcer)) (c .before .before .before .before .before .before .before .before .before .read-header .result) (c .before .before .before .before .before .before .before .before .notion-of .result) (called .result .enforcer) (called .result .answer)
-    (record { header-size = c .before .before .before .before .before .before .before .before .before .before .before .before .if1 .left; notion-known = omega (arith, c .before .before .before .before .before .before .before .before .before .before .before .if2 .left); enforcer-size = c .before .before .before .before .before .before .before .before .before .before .if3 .left }) (c .before .before .before .before .before .before .before .before .before .read-header .ensures) (c .before .before .before .before .before .before .before .before .notion-of .ensures) (called .ensures)
+returns-6 : tie.Need-returns-6
+returns-6 c =
+    let called = c .before .before .before .before .before .before .before in
+    let given = called .before in
+    let under = given .before in
+    let head = under .before in
+    let tested = head .before in
+    let a = c .before .before .before .before .before .before .before .before .before .before .before .before .before .before .before .before .before .before .before .args in
+    start-started (now (a .table)) (now (a .header)) (a .notion) (now (a .further)) (now (a .enforcer)) (head .read-header .result) (under .notion-of .result) (given .read-further .result)
+    (called .start .result .enforcer) (called .start .result .answer)
+    (record { header-size = tested .before .before .before .if1 .left; notion-known = omega (arith, tested .before .before .if2 .left); further-size = tested .if4 .left; enforcer-size = tested .before .if3 .left })
+    (head .read-header .ensures) (under .notion-of .ensures) (given .read-further .ensures) (called .start .ensures)
     _ (c .before .before .before .before .before .enum-told .given .1) (c .before .before .write-enforcer .ensures)
 
 pub opacity-start-spec : {M : Type 1} → statement M
@@ -63,13 +81,15 @@ opacity-start-spec =
     returns
     returns-2
     returns-3
+    returns-4
     read-header-requires
     notion-of-requires
+    read-further-requires
     start-requires
     enum-known-answer
     number-requires
     enum-told
     write-enforcer-requires
-    returns-4
+    returns-5
     same-length
-    returns-5)
+    returns-6)

@@ -29,7 +29,7 @@ returns c =
     λ i. record {
       estimator = c .before .before .before .before .before .read-estimator .ensures i;
       notion = c .before .before .before .notion-of .ensures i;
-      count = getD bytes 145 0;
+      count = getD bytes 173 0;
       pending = c .before .before .bytes16 .ensures i;
       waits = c .before .bytes162 .ensures i;
     }

@@ -30,6 +30,9 @@ size-of-requires-4 c κs = tt
 size-of-requires-5 : tie.Need-size-of-requires-5
 size-of-requires-5 c κs = tt
 
+size-of-requires-6 : tie.Need-size-of-requires-6
+size-of-requires-6 c κs = tt
+
 sub-apply : tie.Need-sub-apply
 sub-apply c = least
 
@@ -37,7 +40,7 @@ part-apply-start : tie.Need-part-apply-start
 part-apply-start c = least
 
 part-apply-end : tie.Need-part-apply-end
-part-apply-end c = fits (c .before .before .before .before .size-of .ensures) (c .before .before .before .before .before .before .before .before .before .before .before .pre .0)
+part-apply-end c = fits (c .before .before .before .before .before .size-of .ensures) (c .before .before .before .before .before .before .before .before .before .before .before .before .before .pre .0)
 
 sub-apply-2 : tie.Need-sub-apply-2
 sub-apply-2 c = least
@@ -46,7 +49,7 @@ part-apply-start-2 : tie.Need-part-apply-start-2
 part-apply-start-2 c = least
 
 part-apply-end-2 : tie.Need-part-apply-end-2
-part-apply-end-2 c = fits (c .before .before .before .before .size-of2 .ensures) (c .before .before .before .before .before .before .before .before .before .before .before .before .pre .1)
+part-apply-end-2 c = fits (c .before .before .before .before .before .size-of2 .ensures) (c .before .before .before .before .before .before .before .before .before .before .before .before .before .before .pre .1)
 
 sub-apply-3 : tie.Need-sub-apply-3
 sub-apply-3 c = least
@@ -55,7 +58,7 @@ part-apply-start-3 : tie.Need-part-apply-start-3
 part-apply-start-3 c = least
 
 part-apply-end-3 : tie.Need-part-apply-end-3
-part-apply-end-3 c = fits (c .before .before .before .before .size-of3 .ensures) (c .before .before .before .before .before .before .before .before .before .before .before .before .before .pre .2)
+part-apply-end-3 c = fits (c .before .before .before .before .before .size-of3 .ensures) (c .before .before .before .before .before .before .before .before .before .before .before .before .before .before .before .pre .2)
 
 sub-apply-4 : tie.Need-sub-apply-4
 sub-apply-4 c = least
@@ -64,7 +67,7 @@ part-apply-start-4 : tie.Need-part-apply-start-4
 part-apply-start-4 c = least
 
 part-apply-end-4 : tie.Need-part-apply-end-4
-part-apply-end-4 c = fits (c .before .before .before .before .size-of4 .ensures) (c .before .before .before .before .before .before .before .before .before .before .before .before .before .before .pre .3)
+part-apply-end-4 c = fits (c .before .before .before .before .before .size-of4 .ensures) (c .before .before .before .before .before .before .before .before .before .before .before .before .before .before .before .before .pre .3)
 
 sub-apply-5 : tie.Need-sub-apply-5
 sub-apply-5 c = least
@@ -73,7 +76,16 @@ part-apply-start-5 : tie.Need-part-apply-start-5
 part-apply-start-5 c = least
 
 part-apply-end-5 : tie.Need-part-apply-end-5
-part-apply-end-5 c = fits (c .before .before .before .before .size-of5 .ensures) (c .before .before .before .before .before .before .before .before .before .before .before .before .before .before .before .pre .4)
+part-apply-end-5 c = fits (c .before .before .before .before .before .size-of5 .ensures) (c .before .before .before .before .before .before .before .before .before .before .before .before .before .before .before .before .before .pre .4)
+
+sub-apply-6 : tie.Need-sub-apply-6
+sub-apply-6 c = least
+
+part-apply-start-6 : tie.Need-part-apply-start-6
+part-apply-start-6 c = least
+
+part-apply-end-6 : tie.Need-part-apply-end-6
+part-apply-end-6 c = fits (c .before .before .before .before .before .size-of6 .ensures) (c .before .before .before .before .before .before .before .before .before .before .before .before .before .before .before .before .before .before .pre .5)
 
 apply-requires : tie.Need-apply-requires
 apply-requires c κs = tt
@@ -103,6 +115,7 @@ lend-spec =
     size-of-requires-3
     size-of-requires-4
     size-of-requires-5
+    size-of-requires-6
     sub-apply
     part-apply-start
     part-apply-end
@@ -118,6 +131,9 @@ lend-spec =
     sub-apply-5
     part-apply-start-5
     part-apply-end-5
+    sub-apply-6
+    part-apply-start-6
+    part-apply-end-6
     apply-requires
     same-length
     same-length-2

@@ -1,7 +1,10 @@
+-- `monitor::start` meets its contract: a start and a fresh verifier with no further secret.
 use mathlib.Core.Path.{subst}
 use Rattle.automaton.specs.Refusals.{numberOf}
 use Rattle.verifier.specs.declared.Notion.the-variants.{Weak}
+use Rattle.verifier.specs.declared.Further.{Further}
 use Rattle.verifier.specs.declared.Answer.{Answer}
+use Rattle.verifier.specs.Secrets.{noFurther}
 use Rattle.verifier.specs.Replies as verifier
 use Rattle.enforcer.specs.declared.StartAnswer.{StartAnswer}
 use Rattle.enforcer.specs.Offerings.{begun, Starting}
@@ -9,6 +12,31 @@ use Rattle.monitor.proofs.Openings.{not-begun, is-begun, verified}
 use borrow.Author.Needs.{needs}
 use Rattle.monitor.proofs.start.Statement.{statement}
 use Rattle.monitor.proofs.start.Tie as tie
+
+no-further-requires : tie.Need-no-further-requires
+no-further-requires c κs = search needs
+
+-- what the enforcer and the verifier promise of none further
+abbrev first : tie.After-start → tie.Start
+first u = u .before .before .before
+
+started : (u : tie.After-start) → Starting (first u .args .t1) (first u .args .header) noFurther Weak (begun (u .start .result .answer)) (u .start .result .enforcer)
+started u =
+    subst (λ (f : Further). Starting (first u .args .t1) (first u .args .header) f Weak (begun (u .start .result .answer)) (u .start .result .enforcer))
+    (u .before .before .no-further .ensures) (u .start .ensures)
+
+abbrev called : tie.After-fresh → tie.After-start
+called u = u .before .before .before .before
+
+fresh : (u : tie.After-fresh) → verifier.Opening (first (called u) .args .t1) (first (called u) .args .header) noFurther (verifier.said noFurther (u .fresh .result .answer))
+    (u .fresh .result .estimator)
+fresh u =
+    let a = first (called u) .args in
+    subst (λ (f : Further). verifier.Opening (a .t1) (a .header) f (verifier.said f (u .fresh .result .answer)) (u .fresh .result .estimator))
+    (called u .before .before .no-further .ensures) (u .fresh .ensures .0)
+
+no-others : (u : tie.After-fresh) → verifier.Others noFurther (u .fresh .result .answer)
+no-others u = subst (λ (f : Further). verifier.Others f (u .fresh .result .answer)) (called u .before .before .no-further .ensures) (u .fresh .ensures .1)
 
 slice-aggregate-start : tie.Need-slice-aggregate-start
 slice-aggregate-start c = search needs
@@ -43,31 +71,35 @@ refused-requires-2 c κs = search needs
 -- a fresh verifier refuses no automaton
 returns : tie.Need-returns
 returns c =
-    let a = c .before .before .before .before .before .before .before .before .before .args in
-    let fresh = c .before .before .before .fresh in
-    absurd (verified (c .before .before .before .before .before .before .before .before .before .pre) (subst (λ (x : Answer). verifier.Opening (a .t1) (a .header) (verifier.said x) (fresh .result .estimator)) (c .before .enum-told2 .given .1) (fresh .ensures)))
+    let u = c .before .before .before in
+    let s = first (called u) in
+    absurd (verified (s .pre) (subst (λ (x : Answer). verifier.Opening (s .args .t1) (s .args .header) noFurther (verifier.said noFurther x) (u .fresh .result .estimator))
+    (c .before .enum-told2 .given .1) (fresh u)))
 
 returns-2 : tie.Need-returns-2
 returns-2 c =
-    let a = c .before .before .before .before .before .before .args in
-    let called = c .before .before .before .before .start in
-    rw (c .refused .ensures .0) (not-begun (a .t1) (a .header) (a .events) (numberOf (c .before .before .answer .given .0 .0)) (called .result .enforcer) _ _ _ (c .before .before .before .before .before .before .pre)
-    (subst (λ (x : StartAnswer). Starting (a .t1) (a .header) Weak (begun x) (called .result .enforcer)) (c .before .before .answer .given .1) (called .ensures)) (c .refused .ensures .1))
+    let u = c .before .before .before .before in
+    let s = first u in
+    let told = c .before .before .answer .given in
+    rw (c .refused .ensures .0) (not-begun (s .args .t1) (s .args .header) (s .args .events) (numberOf (told .0 .0)) (u .start .result .enforcer) _ _ _ (s .pre)
+    (subst (λ (x : StartAnswer). Starting (s .args .t1) (s .args .header) noFurther Weak (begun x) (u .start .result .enforcer)) (told .1) (started u)) (c .refused .ensures .1))
 
 returns-3 : tie.Need-returns-3
 returns-3 c =
-    let a = c .before .before .before .before .before .before .before .before .before .before .before .args in
-    let called = c .before .before .before .before .before .before .before .before .before .start in
-    let fresh = c .before .before .before .before .before .fresh in
+    let v = c .before .before .before .before .before in
+    let u = called v in
+    let s = first u in
     let told = c .before .before .before .verified .given in
-    is-begun (a .t1) (a .header) (a .events) (called .result .enforcer) (told .0 .0) (fresh .result .estimator)
-    (subst (λ (x : StartAnswer). Starting (a .t1) (a .header) Weak (begun x) (called .result .enforcer)) (c .before .before .before .before .before .before .before .enum-told .given .1) (called .ensures))
-    (subst (λ (x : Answer). verifier.Opening (a .t1) (a .header) (verifier.said x) (fresh .result .estimator)) (told .1) (fresh .ensures))
+    is-begun (s .args .t1) (s .args .header) (s .args .events) (u .start .result .enforcer) (told .0 .0) (v .fresh .result .estimator)
+    (subst (λ (x : StartAnswer). Starting (s .args .t1) (s .args .header) noFurther Weak (begun x) (u .start .result .enforcer)) (v .before .before .enum-told .given .1) (started u))
+    (subst (λ (x : Answer). verifier.Opening (s .args .t1) (s .args .header) noFurther (verifier.said noFurther x) (v .fresh .result .estimator)) (told .1) (fresh v))
+    (subst (verifier.Others noFurther) (told .1) (no-others v))
 
 pub start-spec : {M : Type 1} → statement M
 start-spec =
     tie.close
     (tie.spec
+    no-further-requires
     slice-aggregate-start
     start-requires
     enum-known-answer

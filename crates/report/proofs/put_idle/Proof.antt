@@ -27,7 +27,7 @@ same-length c = search needs
 returns : tie.Need-returns
 returns c =
     let a = c .before .before .before .before .before .before .before .before .before .before .before .before .before .before .before .before .before .before .before .before .before .args .opening in
-    same (judgement-lined (decimal 0) (45 ∷ []) (steps (a .verdicts .weak)) (steps (a .verdicts .strong)) (decimal (a .size)) (45 ∷ [])) (omega arith)
+    same (judgement-lined (decimal 0) (45 ∷ []) (steps (a .verdicts .own .weak)) (steps (a .verdicts .own .strong)) (decimal (a .size)) (45 ∷ [])) (omega arith)
     (then (c .before .before .before .before .before .before .before .before .before .before .before .before .before .before .before .before .before .before .number .ensures) (then (c .before .before .before .before .before .before .before .before .before .before .before .before .before .before .dash .ensures) (then (c .before .before .before .before .before .before .before .before .before .before .judgement-fields .ensures) (then (c .before .before .before .before .before .before .dash2 .ensures) (c .before .before .put .ensures)))))
 
 pub put-idle-spec : {M : Type 1} → statement M

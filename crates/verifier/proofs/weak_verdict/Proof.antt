@@ -10,25 +10,23 @@
 -- - The proposition's k goes to K, the loop's l to `last`, which is K or n, whichever is less. For k past n, m(k) is m(n), since that estimator starts with
 --   its first state repeated (`estimator-delayed` too), so that no verdict is lost; from `last` to K: `Judging`: `tells-up`.
 -- Assumes nothing.
-use mathlib.Core.Path.{_≡_}
 use mathlib.Core.List.{List}
 use mathlib.Core.Logic.{⊎-elim}
-use Prim.Native.Nat.{ℕ, _+_, _-_, _/_, _^_, _≤_, _<_}
+use Prim.Native.Nat.{ℕ, _+_, _-_, _^_, _≤_, _<_}
 use native.Mathlib.Omega.{arith}
 use borrow.Author.Needs.{needs}
 use lib.Bits.{bitAnd}
 use lib.Count.{trailingZeros}
 use lib.ListN.{length, getD}
-use Rattle.stateset.specs.Set.{In}
-use Rattle.stateset.proofs.Bits.{Taken, taken, in-test, bit-lt}
+use Rattle.stateset.proofs.Bits.{Taken, taken, in-test}
 use Rattle.automaton.specs.Run.{Automaton}
 use Rattle.automaton.specs.Notion.{ClearAt}
 use Rattle.automaton.specs.Reaching.{DelayedEstimate, Showing}
 use Rattle.verifier.specs.declared.Notion.the-variants.{Weak}
 use Rattle.verifier.specs.Verdicts.{NoLeakBelow}
 use Rattle.verifier.specs.Inner.{Looks, DecidedBy}
-use Rattle.verifier.proofs.Passing.{Passed, pass-start, pass-turn, pass-end}
-use Rattle.verifier.proofs.LookBack.{ForEachWith, below-start, below-step, below-leak, below-last, Follows, follows-start, follows-step, remembers-inside, delayed-is, delayed-by, estimate-by, decided-sure, decided-clear}
+use Rattle.verifier.proofs.Passing.{Passed, pass-start, pass-turn, pass-end, digit-in}
+use Rattle.verifier.proofs.LookBack.{ForTracesWith, below-start, below-step, below-leak, below-last, Follows, follows-start, follows-step, prepared-few, remembers-inside, delayed-is, delayed-by, estimate-by, decided-sure, decided-clear}
 use Rattle.verifier.proofs.weak_verdict.Statement.{statement}
 use Rattle.verifier.proofs.weak_verdict.Tie as tie
 
@@ -36,28 +34,28 @@ use Rattle.verifier.proofs.weak_verdict.Tie as tie
 
 -- 'steps: no step below l is a leak, `then` has the states that the last l events can follow, and `possible` is a part of m(l) that decides
 abbrev Inv-steps : tie.InvT-steps
-Inv-steps table sets silent back states estimate last symbols entries secret then₀ possible₀ l₀ then possible l =
-    ForEachWith table sets silent back states estimate last symbols entries (λ p trace. NoLeakBelow Weak p secret trace l)
-    × ForEachWith table sets silent back states estimate last symbols entries (λ p trace. Follows p states trace l then)
-    × ForEachWith table sets silent back states estimate last symbols entries (λ p trace. DecidedBy secret (DelayedEstimate p trace (length trace - l)) possible)
+Inv-steps table sets silent back states estimate secret last symbols entries then₀ possible₀ l₀ then possible l =
+    ForTracesWith table sets silent back states estimate last symbols entries (λ p trace. NoLeakBelow Weak p secret trace l)
+    × ForTracesWith table sets silent back states estimate last symbols entries (λ p trace. Follows p states trace l then)
+    × ForTracesWith table sets silent back states estimate last symbols entries (λ p trace. DecidedBy secret (DelayedEstimate p trace (length trace - l)) possible)
     × (l ≤ last) × (last ≤ 15) × (possible < 2 ^ 64)
 
 abbrev μ-steps : tie.MeasureT-steps
-μ-steps table sets silent back states estimate last symbols entries secret then₀ possible₀ l₀ then possible l = last - l
+μ-steps table sets silent back states estimate secret last symbols entries then₀ possible₀ l₀ then possible l = last - l
 
 -- 'states: what is left of the part of m(l) that is visited, and all else of it is secret
 abbrev Inv-states : tie.InvT-states
-Inv-states table sets silent back states estimate last symbols entries secret then possible l todo₀ todo = Passed possible secret todo
+Inv-states table sets silent back states estimate secret last symbols entries then possible l todo₀ todo = Passed possible secret todo
 
 abbrev μ-states : tie.MeasureT-states
-μ-states table sets silent back states estimate last symbols entries secret then possible l todo₀ todo = todo
+μ-states table sets silent back states estimate secret last symbols entries then possible l todo₀ todo = todo
 
 -- Start, "k ∈ [0, ..": the loop takes up step 0, and there is no smaller one. m(0) is the estimate
 
 steps-holds : tie.Need-steps-holds Inv-states μ-states Inv-steps μ-steps
 steps-holds c =
     let a = c .before .before .before .before .before .before in
-    let few : a .args .last ≤ 15 = omega (arith, a .pre .1, a .pre .0 .limits .few, a .pre .0 .sound .back) in (
+    let few : a .args .last ≤ 15 = omega (arith, a .pre .1, prepared-few (a .pre .0)) in (
       λ p trace g m r. below-start Weak p _ trace,
       λ p trace g m r. follows-start p _ trace,
       λ p trace g m r. estimate-by p _ trace _ _ _ _ _ _ (g .start) few (g .near) m r,
@@ -79,19 +77,13 @@ Good u p =
 -- what holds for each of these and each trace that is remembered
 abbrev Each : tie.At-steps Inv-states μ-states Inv-steps μ-steps → (Automaton → List ℕ → Type 0) → Type 0
 Each u =
-    ForEachWith (begin u .args .table .now) (begin u .args .sets .now) (begin u .args .silent .now) (begin u .args .back .now) (begin u .args .states) (begin u .args .estimate)
+    ForTracesWith (begin u .args .table .now) (begin u .args .sets .now) (begin u .args .silent .now) (begin u .args .back .now) (begin u .args .states) (begin u .args .estimate)
     (begin u .args .last) (begin u .args .estimator .symbols) (begin u .args .estimator .entries)
 
 -- the state that a turn of the inner loop visits
 pick : (c : tie.In-states Inv-states μ-states Inv-steps μ-steps)
     → Taken (c .before .states .todo) (trailingZeros 64 (c .before .states .todo)) (bitAnd (c .before .states .todo) (c .before .states .todo - 1))
 pick c = taken (c .before .states .todo) (omega arith) (c .before .states .inv .small)
-
--- a digit that is not 0
-one : (q w : ℕ) → (bitAnd (w / 2 ^ q) 1 ≡ 0 → ⊥) → In q w
-one q w n =
-    let m : bitAnd (w / 2 ^ q) 1 ≡ 0 → ⊥ = n in
-    omega (arith, in-test q w, bit-lt q w)
 
 states-holds : tie.Need-states-holds Inv-states μ-states Inv-steps μ-steps
 states-holds c = pass-start _ _ (c .steps .inv .5)
@@ -100,11 +92,11 @@ states-holds c = pass-start _ _ (c .steps .inv .5)
 states-again : tie.Need-states-again Inv-states μ-states Inv-steps μ-steps
 states-again c =
     let q = trailingZeros 64 (c .before .before .states .todo) in
-    pass-turn _ _ _ q _ (pick (c .before)) (one q (begin (c .before .before .before) .args .header .secret) (c .if1 .left)) (c .before .before .states .inv)
+    pass-turn _ _ _ q _ (pick (c .before)) (digit-in q (begin (c .before .before .before) .args .secret) (c .if1 .left)) (c .before .before .states .inv)
 
 -- "m(l) ∉ 2^S": the state at which the visit ended is not secret, and a run through it excuses the system
 clear : (c : tie.Else2 Inv-states μ-states Inv-steps μ-steps)
-    → Each (c .before .before .before) (λ p trace. ClearAt p (begin (c .before .before .before) .args .header .secret) trace (length trace - c .before .before .before .steps .l))
+    → Each (c .before .before .before) (λ p trace. ClearAt p (begin (c .before .before .before) .args .secret) trace (length trace - c .before .before .before .steps .l))
 clear c p trace g m r =
     let u = c .before .before .before in
     let w = c .before .before .states .todo in
@@ -113,12 +105,12 @@ clear c p trace g m r =
     (λ v.
     let t = taken w (omega arith) (c .before .before .states .inv .small) in
     decided-clear _ _ trace _ _ (u .steps .inv .2 p trace g m r) (trailingZeros 64 w) (c .before .before .states .inv .kept (trailingZeros 64 w) (t .inside))
-    (λ i. omega (arith, in-test (trailingZeros 64 w) (begin u .args .header .secret), v .1 .taken)))
+    (λ i. omega (arith, in-test (trailingZeros 64 w) (begin u .args .secret), v .1 .taken)))
     (c .before .states-test .came)
 
 -- so that, with what was known below l, no step below l + 1 is a leak
 below-next : (c : tie.Else2 Inv-states μ-states Inv-steps μ-steps)
-    → Each (c .before .before .before) (λ p trace. NoLeakBelow Weak p (begin (c .before .before .before) .args .header .secret) trace (c .before .before .before .steps .l + 1))
+    → Each (c .before .before .before) (λ p trace. NoLeakBelow Weak p (begin (c .before .before .before) .args .secret) trace (c .before .before .before .steps .l + 1))
 below-next c p trace g m r = below-step Weak p _ trace _ (c .before .before .before .steps .inv .0 p trace g m r) (clear c p trace g m r)
 
 -- the events that show the symbol before

@@ -1,13 +1,20 @@
--- `Enforcer::offer` meets its contract: the tests in their order, and the verdict by the enforcer's notion.
+-- `Enforcer::offer` meets its contract: the tests in their order, and the verdicts by the enforcer's notion.
 use mathlib.Core.Path.{subst}
-use Prim.Native.Nat.{ℕ}
+use Prim.Native.Nat.{ℕ, _≤_}
+use native.Mathlib.Omega.{arith}
 use denote.Ref.{now}
+use lib.ListN.{getD}
 use Rattle.verifier.specs.declared.AnswerBy.{AnswerBy}
-use Rattle.verifier.specs.Verdicts.{stepsOf}
+use Rattle.verifier.specs.Secrets.{ForEach, lookBackOf}
+use Rattle.verifier.specs.Verdicts.{none}
 use Rattle.verifier.specs.Replies.{saidBy, AcceptingBy, Moved, TellsBy}
 use Rattle.verifier.proofs.Judging.{refused-of, accepted-of}
+use Rattle.verifier.proofs.Numbering.{look-back-small}
+use Rattle.enforcer.specs.Enforcers.{secretsIn}
+use Rattle.verifier.specs.Replies.{stepsEach}
 use Rattle.enforcer.specs.Inner.{PendingWithin, Took}
 use borrow.Author.Tests.{not-true, not-false}
+use Rattle.stateset.specs.Set.{Decided}
 use Rattle.stateset.proofs.Decides.{holds, fails}
 use Rattle.enforcer.specs.Offerings.{Offering, output-too-small}
 use Rattle.automaton.specs.Refusals.{numberOf}
@@ -18,19 +25,36 @@ use borrow.Author.Needs.{needs}
 use Rattle.enforcer.proofs.Enforcer.offer.Statement.{statement}
 use Rattle.enforcer.proofs.Enforcer.offer.Tie as tie
 
--- past the second test the pending symbols are within their limits
-pending : (x : tie.Else3) → PendingWithin (x .before .before .before .before .before .args .header .k) (x .before .before .before .before .before .args .self)
-pending x = holds (x .before .pending-within .result) (not-false _ (x .if3 .left)) (x .before .pending-within .ensures)
+-- the second test decides whether the pending symbols are within their limits, by the largest K
+abbrev begin : tie.After-pending-within → tie.Start
+begin u = u .before .before .before .before .before .before .before
+
+pending-test : (u : tie.After-pending-within) → Decided (u .pending-within .result) (PendingWithin (lookBackOf (begin u .args .header) (begin u .args .self .estimator .further)) (begin u .args .self))
+pending-test u =
+    subst (λ (k : ℕ). Decided (u .pending-within .result) (PendingWithin k (begin u .args .self))) (u .before .look-back .ensures) (u .pending-within .ensures)
+
+-- past it they are
+pending : (x : tie.Else3) → PendingWithin (lookBackOf (begin (x .before) .args .header) (begin (x .before) .args .self .estimator .further)) (begin (x .before) .args .self)
+pending x = holds (x .before .pending-within .result) (not-false _ (x .if3 .left)) (pending-test (x .before))
 
 -- and where the verifier has accepted the symbol, it has tested the rest
-all : (x : tie.After-answer2) → Moved (now (x .before .before .before .before .before .before .before .before .before .args .table)) (x .before .before .before .before .before .before .before .before .before .args .header) (x .before .before .before .before .before .before .before .before .before .args .self .estimator) (x .before .before .before .before .before .before .before .before .before .args .byte) (x .answer2 .given .0 .0 .size) (x .before .before .accept-by .result .estimator)
-    × TellsBy (x .before .before .before .before .before .before .before .before .before .args .self .notion) (now (x .before .before .before .before .before .before .before .before .before .args .table)) (x .before .before .before .before .before .before .before .before .before .args .header) (x .before .before .before .before .before .before .before .before .before .args .self .estimator) (x .before .before .before .before .before .before .before .before .before .args .byte) (stepsOf (x .answer2 .given .0 .0 .verdict))
+abbrev asked : tie.After-answer2 → tie.Start
+asked x = begin (x .before .before .before .before)
+
+all : (x : tie.After-answer2) → Moved (now (asked x .args .table)) (asked x .args .header) (asked x .args .self .estimator) (asked x .args .byte) (x .answer2 .given .0 .0 .size)
+    (x .before .before .accept-by .result .estimator)
+    × ForEach (secretsIn (asked x .args .header) (asked x .args .self)) (λ i c. TellsBy (asked x .args .self .notion) (now (asked x .args .table)) (asked x .args .header)
+    (asked x .args .self .estimator) (asked x .args .byte) c (getD (stepsEach (asked x .args .self .estimator .further) (x .answer2 .given .0 .0 .verdicts)) i none))
 all x =
     let called = x .before .before in
-    let a = x .before .before .before .before .before .before .before .before .before .args in
+    let a = asked x .args in
     accepted-of
-    (subst (λ (y : AnswerBy). AcceptingBy (a .self .notion) (now (a .table)) (a .header) (a .self .estimator) (a .byte) (saidBy y) (called .accept-by .result .estimator))
-    (x .answer2 .given .1) (called .accept-by .ensures))
+    (subst (λ (y : AnswerBy). AcceptingBy (a .self .notion) (now (a .table)) (a .header) (a .self .estimator) (a .byte) (saidBy (a .self .estimator .further) y) (called .accept-by .result .estimator))
+    (x .answer2 .given .1) (called .accept-by .ensures .0))
+
+-- so the largest K is at most 15
+small : (x : tie.After-answer2) → lookBackOf (asked x .args .header) (asked x .args .self .estimator .further) ≤ 15
+small x = let m = all x .0 in look-back-small (asked x .args .header) (asked x .args .self .estimator .further) (m .sound .back) (m .limits .allowed)
 
 sound-requires : tie.Need-sound-requires
 sound-requires c κs = search needs
@@ -54,6 +78,9 @@ returns-2 c =
     let good = holds (s .result) (not-false _ (c .before .if2 .left)) (s .ensures) in
     refused-given _ _ _ _ _ refusal.OutputTooSmall _ (r .0) (r .1) (output-too-small (good .0) (good .1) (c .before .before .before .if1 .taken))
 
+look-back-requires : tie.Need-look-back-requires
+look-back-requires c κs = search needs
+
 pending-within-requires : tie.Need-pending-within-requires
 pending-within-requires c κs = search needs
 
@@ -63,8 +90,8 @@ refused-requires-3 c κs = search needs
 returns-3 : tie.Need-returns-3
 returns-3 c =
     let r = c .refused3 .ensures in
-    let w = c .before .before .pending-within in
-    let bad = fails (w .result) (not-true _ (c .before .if3 .taken)) (w .ensures) in
+    let u = c .before .before in
+    let bad = fails (u .pending-within .result) (not-true _ (c .before .if3 .taken)) (pending-test u) in
     refused-given _ _ _ _ _ refusal.Malformed _ (r .0) (r .1) (Offering.malformed (λ both. bad (record { few = both .1 .few; small = both .1 .small })))
 
 accept-by-requires : tie.Need-accept-by-requires
@@ -76,13 +103,15 @@ enum-known-answer c = search needs
 enum-known-answer-2 : tie.Need-enum-known-answer-2
 enum-known-answer-2 c = search needs
 
-wait-requires : tie.Need-wait-requires
-wait-requires c κs = all (c .before .before) .0 .sound .back
+longest-wait-requires : tie.Need-longest-wait-requires
+longest-wait-requires c κs = let m = all (c .before .before .before) .0 in (m .sound .back, m .limits .allowed)
 
 take-in-requires : tie.Need-take-in-requires
 take-in-requires c κs =
-    let e3 = c .before .before .before .before .before .before .before .before in
-    (all (c .before .before .before .before) .0 .sound .back, pending e3 .few, e3 .before .before .if1 .left)
+    let x = c .before .before .before .before .before in
+    let e3 = x .before .before .before in
+    let k = e3 .before .before .look-back .ensures in
+    (omega (arith, k, small x), omega (arith, k, pending e3 .few), e3 .before .before .before .before .before .if1 .left)
 
 refused-requires-4 : tie.Need-refused-requires-4
 refused-requires-4 c κs = search needs
@@ -92,31 +121,33 @@ returns-4 c =
     let r = c .refused4 .ensures in
     let told = c .before .before .answer .given in
     let called = c .before .before .before .before in
-    let e3 = called .before .before in
-    let a = e3 .before .before .before .before .before .args in
+    let e3 = called .before in
+    let a = begin (e3 .before) .args in
     refused-given _ _ _ _ _ (told .0 .0) _ (r .0) (r .1)
     (refused-outcome (now (a .table)) (a .header) (a .self) (a .byte) (now (a .output)) (numberOf (told .0 .0)) (called .accept-by .result .estimator)
-    (pending e3) (e3 .before .before .if1 .left)
+    (pending e3) (e3 .before .before .before .before .before .if1 .left)
     (refused-of
-    (subst (λ (x : AnswerBy). AcceptingBy (a .self .notion) (now (a .table)) (a .header) (a .self .estimator) (a .byte) (saidBy x) (called .accept-by .result .estimator))
-    (told .1) (called .accept-by .ensures))))
+    (subst (λ (x : AnswerBy). AcceptingBy (a .self .notion) (now (a .table)) (a .header) (a .self .estimator) (a .byte) (saidBy (a .self .estimator .further) x) (called .accept-by .result .estimator))
+    (told .1) (called .accept-by .ensures .0))))
 
 same-length : tie.Need-same-length
 same-length c = search needs
 
 returns-5 : tie.Need-returns-5
 returns-5 c =
-    let after-wait = c .before .before .before .before in
-    let after-answer = after-wait .before .before .before in
-    let called = after-answer .before .before in
-    let e3 = called .before .before in
-    let a = e3 .before .before .before .before .before .args in
+    let waited = c .before .before .before .before in
+    let x = waited .before .before .before .before in
+    let called = x .before .before in
+    let e3 = called .before in
+    let a = begin (e3 .before) .args in
     let taken = c .before .before .take-in in
-    let moved = all after-answer .0 in
-    taken-outcome (now (a .table)) (a .header) (a .self) (a .byte) (now (a .output)) (after-answer .answer2 .given .0 .0 .verdict) (after-answer .answer2 .given .0 .0 .size) (called .accept-by .result .estimator) (taken .result .answer)
-    (taken .result .enforcer) (taken .last .1 .1 .1 .1 .1 .1 .0) (moved .sound) (limits-joined (a .header .k) (a .self) (moved .limits) (pending e3)) (e3 .before .before .if1 .left) moved (all after-answer .1)
-    (subst (λ (n : ℕ). Took (a .header .k) (a .self) (called .accept-by .result .estimator) n (after-answer .answer2 .given .0 .0 .size) (a .byte) (now (a .output)) (taken .result .answer) (taken .result .enforcer) (taken .last .1 .1 .1 .1 .1 .1 .0))
-    (after-wait .wait .ensures) (taken .ensures))
+    let j = x .answer2 .given .0 .0 in
+    let moved = all x .0 in
+    taken-outcome (now (a .table)) (a .header) (a .self) (a .byte) (now (a .output)) (stepsEach (a .self .estimator .further) (j .verdicts)) (waited .longest-wait .result) (j .size)
+    (called .accept-by .result .estimator) (taken .result .answer) (taken .result .enforcer) (taken .last .1 .1 .1 .1 .1 .1 .0) (moved .sound)
+    (limits-joined _ (a .self) (moved .limits) (pending e3)) (e3 .before .before .before .before .before .if1 .left) moved (all x .1) (waited .longest-wait .ensures)
+    (subst (λ (k : ℕ). Took k (a .self) (called .accept-by .result .estimator) (waited .longest-wait .result) (j .size) (a .byte) (now (a .output)) (taken .result .answer)
+    (taken .result .enforcer) (taken .last .1 .1 .1 .1 .1 .1 .0)) (e3 .before .before .look-back .ensures) (taken .ensures))
 
 pub offer-spec : {M : Type 1} → statement M
 offer-spec =
@@ -127,6 +158,7 @@ offer-spec =
     returns
     refused-requires-2
     returns-2
+    look-back-requires
     pending-within-requires
     refused-requires-3
     returns-3
@@ -134,7 +166,7 @@ offer-spec =
     enum-known-answer
     refused-requires-4
     enum-known-answer-2
-    wait-requires
+    longest-wait-requires
     take-in-requires
     returns-4
     same-length

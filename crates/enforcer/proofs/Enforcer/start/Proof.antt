@@ -1,11 +1,16 @@
-use mathlib.Core.Path.{subst, sym, refl, _∙_}
+-- `Enforcer::start` meets its contract: what the fresh estimator was told, and the largest wait of the opening verdicts.
+use mathlib.Core.Path.{subst, refl}
 use denote.Ref.{now}
 use Rattle.verifier.specs.declared.Answer.{Answer}
+use Rattle.verifier.specs.declared.VerdictsBy.{VerdictsBy}
 use Rattle.automaton.specs.Refusals.{numberOf}
+use Rattle.verifier.specs.Secrets.{secretsOf}
 use Rattle.verifier.specs.Replies as verifier
-use Rattle.verifier.specs.Replies.{Opening}
+use Rattle.verifier.specs.Replies.{Opening, toldEach}
+use Rattle.verifier.specs.Replies.{chosenEach, stepsEach}
+use Rattle.enforcer.specs.Inner.{LargestWait}
 use Rattle.enforcer.proofs.Arrays.{padded-zeros}
-use Rattle.enforcer.proofs.Starts.{start-refused, start-open, start-ready}
+use Rattle.enforcer.proofs.Starts.{start-refused, opened-given, start-open, start-ready}
 use borrow.Author.Needs.{needs}
 use Rattle.enforcer.proofs.Enforcer.start.Statement.{statement}
 use Rattle.enforcer.proofs.Enforcer.start.Tie as tie
@@ -19,44 +24,53 @@ enum-known-answer c = search needs
 enum-known-answer-2 : tie.Need-enum-known-answer-2
 enum-known-answer-2 c = search needs
 
-choose-requires : tie.Need-choose-requires
-choose-requires c κs = search needs
+choose-each-requires : tie.Need-choose-each-requires
+choose-each-requires c κs = search needs
 
-enum-told : tie.Need-enum-told
-enum-told c = search needs
+abbrev begin : tie.After-choose-each → tie.Start
+begin u = u .before .before .before .before .before .before .before
 
-enum-told-2 : tie.Need-enum-told-2
-enum-told-2 c = search needs
+-- the opening, where the verifier gave verdicts
+opening : (u : tie.After-choose-each) → Opening (now (begin u .args .table)) (begin u .args .header) (begin u .args .further)
+    (verifier.verdicts (toldEach (begin u .args .further) (u .before .before .answer2 .given .0 .0 .verdicts)) (u .before .before .answer2 .given .0 .0 .size))
+    (u .before .before .before .before .before .fresh .result .estimator)
+opening u =
+    let a = begin u .args in
+    let called = u .before .before .before .before .before .fresh in
+    subst (λ (x : Answer). Opening (now (a .table)) (a .header) (a .further) (verifier.said (a .further) x) (called .result .estimator)) (u .before .before .answer2 .given .1)
+    (called .ensures .0)
+
+longest-wait-requires : tie.Need-longest-wait-requires
+longest-wait-requires c κs = let j = c .before .before .answer2 .given .0 .0 in opened-given _ _ _ (j .verdicts) (j .size) _ (opening c)
+
+-- the largest wait of the verdicts by the notion
+longest : (u : tie.After-longest-wait) → LargestWait (secretsOf (begin (u .before) .args .header) (begin (u .before) .args .further))
+    (stepsEach (begin (u .before) .args .further) (chosenEach (begin (u .before) .args .notion) (u .before .before .before .answer2 .given .0 .0 .verdicts)))
+    (u .longest-wait .result)
+longest u =
+    let a = begin (u .before) .args in
+    subst (λ (v : VerdictsBy). LargestWait (secretsOf (a .header) (a .further)) (stepsEach (a .further) v) (u .longest-wait .result)) (u .before .choose-each .ensures)
+    (u .longest-wait .ensures)
 
 returns : tie.Need-returns
 returns c =
-    let after-choose = c .before .before in
-    let after-answer = after-choose .before .before in
-    let after-fresh = after-answer .before .before .before in
-    let a = after-fresh .before .before .args in
-    let called = after-fresh .fresh in
-    start-open (now (a .table)) (a .header) (a .notion) (after-answer .answer2 .given .0 .0 .verdicts) _ (called .result .estimator) _ (c .enum-told2 .given .0 .0)
-    (subst (λ (x : Answer). Opening (now (a .table)) (a .header) (verifier.said x) (called .result .estimator)) (after-answer .answer2 .given .1) (called .ensures))
-    (sym (after-choose .choose .ensures) ∙ c .enum-told2 .given .1) refl
+    let u = c .before in
+    let j = u .before .before .before .answer2 .given .0 .0 in
+    start-open _ _ _ _ (j .verdicts) (j .size) _ _ (longest u) _ (opening (u .before)) (c .if1 .taken) refl
 
 returns-2 : tie.Need-returns-2
 returns-2 c =
     let after-fresh = c .before .before .before .before in
     let a = after-fresh .before .before .args in
     let called = after-fresh .fresh in
-    start-refused (now (a .table)) (a .header) (a .notion) (numberOf (c .before .answer .given .0 .0)) (called .result .estimator) _
-    (subst (λ (x : Answer). Opening (now (a .table)) (a .header) (verifier.said x) (called .result .estimator)) (c .before .answer .given .1) (called .ensures)) refl
+    start-refused (now (a .table)) (a .header) (a .further) (a .notion) (numberOf (c .before .answer .given .0 .0)) (called .result .estimator) _
+    (subst (λ (x : Answer). Opening (now (a .table)) (a .header) (a .further) (verifier.said (a .further) x) (called .result .estimator)) (c .before .answer .given .1) (called .ensures .0)) refl
 
 returns-3 : tie.Need-returns-3
 returns-3 c =
-    let after-choose = c .before .before in
-    let after-answer = after-choose .before .before in
-    let after-fresh = after-answer .before .before .before in
-    let a = after-fresh .before .before .args in
-    let called = after-fresh .fresh in
-    start-ready (now (a .table)) (a .header) (a .notion) (after-answer .answer2 .given .0 .0 .verdicts) _ (called .result .estimator) _ _ (padded-zeros 16 0) (padded-zeros 16 0)
-    (subst (λ (x : Answer). Opening (now (a .table)) (a .header) (verifier.said x) (called .result .estimator)) (after-answer .answer2 .given .1) (called .ensures))
-    (sym (after-choose .choose .ensures) ∙ c .enum-told .given .1)
+    let u = c .before in
+    let j = u .before .before .before .answer2 .given .0 .0 in
+    start-ready _ _ _ _ (j .verdicts) (j .size) _ _ (longest u) _ _ (padded-zeros 16 0) (padded-zeros 16 0) (opening (u .before)) (c .if1 .left)
 
 pub start-spec : {M : Type 1} → statement M
 start-spec =
@@ -65,9 +79,8 @@ start-spec =
     fresh-requires
     enum-known-answer
     enum-known-answer-2
-    choose-requires
-    enum-told
-    enum-told-2
+    choose-each-requires
+    longest-wait-requires
     returns
     returns-2
     returns-3)

@@ -84,7 +84,7 @@ returns c =
     let called = c .before .before .before .before .before .before .before .before .offer in
     let done = c .before .before .log-refused in
     let r = c .before .before .before .before .before .answer .given .0 .0 in
-    by-enforcer (now (a .table)) (a .header) (a .self) (a .byte) r _ _ _ (a .estimator) (called .result .enforcer) (replicate 17 0) (called .last .1 .1 .1 .1 .0) (done .result .monitor)
+    by-enforcer (now (a .table)) (a .header) (a .self) (a .byte) r _ _ (a .estimator) (called .result .enforcer) (replicate 17 0) (called .last .1 .1 .1 .1 .0) (done .result .monitor)
     (p .0) (p .2) refl
     (subst (λ (x : OfferAnswer). Offering (now (a .table)) (a .header) (a .self .enforcer) (a .byte) (replicate 17 0) (enforcer.said x) (called .result .enforcer) (called .last .1 .1 .1 .1 .0)) (c .before .before .before .before .before .answer .given .1) (called .ensures))
     (done .ensures .0) (done .ensures .1)

@@ -1,9 +1,10 @@
 -- `Estimator::accept_asked` meets its contract: the tests in their order, the estimate after the symbol, and the verdicts of the look back from it.
-use mathlib.Core.Path.{sym}
+use mathlib.Core.Path.{sym, subst}
 use mathlib.Core.List.{[]}
 use borrow.Author.Tests.{not-true, not-false}
 use borrow.Author.Needs.{needs}
 use denote.Ref.{now}
+use Prim.Native.Nat.{ℕ}
 use native.Mathlib.Omega.{arith}
 use Rattle.stateset.proofs.Decides.{holds, fails}
 use Rattle.automaton.specs.Run.{automatonOf, Sound, Observable}
@@ -11,15 +12,16 @@ use Rattle.automaton.specs.declared.Refusal.the-variants as refusal
 use Rattle.automaton.specs.Reaching.{Showing}
 use Rattle.automaton.proofs.SymbolSets.{some-observable, none-observable, observable-small}
 use Rattle.automaton.proofs.Entering.{known-none}
-use Rattle.verifier.specs.Estimators.{Limits}
+use Rattle.verifier.specs.Estimators.{Limits, InLimits}
 use Rattle.verifier.specs.Replies.{Accepting, not-observable, incompatible, Moved}
-use Rattle.verifier.proofs.Judging.{grown-entry, moved-by, found-by, given-by, refused-asked}
+use Rattle.verifier.proofs.Numbering.{look-back-small}
+use Rattle.verifier.proofs.Judging.{grown-entry, limits-as, moved-by, judged-by, refused-asked}
 use Rattle.verifier.proofs.Estimating.{some-left, none-left, reach-as, gained-part}
 use Rattle.verifier.proofs.Estimator.accept_asked.Statement.{statement}
 use Rattle.verifier.proofs.Estimator.accept_asked.Tie as tie
 
 -- the tests that were passed
-ok : (c : tie.Else1) → Sound (now (c .before .before .before .args .table)) (c .before .before .before .args .header) × Limits (c .before .before .before .args .header .k) (c .before .before .before .args .t1)
+ok : (c : tie.Else1) → Sound (now (c .before .before .before .args .table)) (c .before .before .before .args .header) × InLimits (c .before .before .before .args .header) (c .before .before .before .args .t1)
 ok c = holds (c .before .sound .result) (not-false _ (c .if1 .left)) (c .before .sound .ensures)
 
 -- the events that show the symbol
@@ -107,14 +109,22 @@ returns-3 c =
     (incompatible (o .0) (o .1) (observed e)
     (λ trace g. none-left (c .before .before .before .before .next-estimate .ensures _ (showing (c .before .before .before .before .before .before .before .before .before .before .before .before))) (c .before .enum-told .given .1) trace (grown-entry _ _ trace _ g)))
 
+look-back-requires : tie.Need-look-back-requires
+look-back-requires c κs = search needs
+
 push-requires : tie.Need-push-requires
 push-requires c κs =
-    let e = c .before .before .before .before .before .before .before .before .before .before .before in
+    let e = c .before .before .before .before .before .before .before .before .before .before .before .before .before in
     let o = ok (e .before .before .before .before .before .before) in
-    (o .0 .back, observable-small (now (e .before .before .before .before .before .before .before .before .before .args .table)) _ _ (o .0) (observed e), o .1)
+    let a = e .before .before .before .before .before .before .before .before .before .args in
+    let K = c .look-back .ensures in (
+      omega (arith, K, look-back-small (a .header) (a .t1 .further) (o .0 .back) (o .1 .allowed)),
+      observable-small (now (a .table)) _ _ (o .0) (observed e),
+      subst (λ (n : ℕ). Limits n (a .t1)) (sym K) (o .1),
+    )
 
 slice-aggregate-assess : tie.Need-slice-aggregate-assess
-slice-aggregate-assess c = sym (c .before .before .before .before .before .before .before .before .before .before .before .before .before .before .before .before .before .by-symbol .ensures [] .size)
+slice-aggregate-assess c = sym (c .before .before .before .before .before .before .before .before .before .before .before .before .before .before .before .before .before .before .before .by-symbol .ensures [] .size)
 
 slice-aggregate-assess-2 : tie.Need-slice-aggregate-assess-2
 slice-aggregate-assess-2 c = search needs
@@ -124,21 +134,23 @@ slice-aggregate-assess-3 c = search needs
 
 assess-requires : tie.Need-assess-requires
 assess-requires c κs =
-    let k = c .before .before .before .before in
+    let pushed = c .before .before .before in
+    let k = pushed .before .before .before in
     let x = some-left (k .before .before .before .before .next-estimate .ensures _ (showing (k .before .before .before .before .before .before .before .before .before .before .before .before))) (k .before .next .given .1) in
     let f = k .before .before .before .before .before .before .before .before .before .before in
     let e = f .before in
     let o = ok (e .before .before .before .before .before .before) in
-    let after = c .before .before .before .push .ensures in (
+    let a = e .before .before .before .before .before .before .before .before .before .args in
+    let after = pushed .push .ensures in (
       record {
         sound = o .0;
-        limits = after .0;
+        limits = limits-as (a .header) (a .t1) _ _ (pushed .before .look-back .ensures) (after .0) (after .1);
         sets-are = e .before .before .before .before .by-symbol .ensures _;
         near = record {
           closed = x .estimated .closed;
-          inside = after .2 _ (x .estimated .new) (λ l q h i. x .estimated .old q (k .before .before .before .before .before .before .before .before .silent-rows .ensures .more q (f .entered .ensures l q h i)));
+          inside = after .3 _ (x .estimated .new) (λ l q h i. x .estimated .old q (k .before .before .before .before .before .before .before .before .silent-rows .ensures .more q (f .entered .ensures l q h i)));
         };
-        reach = reach-as (after .1) (x .estimated .reach);
+        reach = reach-as (after .2) (x .estimated .reach);
       },
       search needs,
     )
@@ -146,14 +158,14 @@ assess-requires c κs =
 returns-4 : tie.Need-returns-4
 returns-4 c =
     let pushed = c .before .before .before .before .before in
-    let k = pushed .before in
+    let k = pushed .before .before .before in
     let e = k .before .before .before .before .before .before .before .before .before .before .before in
     let a = e .before .before .before .before .before .before .before .before .before .args in
     let o = ok (e .before .before .before .before .before .before) in
     let after = pushed .push .ensures in
     let moved : Moved (now (a .table)) (a .header) (a .t1) (a .symbol) (c .before .assess .result .size) (pushed .push .result) =
-    moved-by _ _ _ _ _ _ _ _ _ (o .0) (o .1) (observed e) (some-left (k .before .before .before .before .next-estimate .ensures _ (showing (k .before .before .before .before .before .before .before .before .before .before .before .before))) (k .before .next .given .1)) (c .before .assess .ensures .1) (after .0) (λ trace g E y. after .3 _ trace g E y) in
-    (moved, λ notion. given-by (found-by notion _ _ _ _ _ _ _ moved) (c .before .assess .ensures .0 notion))
+    moved-by _ _ _ _ _ _ _ _ _ _ (o .0) (o .1) (observed e) (some-left (k .before .before .before .before .next-estimate .ensures _ (showing (k .before .before .before .before .before .before .before .before .before .before .before .before))) (k .before .next .given .1)) (c .before .assess .ensures .1) (pushed .before .look-back .ensures) (after .0) (after .1) (λ trace g E y. after .4 _ trace g E y) in
+    judged-by _ _ _ _ _ (c .before .assess .result) _ moved (c .before .assess .ensures .0)
 
 pub accept-asked-spec : {M : Type 1} → statement M
 accept-asked-spec =
@@ -178,6 +190,7 @@ accept-asked-spec =
     enum-told
     refused-requires-3
     returns-3
+    look-back-requires
     push-requires
     slice-aggregate-assess
     slice-aggregate-assess-2

@@ -1,14 +1,14 @@
--- `verifier::assess` meets its contract: the look back from the estimate, and its number.
+-- `Estimator::assess` meets its contract: the look back from the estimate, and its number.
 use mathlib.Core.Path.{refl}
 use borrow.Author.Needs.{needs}
-use Rattle.verifier.proofs.assess.Statement.{statement}
-use Rattle.verifier.proofs.assess.Tie as tie
+use Rattle.verifier.proofs.Estimator.assess.Statement.{statement}
+use Rattle.verifier.proofs.Estimator.assess.Tie as tie
 
 backward-rows-requires : tie.Need-backward-rows-requires
 backward-rows-requires c κs = let x = c .before .before .before .before .before .pre in (x .0 .near .closed .size, x .1)
 
-judge-requires : tie.Need-judge-requires
-judge-requires c κs =
+judge-all-requires : tie.Need-judge-all-requires
+judge-all-requires c κs =
     let x = c .before .before .before .before .before .before .before .before .before .pre .0 in (
       record {
         sound = x .sound;
@@ -29,7 +29,7 @@ same-length : tie.Need-same-length
 same-length c = search needs
 
 returns : tie.Need-returns
-returns c = (c .judge .ensures, refl)
+returns c = (c .judge-all .ensures, refl)
 
 pub assess-spec : {M : Type 1} → statement M
-assess-spec = tie.close (tie.spec backward-rows-requires judge-requires same-length returns)
+assess-spec = tie.close (tie.spec backward-rows-requires judge-all-requires same-length returns)

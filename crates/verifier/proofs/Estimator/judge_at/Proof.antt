@@ -1,0 +1,34 @@
+-- `Estimator::judge_at` meets its contract, for an arbitrary number.
+use mathlib.Core.Path.{refl}
+use native.Mathlib.Omega.{arith}
+use borrow.Author.Needs.{needs}
+use denote.Ref.{now}
+use Rattle.verifier.proofs.Judging.{judged-of}
+use Rattle.verifier.proofs.Numbering.{how-many, how-many-most}
+use Rattle.verifier.proofs.Estimator.judge_at.Statement.{statement}
+use Rattle.verifier.proofs.Estimator.judge_at.Tie as tie
+
+returns : tie.Need-returns
+returns c =
+    let s = c .before .before .before .before .before .before .before in
+    record {
+      given = λ g. absurd (omega (arith, c .if1 .taken, how-many-most (s .args .header) (s .args .self .further)));
+      other = λ o. refl;
+    }
+
+secret-at-requires : tie.Need-secret-at-requires
+secret-at-requires c κs = search needs
+
+judge-requires : tie.Need-judge-requires
+judge-requires c κs = c .before .before .before .before .before .before .before .before .before .pre
+
+returns-2 : tie.Need-returns-2
+returns-2 c =
+    let s = c .before .before .before .before .before .before .before .before .before .before in
+    record {
+      given = λ g. judged-of (now (s .args .table)) (s .args .header) (s .args .self) _ _ (s .args .asked) (c .judge .result) (c .before .secret-at .ensures) (c .judge .ensures);
+      other = λ o. absurd (omega (arith, o, c .before .before .before .if1 .left, how-many (s .args .header) (s .args .self .further) (s .pre .0 .limits .allowed .few)));
+    }
+
+pub judge-at-spec : {M : Type 1} → statement M
+judge-at-spec = tie.close (tie.spec returns secret-at-requires judge-requires returns-2)

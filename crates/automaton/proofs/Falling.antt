@@ -1,24 +1,26 @@
--- A loop that tries numbers below 65, from the highest down, and shifts what it found up by one. Assumes nothing.
-use mathlib.Core.Path.{_≡_, refl, ap, sym, subst, _∙_}
-use mathlib.Core.Logic.{⊎-elim}
-use Prim.Native.Nat.{ℕ, zero, suc, _+_, _-_, _*_, _/_, _%_, _^_, _≤_, _<_}
+-- A loop that tries numbers below 64, from the highest down, k at a time, and shifts what it found up by k. Assumes nothing.
+use mathlib.Core.Path.{_≡_, subst}
+use mathlib.Core.List.{List}
+use mathlib.Core.Logic.{_⊎_, inl, inr}
+use Prim.Native.Nat.{ℕ, _+_, _-_, _≤_, _<_}
 use native.Mathlib.Omega.{arith}
-use native.Mathlib.Nat.{pow-suc, lt-of-lt-of-le, mod-eq-of-lt}
-use lib.Bits.{bitOr, or-lt}
-use lib.Pow.{pow-mono, pow-pos}
-use Rattle.stateset.specs.Set.{bit, In, Is}
-use Rattle.stateset.proofs.Bits.{bit-0, bit-suc, bit-zero, in-or, or-l, or-r}
+use native.Mathlib.Decide.{decLt}
+use lib.ListN.{getD}
+use Rattle.stateset.specs.Set.{In, Is}
+use Rattle.stateset.proofs.Bits.{bit-zero}
+use Rattle.automaton.specs.Relation.{Row, Preimage}
+use Rattle.automaton.proofs.Words.{Moved}
 
 -- r has the numbers from q on that have P, each q places lower
 pub record From (P : ℕ → Type 0) (q r : ℕ) : Type 0 where
-  pub small : r < 2 ^ (64 - q)
+  pub small : (p : ℕ) → In p r → q + p < 64
   pub sound : (p : ℕ) → In p r → P (q + p)
   pub whole : (p : ℕ) → P (q + p) → In p r
 
 module _ (P : ℕ → Type 0) where
   pub from-start : (q : ℕ) → ((x : ℕ) → P x → x < q) → From P q 0
   from-start q below = record {
-    small = pow-pos (64 - q);
+    small = λ p i. absurd (omega (arith, bit-zero p));
     sound = λ p i. absurd (omega (arith, bit-zero p));
     whole = λ p x. absurd (omega (arith, below (q + p) x));
   }
@@ -29,59 +31,42 @@ module _ (P : ℕ → Type 0) where
     whole = λ p x. f .whole p (subst P (omega (arith, z)) x);
   }
 
-  module _ (q r : ℕ) (pos : 0 < q) (le : q ≤ 64) (f : From P q r) where
-    -- the shift in the code's own terms loses nothing
-    up : ℕ
-    up = (r * 2 ^ 1) % 2 ^ 64
-
-    room : 2 * 2 ^ (64 - q) ≡ 2 ^ (64 - (q - 1))
-    room =
-        let e : 64 - (q - 1) ≡ suc (64 - q) = omega arith in
-        rw (e, pow-suc 2 (64 - q)) (omega arith)
-
-    up-is : up ≡ r * 2
-    unfolding up
-    up-is = mod-eq-of-lt (omega (arith, f .small, room, pow-mono {i = 64 - (q - 1)} {j = 64} (omega arith)))
-
-    up-low : bit 0 up ≡ 0
-    up-low = ap (bit 0) up-is ∙ omega (arith, bit-0 (r * 2))
-
-    up-high : (p : ℕ) → bit (suc p) up ≡ bit p r
-    up-high p =
-        let half : r * 2 / 2 ≡ r = omega arith in
-        ap (bit (suc p)) up-is ∙ bit-suc p (r * 2) ∙ ap (bit p) half
-
-    up-small : up < 2 ^ (64 - (q - 1))
-    up-small = omega (arith, up-is, f .small, room)
-
-    index : (p : ℕ) → q - 1 + suc p ≡ q + p
-    index p = omega arith
-
-    -- q - 1 does not have P
-    pub from-miss : (P (q - 1) → ⊥) → From P (q - 1) ((r * 2 ^ 1) % 2 ^ 64)
-    unfolding up
-    from-miss n = record { small = up-small; sound = sound; whole = whole }
+  -- the k numbers below q, from n on: those of them that have P stand below what was found before
+  module _ (k n q r up : ℕ) (e : n + k ≡ q) (le : q ≤ 64) (f : From P q r) (g : Is up (λ p. Moved k r p ⊎ ((p < k) × P (n + p)))) where
+    pub from-turn : From P n up
+    from-turn = record { small = λ p i. small p (g .sound p i); sound = λ p i. sound p (g .sound p i); whole = λ p x. g .whole p (whole p x (decLt p k)) }
       where
-        sound : (p : ℕ) → In p up → P (q - 1 + p)
-        sound zero i = absurd (omega (arith, up-low))
-        sound (suc p) i = subst P (sym (index p)) (f .sound p (sym (up-high p) ∙ i))
+        small : (p : ℕ) → Moved k r p ⊎ ((p < k) × P (n + p)) → n + p < 64
+        small p (inl m) = omega (arith, m .0, f .small (p - k) (m .2))
+        small p (inr m) = omega (arith, m .0)
 
-        whole : (p : ℕ) → P (q - 1 + p) → In p up
-        whole zero x = absurd (n (subst P (omega arith) x))
-        whole (suc p) x = up-high p ∙ f .whole p (subst P (index p) x)
+        sound : (p : ℕ) → Moved k r p ⊎ ((p < k) × P (n + p)) → P (n + p)
+        sound p (inl m) = subst P (omega (arith, m .0)) (f .sound (p - k) (m .2))
+        sound p (inr m) = m .1
 
-    -- q - 1 has P
-    pub from-hit : P (q - 1) → From P (q - 1) (bitOr ((r * 2 ^ 1) % 2 ^ 64) 1)
-    unfolding up
-    from-hit h = record { small = or-lt (64 - (q - 1)) up 1 up-small (omega (arith, room, pow-pos (64 - q))); sound = sound; whole = whole }
-      where
-        one-high : (p : ℕ) → bit (suc p) 1 ≡ 0
-        one-high p = bit-suc p 1 ∙ bit-zero p
+        whole : (p : ℕ) → P (n + p) → Dec (p < k) → Moved k r p ⊎ ((p < k) × P (n + p))
+        whole p x (yes h) = inr (h, x)
+        whole p x (no h) =
+            let i : In (p - k) r = f .whole (p - k) (subst P (omega arith) x) in
+            inl (omega arith, omega (arith, f .small (p - k) i), i)
 
-        sound : (p : ℕ) → In p (bitOr up 1) → P (q - 1 + p)
-        sound zero i = subst P (omega arith) h
-        sound (suc p) i = subst P (sym (index p)) (f .sound p (⊎-elim (λ j. sym (up-high p) ∙ j) (λ j. absurd (omega (arith, one-high p))) (in-or (suc p) up 1 i)))
+-- the states below few from which the relation leads into a set
+abbrev pub Leading : List ℕ → (few set : ℕ) → ℕ → Type 0
+Leading rows few set p = (p < few) × Preimage (Row rows) set p
 
-        whole : (p : ℕ) → P (q - 1 + p) → In p (bitOr up 1)
-        whole zero x = or-r 0 up 1 (bit-0 1)
-        whole (suc p) x = or-l (suc p) up 1 (up-high p ∙ f .whole p (subst P (index p) x))
+-- one more row, n, by what `shift` promises
+module _ (rows : List ℕ) (few set n q r up : ℕ) (e : n + 1 ≡ q) (le : q ≤ few) (fits : few ≤ 64) (f : From (Leading rows few set) q r)
+    (g : Is up (λ p. Moved 1 r p ⊎ ((p ≡ 0) × ((x : ℕ) × In x set × In x (getD rows n 0))))) where
+  abbrev Meets : ℕ → Type 0
+  Meets y = (x : ℕ) × In x set × In x (getD rows y 0)
+
+  pub row-turn : From (Leading rows few set) n up
+  row-turn = from-turn (Leading rows few set) 1 n q r up e (omega arith) f (record { sound = λ p i. sound p (g .sound p i); whole = λ p m. g .whole p (whole p m) })
+    where
+      sound : (p : ℕ) → Moved 1 r p ⊎ ((p ≡ 0) × Meets n) → Moved 1 r p ⊎ ((p < 1) × Leading rows few set (n + p))
+      sound p (inl m) = inl m
+      sound p (inr m) = inr (omega (arith, m .0), (omega (arith, m .0), (omega (arith, m .0), subst Meets (omega (arith, m .0)) (m .1))))
+
+      whole : (p : ℕ) → Moved 1 r p ⊎ ((p < 1) × Leading rows few set (n + p)) → Moved 1 r p ⊎ ((p ≡ 0) × Meets n)
+      whole p (inl m) = inl m
+      whole p (inr m) = inr (omega (arith, m .0), subst Meets (omega (arith, m .0)) (m .1 .1 .1))

@@ -7,8 +7,10 @@ use native.Mathlib.Omega.{arith}
 use lib.Bits.{bitOr}
 use lib.ListN.{length, getD, take, drop}
 use Rattle.stateset.specs.Set.{In, Is}
-use Rattle.stateset.proofs.Bits.{Taken, in-or, or-l, or-r, bit-zero, empty}
+use Rattle.stateset.proofs.Bits.{Taken, bit-zero, empty}
 use Rattle.automaton.specs.Relation.{Row, Listed, Image, Preimage}
+use Rattle.automaton.proofs.Words.{own-is, or-is}
+use Rattle.automaton.proofs.Falling.{Leading}
 use Rattle.automaton.proofs.Entering.{part-rows, row-sound, row-whole}
 
 pub record Joined (P : ℕ → ℕ → Type 0) (set todo r : ℕ) : Type 0 where
@@ -20,15 +22,19 @@ module _ (P : ℕ → ℕ → Type 0) (set : ℕ) where
   pub join-start : Joined P set set 0
   join-start = record { sub = λ e i. i; sound = λ q i. absurd (omega (arith, bit-zero q)); whole = λ e q i j. inl i }
 
-  pub join-turn : (todo r e rest w : ℕ) → Taken todo e rest → Is w (P e) → Joined P set todo r → Joined P set rest (bitOr r w)
-  join-turn todo r e rest w k W g =
+  pub join-more : (todo r e rest more : ℕ) → Taken todo e rest → Is more (λ q. In q r ⊎ P e q) → Joined P set todo r → Joined P set rest more
+  join-more todo r e rest more k W g =
       record {
         sub = λ x i. g .sub x (k .kept x i);
-        sound = λ q i. ⊎-elim (g .sound q) (λ j. (e, g .sub e (k .inside), W .sound q j)) (in-or q r w i);
+        sound = λ q i. ⊎-elim (g .sound q) (λ j. (e, g .sub e (k .inside), j)) (W .sound q i);
         whole = λ x q i j. ⊎-elim
-            (λ t. ⊎-elim (λ same. inr (or-r q r w (W .whole q (subst (λ (y : ℕ). P y q) same j)))) (λ m. inl m) (k .left x t))
-            (λ d. inr (or-l q r w d)) (g .whole x q i j);
+            (λ t. ⊎-elim (λ same. inr (W .whole q (inr (subst (λ (y : ℕ). P y q) same j)))) (λ m. inl m) (k .left x t))
+            (λ d. inr (W .whole q (inl d))) (g .whole x q i j);
       }
+
+  pub join-turn : (todo r e rest w : ℕ) → Taken todo e rest → Is w (P e) → Joined P set todo r → Joined P set rest (bitOr r w)
+  join-turn todo r e rest w k W g =
+      join-more todo r e rest (bitOr r w) k (or-is r w (own-is r) W) g
 
   pub join-end : (todo r : ℕ) → todo ≡ 0 → Joined P set todo r → Is r (λ q. (e : ℕ) × In e set × P e q)
   join-end todo r z g =
@@ -54,7 +60,7 @@ module _ (t : List ℕ) (events set r : ℕ) (size : length t ≡ 2048) (words :
             g .whole x (l .0, l .1, (m .0, m .1, row-whole _ _ (part-rows t (l .0) (small (l .0) (l .1)) size words) (m .0) x (l .2 .from-small) (l .2)));
       }
 
-  pub preimage-joined : (few : ℕ) → Is r (λ q. (e : ℕ) × In e events × ((q < few) × Preimage (Row (wordsOf t e)) set q)) → Is r (λ q. (q < few) × Preimage (Listed t events) set q)
+  pub preimage-joined : (few : ℕ) → Is r (λ q. (e : ℕ) × In e events × Leading (wordsOf t e) few set q) → Is r (λ q. (q < few) × Preimage (Listed t events) set q)
   preimage-joined few g =
       record {
         sound = λ q i.

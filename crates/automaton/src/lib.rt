@@ -1,12 +1,14 @@
 ghost use mathlib.Core.Path.{_≡_};
 ghost use mathlib.Core.List.{List, [], _∷_, _++_};
-ghost use Prim.Native.Nat.{ℕ, _+_, _*_, _<_, _≤_, max};
+ghost use mathlib.Core.Logic.{_⊎_};
+ghost use Prim.Native.Nat.{ℕ, _+_, _-_, _*_, _<_, _≤_, max};
+ghost use lib.Bits.{bitAnd, bitOr};
 ghost use lib.ListN.{length, getD, take, drop, replicate};
-ghost use Rattle.stateset.specs.Set.{In, Is, Decided};
+ghost use Rattle.stateset.specs.Set.{In, Is, Decided, complement};
 ghost use Rattle.automaton.specs.Run.{Automaton, automatonOf, SmallSymbols, Sound};
 ghost use Rattle.automaton.specs.Refusals.{numberOf};
 ghost use Rattle.automaton.specs.Reaching.{Enters, Arrives, Leaves, Showing, BySymbol, Known, Gained, Closed, Entered};
-ghost use Rattle.automaton.specs.Relation.{Row, Rows, Listed, Image, Preimage, Reached, Sub, Put, Masks, Swapped};
+ghost use Rattle.automaton.specs.Relation.{Row, Rows, Listed, Image, Preimage, Reached, Sub, Put, Masks, Swapped, setAt};
 
 // What an encoding says beside its transitions (01: head): the initial state, the look-back K, the secret states, the observable events, and
 // the observation symbol of each event (02: lamp), which counts only where the event is observable. (The symbols stand first: a header is copied
@@ -23,6 +25,14 @@ pub struct Header {
 pub struct Reach {
     pub states: u64,
     pub known: u64,
+}
+
+// Four sets of states side by side, one for each of four secrets: what is asked of all is worked out in one pass.
+pub struct StateSets {
+    pub own: u64,
+    pub first: u64,
+    pub second: u64,
+    pub third: u64,
 }
 
 // Why a call was turned back, in the order of 01's refusal table and then 02's numbers.
@@ -271,39 +281,56 @@ fn image(rows: &[u64], set: u64) -> u64
     r
 }
 
-// The states below `few` from which the relation leads into a set. (From the highest down: a shift by one is faster than one by q.)
-fn preimage(rows: &[u64], few: usize, set: u64) -> u64
-    requires { ⌜ (length (now rows) ≡ 64) × (few ≤ 64) ⌝ }
-    ensures { λ r. ⌜ Is r (λ q. (q < few) × Preimage (Row (now (rows .entry))) set q) ⌝ }
+// r moved up by one, with the bit of one more row below it: 1 where the row and the set share a state.
+fn shift(r: u64, row: u64, set: u64) -> u64
+    ensures { λ up. ⌜ Is up (λ p. ((1 ≤ p) × (p < 64) × In (p - 1) r) ⊎ ((p ≡ 0) × ((x : ℕ) × In x set × In x row))) ⌝ }
+{
+    if row & set != 0 {
+        return r << 1 | 1;
+    }
+    r << 1
+}
+
+// From which of two neighbours the relation leads into a set: bit 0 for the first, bit 1 for the second.
+fn pair(rows: &[u64], first: usize, set: u64) -> u64
+    requires { ⌜ (length (now rows) ≡ 64) × (first + 1 < 64) ⌝ }
+    ensures { λ r. ⌜ Is r (λ d. (d < 2) × Preimage (Row (now (rows .entry))) set (first + d)) ⌝ }
+{
+    let second = shift(0, rows[first + 1], set);
+    shift(second, rows[first], set)
+}
+
+// The states of the first `pairs` pairs from which the relation leads into a set. (From the highest down: a shift by two is faster than one by q.
+// Two at a time: the bits of a pair need not wait for the shift.)
+fn preimage(rows: &[u64], pairs: usize, set: u64) -> u64
+    requires { ⌜ (length (now rows) ≡ 64) × (pairs ≤ 32) ⌝ }
+    ensures { λ r. ⌜ Is r (λ q. (q < 2 * pairs) × Preimage (Row (now (rows .entry))) set q) ⌝ }
 {
     let mut r: u64 = 0;
-    let mut q = few;
-    while 0 < q {
-        q -= 1;
-        r <<= 1;
-        if rows[q] & set != 0 {
-            r |= 1;
-        }
+    let mut left = pairs;
+    while 0 < left {
+        left -= 1;
+        r = r << 2 | pair(rows, 2 * left, set);
     }
     r
 }
 
-// The states that a set reaches by the relation, through allowed states alone. (Wave by wave: a wave is what the one before it leads to and was not
-// reached yet. Once all allowed states are reached, there is nothing left to find.)
+// The states that a set reaches by the relation, through allowed states alone. (Wave by wave: a wave is what the one before it leads to and is
+// still missing. Once no allowed state is missing, there is nothing left to find.)
 fn closure(rows: &[u64], allowed: u64, from: u64) -> u64
     requires { ⌜ length (now rows) ≡ 64 ⌝ }
     ensures { λ r. ⌜ Is r (Reached (Row (now (rows .entry))) allowed from) ⌝ }
 {
-    let mut done = from & allowed;
-    let mut wave = done;
-    while done != allowed {
-        wave = image(rows, wave) & allowed & !done;
+    let mut wave = from & allowed;
+    let mut missing = allowed & !wave;
+    while missing != 0 {
+        wave = image(rows, wave) & missing;
         if wave == 0 {
-            return done;
+            return allowed & !missing;
         }
-        done |= wave;
+        missing &= !wave;
     }
-    done
+    allowed
 }
 
 // Where unobservable events may lead, as far as the states of a set ask for it: the rows of all states that they lead to from there. Rows that are
@@ -354,19 +381,158 @@ fn image_by(table: &[u64], events: u64, set: u64) -> u64
     r
 }
 
-// The states below `few` from which the events of a mask lead into a set.
-fn preimage_by(table: &[u64], events: u64, few: usize, set: u64) -> u64
-    requires { ⌜ (length (now table) ≡ 2048) × ((e : ℕ) → In e events → e < 32) × (few ≤ 64) ⌝ }
-    ensures { λ r. ⌜ Is r (λ q. (q < few) × Preimage (Listed (now (table .entry)) events) set q) ⌝ }
+// The states of the first `pairs` pairs from which the events of a mask lead into a set.
+fn preimage_by(table: &[u64], events: u64, pairs: usize, set: u64) -> u64
+    requires { ⌜ (length (now table) ≡ 2048) × ((e : ℕ) → In e events → e < 32) × (pairs ≤ 32) ⌝ }
+    ensures { λ r. ⌜ Is r (λ q. (q < 2 * pairs) × Preimage (Listed (now (table .entry)) events) set q) ⌝ }
 {
     let mut todo = events;
     let mut r: u64 = 0;
     while todo != 0 {
         let e = u64::trailing_zeros(todo) as usize;
-        r |= preimage(event_rows(table, e), few, set);
+        r |= preimage(event_rows(table, e), pairs, set);
         todo &= todo - 1;
     }
     r
+}
+
+// Four sets without states.
+fn no_sets() -> StateSets
+    ensures { λ r. ⌜ ((i : ℕ) → i < 4 → setAt r i ≡ 0) ⌝ }
+{
+    StateSets {
+        own: 0,
+        first: 0,
+        second: 0,
+        third: 0,
+    }
+}
+
+// Unions, intersections and differences, for all four at a time.
+fn join(a: StateSets, b: StateSets) -> StateSets
+    ensures { λ r. ⌜ ((i : ℕ) → i < 4 → setAt r i ≡ bitOr (setAt a i) (setAt b i)) ⌝ }
+{
+    StateSets {
+        own: a.own | b.own,
+        first: a.first | b.first,
+        second: a.second | b.second,
+        third: a.third | b.third,
+    }
+}
+
+fn both(a: StateSets, b: StateSets) -> StateSets
+    ensures { λ r. ⌜ ((i : ℕ) → i < 4 → setAt r i ≡ bitAnd (setAt a i) (setAt b i)) ⌝ }
+{
+    StateSets {
+        own: a.own & b.own,
+        first: a.first & b.first,
+        second: a.second & b.second,
+        third: a.third & b.third,
+    }
+}
+
+fn without(a: StateSets, b: StateSets) -> StateSets
+    ensures { λ r. ⌜ ((i : ℕ) → i < 4 → setAt r i ≡ bitAnd (setAt a i) (complement (setAt b i))) ⌝ }
+{
+    StateSets {
+        own: a.own & !b.own,
+        first: a.first & !b.first,
+        second: a.second & !b.second,
+        third: a.third & !b.third,
+    }
+}
+
+// The states that are in some of the four.
+fn any(s: StateSets) -> u64
+    ensures { λ r. ⌜ Is r (λ q. (i : ℕ) × (i < 4) × In q (setAt s i)) ⌝ }
+{
+    s.own | s.first | s.second | s.third
+}
+
+// The states below `few` from which the relation leads into each of four sets: each row is read once.
+fn preimages(rows: &[u64], few: usize, into: StateSets) -> StateSets
+    requires { ⌜ (length (now rows) ≡ 64) × (few ≤ 64) ⌝ }
+    ensures { λ r. ⌜ ((i : ℕ) → i < 4 → Is (setAt r i) (λ q. (q < few) × Preimage (Row (now (rows .entry))) (setAt into i) q)) ⌝ }
+{
+    let mut r = no_sets();
+    let mut q = few;
+    while 0 < q {
+        q -= 1;
+        let row = rows[q];
+        r = StateSets {
+            own: shift(r.own, row, into.own),
+            first: shift(r.first, row, into.first),
+            second: shift(r.second, row, into.second),
+            third: shift(r.third, row, into.third),
+        };
+    }
+    r
+}
+
+// The states below `few` from which the events of a mask lead into each of four sets.
+fn preimages_by(table: &[u64], events: u64, few: usize, into: StateSets) -> StateSets
+    requires { ⌜ (length (now table) ≡ 2048) × ((e : ℕ) → In e events → e < 32) × (few ≤ 64) ⌝ }
+    ensures { λ r. ⌜ ((i : ℕ) → i < 4 → Is (setAt r i) (λ q. (q < few) × Preimage (Listed (now (table .entry)) events) (setAt into i) q)) ⌝ }
+{
+    let mut todo = events;
+    let mut r = no_sets();
+    while todo != 0 {
+        let e = u64::trailing_zeros(todo) as usize;
+        let some = preimages(event_rows(table, e), few, into);
+        r = join(r, some);
+        todo &= todo - 1;
+    }
+    r
+}
+
+// r with the row of state q, where q is in the set.
+fn pick(r: u64, row: u64, wave: u64, q: u32) -> u64
+    requires { ⌜ q < 64 ⌝ }
+    ensures { λ more. ⌜ Is more (λ x. In x r ⊎ (In q wave × In x row)) ⌝ }
+{
+    if wave >> q & 1 != 0 {
+        return r | row;
+    }
+    r
+}
+
+// `image` of each of four sets: the row of a state that is in some of them is read once.
+fn images(rows: &[u64], waves: StateSets) -> StateSets
+    requires { ⌜ length (now rows) ≡ 64 ⌝ }
+    ensures { λ r. ⌜ ((i : ℕ) → i < 4 → Is (setAt r i) (Image (Row (now (rows .entry))) (setAt waves i))) ⌝ }
+{
+    let mut todo = any(waves);
+    let mut r = no_sets();
+    while todo != 0 {
+        let q = u64::trailing_zeros(todo);
+        let row = rows[q as usize];
+        r = StateSets {
+            own: pick(r.own, row, waves.own, q),
+            first: pick(r.first, row, waves.first, q),
+            second: pick(r.second, row, waves.second, q),
+            third: pick(r.third, row, waves.third, q),
+        };
+        todo &= todo - 1;
+    }
+    r
+}
+
+// `closure` of each of four sets, their waves together.
+fn closures(rows: &[u64], allowed: StateSets, from: StateSets) -> StateSets
+    requires { ⌜ length (now rows) ≡ 64 ⌝ }
+    ensures { λ r. ⌜ ((i : ℕ) → i < 4 → Is (setAt r i) (Reached (Row (now (rows .entry))) (setAt allowed i) (setAt from i))) ⌝ }
+{
+    let mut wave = both(from, allowed);
+    let mut missing = without(allowed, wave);
+    while any(missing) != 0 {
+        let next = images(rows, wave);
+        wave = both(next, missing);
+        if any(wave) == 0 {
+            return without(allowed, missing);
+        }
+        missing = without(missing, wave);
+    }
+    allowed
 }
 
 // The unobservable reach of an entry set: the states in which runs can be before the next observable event.
@@ -394,9 +560,28 @@ pub fn backward_reach(table: &[u64], back: &[u64], allowed: u64, events: u64, th
     ensures { λ r. ⌜ ((p : Automaton) (states : ℕ) (rest : List ℕ) (symbol : ℕ) → p .table ≡ now (table .entry) → Showing p symbol events
         → Entered p states (now (back .entry)) → Sub allowed states → Is then (Leaves p allowed rest) → Is r (Leaves p allowed (symbol ∷ rest))) ⌝ }
 {
-    let few = stateset::bound(allowed);
-    let into = preimage_by(table, events, few, then);
+    let pairs = (stateset::bound(allowed) + 1) / 2;
+    let into = preimage_by(table, events, pairs, then);
     closure(back, allowed, into)
+}
+
+// `backward_reach` for four sets, each through its own allowed states, all of them among `states`.
+pub fn backward_reaches(
+    table: &[u64],
+    back: &[u64],
+    states: u64,
+    allowed: StateSets,
+    events: u64,
+    then: StateSets,
+) -> StateSets
+    requires { ⌜ (length (now table) ≡ 2048) × (length (now back) ≡ 64) × ((e : ℕ) → In e events → e < 32) ⌝ }
+    ensures { λ r. ⌜ ((i : ℕ) (p : Automaton) (rest : List ℕ) (symbol : ℕ) → i < 4 → p .table ≡ now (table .entry) → Showing p symbol events
+        → Entered p states (now (back .entry)) → Sub (setAt allowed i) states → Is (setAt then i) (Leaves p (setAt allowed i) rest)
+        → Is (setAt r i) (Leaves p (setAt allowed i) (symbol ∷ rest))) ⌝ }
+{
+    let few = stateset::bound(states);
+    let into = preimages_by(table, events, few, then);
+    closures(back, allowed, into)
 }
 
 // The unobservable events the other way round, from states of the set. (To a lent slice: an array that is handed back would be copied.)

@@ -3,10 +3,9 @@ use Prim.Native.Nat.{ℕ, zero, suc, _+_, _*_, _/_, _%_, _^_, _-_, _≤_, _<_}
 use mathlib.Core.Path.{_≡_, refl, ap, sym, _∙_}
 use mathlib.Core.List.{List, [], _∷_}
 use native.Mathlib.Omega.{arith}
-use native.Mathlib.Nat.{lt-of-lt-of-le}
 use native.Mathlib.Numerals.{add-one}
-use lib.Pow.{pow-mono, pow-add}
-use lib.ListN.{length, getD, take, drop, set, length-set, length-drop}
+use lib.Pow.{pow-add}
+use lib.ListN.{length, getD, drop, set, length-set, length-drop}
 use lib.Seq.{sets, ext-getD, length-take-le, getD-take, getD-drop, drop-cons}
 use Rattle.automaton.proofs.Filled.{filled, sets-append}
 use Rattle.gateway.specs.Layout.{numberAt, bytesOf, wordsAt, wordsBytes, bytesAt}
@@ -26,17 +25,30 @@ number-lt bytes small (suc n) at =
     let e : 8 * suc n ≡ 8 * n + 8 = omega arith in
     rw (number-more bytes at n, e) (omega (arith, number-lt bytes small n (suc at), small at, pow-add 2 (8 * n) 8))
 
--- of at most 7 bytes, with room for one more
-pub number-room : (bytes : List ℕ) → ((k : ℕ) → getD bytes k 0 < 256) → (n at : ℕ) → n ≤ 7 → numberAt bytes at n < 2 ^ 56
-number-room bytes small n at h = lt-of-lt-of-le (number-lt bytes small n at) (pow-mono {i = 8 * n} {j = 56} (omega arith))
+-- four bytes, written out, and what the bytes behind them write
+number-after : (bytes : List ℕ) (at n : ℕ) → numberAt bytes at (suc (suc (suc (suc n))))
+    ≡ getD bytes at 0 + getD bytes (at + 1) 0 * 256 + getD bytes (at + 2) 0 * 65536 + getD bytes (at + 3) 0 * 16777216 + numberAt bytes (at + 4) n * 4294967296
+number-after bytes at n =
+    let a : at + 1 ≡ suc at = omega arith in
+    let b : at + 2 ≡ suc (suc at) = omega arith in
+    let c : at + 3 ≡ suc (suc (suc at)) = omega arith in
+    let d : at + 4 ≡ suc (suc (suc (suc at))) = omega arith in
+    rw (a, b, c, d)
+    (omega (
+      arith,
+      number-more bytes at (suc (suc (suc n))),
+      number-more bytes (suc at) (suc (suc n)),
+      number-more bytes (suc (suc at)) (suc n),
+      number-more bytes (suc (suc (suc at))) n,
+    ))
 
--- a turn of the reading loop: the byte below what was read
-pub number-next : (bytes : List ℕ) (at n left value byte : ℕ) → 0 < left → left ≤ n → value ≡ numberAt bytes (at + left) (n - left) → byte ≡ getD bytes (at + (left - 1)) 0
-    → value * 256 + byte ≡ numberAt bytes (at + (left - 1)) (n - (left - 1))
-number-next bytes at n left value byte pos le v b =
-    let m : n - (left - 1) ≡ suc (n - left) = omega arith in
-    let a : suc (at + (left - 1)) ≡ at + left = omega arith in
-    rw (m, number-more bytes (at + (left - 1)) (n - left), a, ← v, ← b) (omega arith)
+-- the number of four bytes, and that of eight in two halves
+pub number-four : (bytes : List ℕ) (at : ℕ)
+    → numberAt bytes at 4 ≡ getD bytes at 0 + getD bytes (at + 1) 0 * 256 + getD bytes (at + 2) 0 * 65536 + getD bytes (at + 3) 0 * 16777216
+number-four bytes at = omega (arith, number-after bytes at 0, number-none bytes (at + 4))
+
+pub number-eight : (bytes : List ℕ) (at : ℕ) → numberAt bytes at 8 ≡ numberAt bytes at 4 + numberAt bytes (at + 4) 4 * 4294967296
+number-eight bytes at = omega (arith, number-after bytes at 4, number-four bytes at)
 
 -- with one byte written, the others are left to write
 pub store-turn : (bytes : List ℕ) (at i n rest : ℕ) (all : List ℕ) → i < n → sets bytes (at + i) (bytesOf (n - i) rest) ≡ all

@@ -30,18 +30,23 @@ fn wide(x: u8) -> u64
     x as u64
 }
 
-// The number that `n` bytes write from `at` on, the least significant first.
-fn number_at(bytes: &[u8], at: usize, n: usize) -> u64
-    requires { ⌜ (n ≤ 8) × (at + n ≤ length (now bytes)) ⌝ }
-    ensures { λ r. ⌜ r ≡ numberAt (now (bytes .entry)) at n ⌝ }
+// The number that four bytes write from `at` on, the least significant first. (Written out, and not a loop: the compiler makes one load of it.)
+fn half_at(bytes: &[u8], at: usize) -> u64
+    requires { ⌜ at + 4 ≤ length (now bytes) ⌝ }
+    ensures { λ r. ⌜ r ≡ numberAt (now (bytes .entry)) at 4 ⌝ }
 {
-    let mut value: u64 = 0;
-    let mut left = n;
-    while 0 < left {
-        left -= 1;
-        value = value * 256 + wide(bytes[at + left]);
-    }
-    value
+    wide(bytes[at])
+        + wide(bytes[at + 1]) * 256
+        + wide(bytes[at + 2]) * 65536
+        + wide(bytes[at + 3]) * 16777216
+}
+
+// So of eight bytes.
+fn word_at(bytes: &[u8], at: usize) -> u64
+    requires { ⌜ at + 8 ≤ length (now bytes) ⌝ }
+    ensures { λ r. ⌜ r ≡ numberAt (now (bytes .entry)) at 8 ⌝ }
+{
+    half_at(bytes, at) + half_at(bytes, at + 4) * 4294967296
 }
 
 // Writes the `n` bytes of a number from `at` on.
@@ -105,7 +110,7 @@ fn words16(bytes: &[u8], at: usize) -> [u64; 16]
     let mut r = [0u64; 16];
     let mut i: usize = 0;
     while i < 16 {
-        r[i] = number_at(bytes, at + 8 * i, 8);
+        r[i] = word_at(bytes, at + 8 * i);
         i += 1;
     }
     r
@@ -172,8 +177,8 @@ fn read_header(bytes: &[u8]) -> Header
     Header {
         initial: bytes[0],
         k: bytes[1],
-        secret: number_at(bytes, 2, 8),
-        observable: number_at(bytes, 10, 4) as u32,
+        secret: word_at(bytes, 2),
+        observable: half_at(bytes, 10) as u32,
         symbols: symbols,
     }
 }
@@ -195,7 +200,7 @@ fn read_secret(bytes: &[u8], at: usize) -> Secret
     ensures { λ r. ⌜ r ≡ placeAt (now (bytes .entry)) at ⌝ }
 {
     Secret {
-        states: number_at(bytes, at, 8),
+        states: word_at(bytes, at),
         k: bytes[at + 8],
     }
 }

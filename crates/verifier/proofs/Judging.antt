@@ -56,10 +56,10 @@ tells-up notion p secret last K trace (leak l) e x = record { within = omega (ar
 
 -- the verdict of one secret by one notion, of a grown estimator: it remembers as much as the secret's own K asks for
 found-tells : (notion : Notion) (p : Automaton) (secret k K : ℕ) (trace : List ℕ) (s : Estimator) (v : Verdict) → k ≤ K → Grown p K trace s
-    → Found notion p secret (min k (s .count)) s v → Tells notion p secret k trace (stepsOf v)
+    → Found notion p secret (min k (s .count)) (s .count) s v → Tells notion p secret k trace (stepsOf v)
 found-tells notion p secret k K trace s v low g f =
     let c = g .count-is in
-    tells-up notion p secret (min k (s .count)) k trace (stepsOf v) (omega arith) (f .exact trace (grown-remembers p K trace s g (min k (s .count)) (omega arith)))
+    tells-up notion p secret (min k (s .count)) k trace (stepsOf v) (omega arith) (f .exact trace (grown-remembers p K trace s g (s .count) (omega arith)))
 
 pub judged-of : (t : List ℕ) (h : Header) (s : Estimator) (c d : Secret) (a : Asked) (v : Verdicts) → c ≡ d → Judged t h s c a v → Judged t h s d a v
 judged-of t h s c d a v e j = subst (λ (x : Secret). Judged t h s x a v) e j
@@ -70,13 +70,13 @@ not-both b t f = subst T (sym t ∙ f) tt
 
 -- both verdicts of one secret
 pub judged-both : (t : List ℕ) (h : Header) (s : Estimator) (c : Secret) (a : Asked) (weak strong : Verdict)
-    → Given Weak a weak (Found Weak (automatonOf t h) (c .states) (min (c .k) (s .count)) s weak)
-    → Given Strong a strong (Found Strong (automatonOf t h) (c .states) (min (c .k) (s .count)) s strong) → Judged t h s c a (record { weak = weak; strong = strong })
+    → Given Weak a weak (Found Weak (automatonOf t h) (c .states) (min (c .k) (s .count)) (s .count) s weak)
+    → Given Strong a strong (Found Strong (automatonOf t h) (c .states) (min (c .k) (s .count)) (s .count) s strong) → Judged t h s c a (record { weak = weak; strong = strong })
 judged-both t h s c a weak strong x y Weak = x
 judged-both t h s c a weak strong x y Strong = y
 
-pub found-last : {notion : Notion} {p : Automaton} {secret last n : ℕ} {s : Estimator} {v : Verdict} → last ≡ n → Found notion p secret last s v → Found notion p secret n s v
-found-last {notion} {p} {secret} {last} {n} {s} {v} e f = subst (λ (m : ℕ). Found notion p secret m s v) e f
+pub found-last : {notion : Notion} {p : Automaton} {secret last m n : ℕ} {s : Estimator} {v : Verdict} → last ≡ m → Found notion p secret last n s v → Found notion p secret m n s v
+found-last {notion} {p} {secret} {last} {m} {n} {s} {v} e f = subst (λ (x : ℕ). Found notion p secret x n s v) e f
 
 both : (a : Asked) → Asks Weak a → Asks Strong a → (notion : Notion) → Asks notion a
 both a weak strong Weak = weak
@@ -209,7 +209,7 @@ moved-by t h self symbol n from k silent e s so li ob x is largest same after pu
 
 -- the verdict of one secret that was found for an estimator, as that of the symbol that led to it
 found-by : (notion : Notion) (t : List ℕ) (h : Header) (self : Estimator) (symbol n : ℕ) (s : Estimator) (c : Secret) (v : Verdict) → c .k ≤ lookBackOf h (s .further)
-    → Moved t h self symbol n s → Found notion (automatonOf t h) (c .states) (min (c .k) (s .count)) s v → TellsBy notion t h self symbol c (stepsOf v)
+    → Moved t h self symbol n s → Found notion (automatonOf t h) (c .states) (min (c .k) (s .count)) (s .count) s v → TellsBy notion t h self symbol c (stepsOf v)
 found-by notion t h self symbol n s c v low m f =
     record {
       bounded = bounded-up _ _ (stepsOf v) (omega arith) (f .bounded);

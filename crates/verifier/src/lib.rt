@@ -1,20 +1,23 @@
 use automaton::Header;
 use automaton::Reach;
 use automaton::Refusal;
+use automaton::StateSets;
 ghost use mathlib.Core.Path.{_≡_};
 ghost use mathlib.Core.List.{List, [], _∷_, _++_};
-ghost use Prim.Native.Nat.{ℕ, _+_, _≤_, _<_, min};
+ghost use Prim.Native.Nat.{ℕ, _+_, _^_, _≤_, _<_, min};
+ghost use lib.Bits.{bitAnd};
 ghost use lib.ListN.{length, getD, replicate};
-ghost use Rattle.stateset.specs.Set.{In, Is, Decided};
+ghost use Rattle.stateset.specs.Set.{In, Is, Decided, complement};
 ghost use Rattle.automaton.specs.Run.{Automaton, automatonOf, Possible, Sound};
 ghost use Rattle.automaton.specs.Reaching.{Enters, Arrives, Showing, Known, Gained, Closed, Entered};
-ghost use Rattle.automaton.specs.Relation.{Sub};
+ghost use Rattle.automaton.specs.Relation.{Sub, setAt};
 ghost use Rattle.verifier.specs.declared.Notion.the-variants as notion;
+ghost use Rattle.verifier.specs.declared.Verdict.the-variants as verdict;
 ghost use Rattle.verifier.specs.Secrets.{own, furtherOf, secretsOf, secretAt, lookBackOf, clearedOf, noFurther, Allowed};
 ghost use Rattle.verifier.specs.Estimators.{Limits, InLimits, Grown, GrownOn};
 ghost use Rattle.verifier.specs.declared.Answer.the-variants as answer;
 ghost use Rattle.verifier.specs.Replies.{said, saidBy, chosen, chosenEach, Others, OthersBy, Unusable, Opening, Accepting, AcceptingBy};
-ghost use Rattle.verifier.specs.Inner.{Inside, Pushed, Estimated, Next, Sampled, UnobservableReach, Prepared, Explored, Found, Delayed, Asks, askFor, chosenAnswer, Judged, JudgedAt, JudgedAll, Opened, AcceptingAsked};
+ghost use Rattle.verifier.specs.Inner.{Inside, Pushed, Estimated, Next, Sampled, UnobservableReach, Prepared, Explored, Found, Delayed, verdictAt, WithStep, StrongGiven, StrongEach, Asks, askFor, chosenAnswer, Judged, JudgedAt, JudgedAll, Opened, AcceptingAsked};
 
 // 01's "none", or "leak" with its steps.
 pub enum Verdict {
@@ -340,14 +343,14 @@ fn weak_verdict(
     states: u64,
     estimate: u64,
     secret: u64,
-    last: u8,
 ) -> Verdict
-    requires { ⌜ Prepared (now table) header (now sets) estimator (now silent) (now back) states last × (last ≤ estimator .count)
+    requires { ⌜ Prepared (now table) header (now sets) estimator (now silent) (now back) states (estimator .count)
         × UnobservableReach (automatonOf (now table) header) (getD (estimator .entries) 0 0) estimate ⌝ }
-    ensures { λ r. ⌜ Found notion.Weak (automatonOf (now (table .entry)) header) secret last estimator r ⌝ }
+    ensures { λ r. ⌜ Found notion.Weak (automatonOf (now (table .entry)) header) secret (estimator .count) (estimator .count) estimator r ⌝ }
 {
     let symbols = estimator.symbols;
     let entries = estimator.entries;
+    let last = estimator.count; // K, or n where that is less
     let mut then = states;
     let mut possible = estimate;
     let mut l: u8 = 0; // from 0 upward
@@ -364,7 +367,7 @@ fn weak_verdict(
         if todo == 0 {
             return Verdict::Leak(l);
         }
-        if l == last { // the secret's K, or n where that is less
+        if l == last { // K, or n
             return Verdict::NoLeak;
         }
         let shown = automaton::events_with(sets, symbols[l as usize]);
@@ -385,13 +388,13 @@ fn strong_verdict(
     back: &[u64],
     states: u64,
     secret: u64,
-    last: u8,
 ) -> Verdict
-    requires { ⌜ Prepared (now table) header (now sets) estimator (now silent) (now back) states last × (last ≤ estimator .count) ⌝ }
-    ensures { λ r. ⌜ Found notion.Strong (automatonOf (now (table .entry)) header) secret last estimator r ⌝ }
+    requires { ⌜ Prepared (now table) header (now sets) estimator (now silent) (now back) states (estimator .count) ⌝ }
+    ensures { λ r. ⌜ Found notion.Strong (automatonOf (now (table .entry)) header) secret (estimator .count) (estimator .count) estimator r ⌝ }
 {
     let symbols = estimator.symbols;
     let entries = estimator.entries;
+    let last = estimator.count;
     let clear = states & !secret;
     let mut then = clear;
     let mut l: u8 = 0;
@@ -406,6 +409,139 @@ fn strong_verdict(
         let shown = automaton::events_with(sets, symbols[at]);
         then = automaton::backward_reach(table, back, clear, shown, then);
         l += 1;
+    }
+}
+
+// A strong verdict with one more step tested, l: one that was found stays; else it is leak l where no state of the entry set is in `then`.
+fn with_step(found: Verdict, entry: u64, then: u64, l: u8) -> Verdict
+    ensures { λ r. ⌜ WithStep entry then l found r ⌝ }
+{
+    match found {
+        Verdict::Leak(m) => Verdict::Leak(m),
+        Verdict::NoLeak => {
+            if entry & then == 0 {
+                return Verdict::Leak(l);
+            }
+            Verdict::NoLeak
+        }
+    }
+}
+
+// So for each of four.
+fn with_steps(found: VerdictsBy, entry: u64, then: StateSets, l: u8) -> VerdictsBy
+    ensures { λ r. ⌜ ((i : ℕ) → i < 4 → WithStep entry (setAt then i) l (verdictAt found i) (verdictAt r i)) ⌝ }
+{
+    let own = found.own;
+    let first = found.first;
+    let second = found.second;
+    let third = found.third;
+    VerdictsBy {
+        own: with_step(own, entry, then.own, l),
+        first: with_step(first, entry, then.first, l),
+        second: with_step(second, entry, then.second, l),
+        third: with_step(third, entry, then.third, l),
+    }
+}
+
+// No verdict found yet.
+fn none_found() -> VerdictsBy
+    ensures { λ r. ⌜ ((i : ℕ) → i < 4 → verdictAt r i ≡ verdict.NoLeak) ⌝ }
+{
+    VerdictsBy {
+        own: Verdict::NoLeak,
+        first: Verdict::NoLeak,
+        second: Verdict::NoLeak,
+        third: Verdict::NoLeak,
+    }
+}
+
+// The strong verdicts of four secrets, over all steps that are remembered: as `strong_verdict` takes them, in one pass for all. `clear` has for each the
+// states that are not in it.
+fn strong_verdicts(
+    estimator: Estimator,
+    table: &[u64],
+    header: Header,
+    sets: &[u32],
+    silent: &[u64],
+    back: &[u64],
+    states: u64,
+    clear: StateSets,
+) -> VerdictsBy
+    requires { ⌜ Prepared (now table) header (now sets) estimator (now silent) (now back) states (estimator .count) ⌝ }
+    ensures { λ r. ⌜ ((i secret : ℕ) → i < 4 → secret < 2 ^ 64 → setAt clear i ≡ bitAnd states (complement secret)
+        → Found notion.Strong (automatonOf (now (table .entry)) header) secret (estimator .count) (estimator .count) estimator (verdictAt r i)) ⌝ }
+{
+    let symbols = estimator.symbols;
+    let entries = estimator.entries;
+    let last = estimator.count;
+    let mut then = clear;
+    let mut found = none_found();
+    let mut l: u8 = 0;
+    'steps: loop {
+        let at = l as usize;
+        let entry = entries[at];
+        found = with_steps(found, entry, then, l);
+        if l == last {
+            return found;
+        }
+        let shown = automaton::events_with(sets, symbols[at]);
+        then = automaton::backward_reaches(table, back, states, clear, shown, then);
+        l += 1;
+    }
+}
+
+// The states that are not in the secret with a number. None where it is not given: such a place costs no closure.
+fn outside_secret(header: Header, further: Further, states: u64, i: u8) -> u64
+    ensures { λ r. ⌜ (further .count < i → r ≡ 0) × (i ≤ further .count → (secretAt (secretsOf header further) i .states < 2 ^ 64)
+        × (r ≡ bitAnd states (complement (secretAt (secretsOf header further) i .states)))) ⌝ }
+{
+    if further.count < i {
+        return 0;
+    }
+    let secret = secret_at(header, further, i);
+    states & !secret.states
+}
+
+// The strong verdicts of the secrets that are given, where they are asked for. What stands in the place of one that is not given says nothing.
+fn strong_each(
+    estimator: Estimator,
+    table: &[u64],
+    header: Header,
+    sets: &[u32],
+    silent: &[u64],
+    back: &[u64],
+    states: u64,
+    asked: Asked,
+) -> VerdictsBy
+    requires { ⌜ Prepared (now table) header (now sets) estimator (now silent) (now back) states (estimator .count) ⌝ }
+    ensures { λ r. ⌜ StrongEach (now (table .entry)) header estimator asked r ⌝ }
+{
+    if !asked.strong {
+        return none_found();
+    }
+    let further = estimator.further;
+    let clear = StateSets {
+        own: outside_secret(header, further, states, 0),
+        first: outside_secret(header, further, states, 1),
+        second: outside_secret(header, further, states, 2),
+        third: outside_secret(header, further, states, 3),
+    };
+    strong_verdicts(estimator, table, header, sets, silent, back, states, clear)
+}
+
+// The verdict over fewer steps.
+fn up_to(found: Verdict, last: u8) -> Verdict
+    ensures { λ r. ⌜ (found ≡ verdict.NoLeak → r ≡ verdict.NoLeak)
+        × ((notion : Notion) (p : Automaton) (secret n : ℕ) (s : Estimator) → last ≤ n → Found notion p secret n n s found → Found notion p secret last n s r) ⌝ }
+{
+    match found {
+        Verdict::NoLeak => Verdict::NoLeak,
+        Verdict::Leak(l) => {
+            if last < l {
+                return Verdict::NoLeak;
+            }
+            Verdict::Leak(l)
+        }
     }
 }
 
@@ -469,7 +605,7 @@ fn shared_estimates(
 fn first_secret(past: &[u64], secret: u64, last: u8) -> Verdict
     requires { ⌜ (length (now past) ≡ 16) × (last ≤ 15) ⌝ }
     ensures { λ r. ⌜ ((p : Automaton) (s : Estimator) (n : ℕ) → Delayed p (s .symbols) (s .entries) n (now (past .entry)) → last ≤ n
-        → Found notion.Weak p secret last s r) ⌝ }
+        → Found notion.Weak p secret last n s r) ⌝ }
 {
     let mut l: u8 = 0;
     'steps: loop {
@@ -493,7 +629,7 @@ fn first_secret(past: &[u64], secret: u64, last: u8) -> Verdict
 }
 
 // The verdicts of the automaton's own secret, where no further one shares what is worked out: by the notions that are asked for, and none for the
-// others. Each look back stops where it can.
+// others. Each look back goes over all that is remembered, which is no more than the own K, and stops where it can.
 fn judge_alone(
     estimator: Estimator,
     table: &[u64],
@@ -508,7 +644,6 @@ fn judge_alone(
         × UnobservableReach (automatonOf (now table) header) (getD (estimator .entries) 0 0) (estimate .states) × (estimator .further .count ≡ 0) ⌝ }
     ensures { λ r. ⌜ Judged (now (table .entry)) header estimator (own header) asked r ⌝ }
 {
-    let last = estimator.count; // it remembers no more than the own K
     let near = estimate.near;
     let secret = header.secret;
     let mut weak = Verdict::NoLeak;
@@ -523,22 +658,11 @@ fn judge_alone(
             near,
             estimate.states,
             secret,
-            last,
         );
     }
     let mut strong = Verdict::NoLeak;
     if asked.strong {
-        strong = strong_verdict(
-            estimator,
-            table,
-            header,
-            sets,
-            silent,
-            back,
-            near,
-            secret,
-            last,
-        );
+        strong = strong_verdict(estimator, table, header, sets, silent, back, near, secret);
     }
     Verdicts {
         weak: weak,
@@ -546,21 +670,19 @@ fn judge_alone(
     }
 }
 
-// The verdicts of one secret, each up to its own K, from the sets that all secrets share.
+// The verdicts of one secret, each up to its own K, from what was worked out for all: the sets m(l), and its strong verdict over all steps.
 fn judge(
     estimator: Estimator,
     table: &[u64],
     header: Header,
-    sets: &[u32],
-    silent: &[u64],
-    back: &[u64],
-    near: u64,
     past: &[u64],
     secret: Secret,
+    found: Verdict,
     asked: Asked,
 ) -> Verdicts
-    requires { ⌜ Prepared (now table) header (now sets) estimator (now silent) (now back) near (estimator .count) × (length (now past) ≡ 16)
-        × (Asks notion.Weak asked → Delayed (automatonOf (now table) header) (estimator .symbols) (estimator .entries) (estimator .count) (now past)) ⌝ }
+    requires { ⌜ (estimator .count ≤ 15) × (length (now past) ≡ 16)
+        × (Asks notion.Weak asked → Delayed (automatonOf (now table) header) (estimator .symbols) (estimator .entries) (estimator .count) (now past))
+        × StrongGiven (now table) header estimator asked secret found ⌝ }
     ensures { λ r. ⌜ Judged (now (table .entry)) header estimator secret asked r ⌝ }
 {
     let last = smaller(secret.k, estimator.count);
@@ -569,20 +691,7 @@ fn judge(
     if asked.weak {
         weak = first_secret(past, states, last);
     }
-    let mut strong = Verdict::NoLeak;
-    if asked.strong {
-        strong = strong_verdict(
-            estimator,
-            table,
-            header,
-            sets,
-            silent,
-            back,
-            near,
-            states,
-            last,
-        );
-    }
+    let strong = up_to(found, last);
     Verdicts {
         weak: weak,
         strong: strong,
@@ -733,16 +842,14 @@ impl Estimator {
         self,
         table: &[u64],
         header: Header,
-        sets: &[u32],
-        silent: &[u64],
-        back: &[u64],
-        near: u64,
         past: &[u64],
         i: u8,
+        found: Verdict,
         asked: Asked,
     ) -> Verdicts
-        requires { ⌜ Prepared (now table) header (now sets) self (now silent) (now back) near (self .count) × (length (now past) ≡ 16)
-            × (Asks notion.Weak asked → Delayed (automatonOf (now table) header) (self .symbols) (self .entries) (self .count) (now past)) ⌝ }
+        requires { ⌜ (self .count ≤ 15) × (self .further .count ≤ 3) × (length (now past) ≡ 16)
+            × (Asks notion.Weak asked → Delayed (automatonOf (now table) header) (self .symbols) (self .entries) (self .count) (now past))
+            × (i ≤ self .further .count → StrongGiven (now table) header self asked (secretAt (secretsOf header (self .further)) i) found) ⌝ }
         ensures { λ r. ⌜ JudgedAt (now (table .entry)) header self asked i r ⌝ }
     {
         if self.further.count < i {
@@ -753,18 +860,37 @@ impl Estimator {
         }
         let further = self.further;
         let secret = secret_at(header, further, i);
-        judge(
-            self,
-            table,
-            header,
-            sets,
-            silent,
-            back,
-            near,
-            past,
-            secret,
-            asked,
-        )
+        judge(self, table, header, past, secret, found, asked)
+    }
+
+    // The verdicts of all four places, from what was worked out for all.
+    fn judge_places(
+        self,
+        table: &[u64],
+        header: Header,
+        past: &[u64],
+        found: VerdictsBy,
+        asked: Asked,
+    ) -> SecretVerdicts
+        requires { ⌜ (self .count ≤ 15) × (self .further .count ≤ 3) × (length (now past) ≡ 16)
+            × (Asks notion.Weak asked → Delayed (automatonOf (now table) header) (self .symbols) (self .entries) (self .count) (now past))
+            × StrongEach (now table) header self asked found ⌝ }
+        ensures { λ r. ⌜ JudgedAll (now (table .entry)) header self asked r ⌝ }
+    {
+        let found_own = found.own;
+        let found_first = found.first;
+        let found_second = found.second;
+        let found_third = found.third;
+        let own = self.judge_at(table, header, past, 0, found_own, asked);
+        let first = self.judge_at(table, header, past, 1, found_first, asked);
+        let second = self.judge_at(table, header, past, 2, found_second, asked);
+        let third = self.judge_at(table, header, past, 3, found_third, asked);
+        SecretVerdicts {
+            own: own,
+            first: first,
+            second: second,
+            third: third,
+        }
     }
 
     // The verdicts of all secrets, with what they share.
@@ -794,17 +920,17 @@ impl Estimator {
             &mut past,
             asked,
         );
-        let near = estimate.near;
-        let own = self.judge_at(table, header, sets, silent, back, near, &past, 0, asked);
-        let first = self.judge_at(table, header, sets, silent, back, near, &past, 1, asked);
-        let second = self.judge_at(table, header, sets, silent, back, near, &past, 2, asked);
-        let third = self.judge_at(table, header, sets, silent, back, near, &past, 3, asked);
-        SecretVerdicts {
-            own: own,
-            first: first,
-            second: second,
-            third: third,
-        }
+        let found = strong_each(
+            self,
+            table,
+            header,
+            sets,
+            silent,
+            back,
+            estimate.near,
+            asked,
+        );
+        self.judge_places(table, header, &past, found, asked)
     }
 
     // The verdicts of all secrets: where there is none further, nothing is shared, and the own one costs what it costs alone.

@@ -22,12 +22,12 @@ Inv-loop sets₀ symbols observable todo₀ sets todo = (todo < 2 ^ 64) × (leng
 abbrev μ-loop : tie.MeasureT-loop
 μ-loop sets₀ symbols observable todo₀ sets todo = todo
 
-pick : (c : tie.In-loop Inv-loop μ-loop) → Taken (c .before .loop .todo) (trailingZeros 64 (c .before .loop .todo)) (bitAnd (c .before .loop .todo) (c .before .loop .todo - 1))
-pick c = taken (c .before .loop .todo) (omega arith) (c .before .loop .inv .0)
+next : (c : tie.In-loop Inv-loop μ-loop) → Taken (c .before .loop .todo) (trailingZeros 64 (c .before .loop .todo)) (bitAnd (c .before .loop .todo) (c .before .loop .todo - 1))
+next c = taken (c .before .loop .todo) (omega arith) (c .before .loop .inv .0)
 
 -- the event that is looked at, and its symbol
 seen : (c : tie.In-loop Inv-loop μ-loop) → In (trailingZeros 64 (c .before .loop .todo)) (c .before .before .before .before .args .header .observable)
-seen c = c .before .loop .inv .3 _ (pick c .inside)
+seen c = c .before .loop .inv .3 _ (next c .inside)
 
 abbrev symbolIn : tie.In-loop Inv-loop μ-loop → ℕ
 symbolIn c = getD (c .before .before .before .before .args .header .symbols) (trailingZeros 64 (c .before .loop .todo)) 0
@@ -44,12 +44,12 @@ loop-holds c =
     (omega arith, ap length empty ∙ refl, omega arith, λ e i. i, λ k h. sort-start _ _ k _ (ap (λ (l : List ℕ). getD l k 0) empty ∙ zeros 32 k))
 
 cast-e : tie.Need-cast-e Inv-loop μ-loop
-cast-e c = omega (arith, pick c .small)
+cast-e c = omega (arith, next c .small)
 
 array-read-s : tie.Need-array-read-s Inv-loop μ-loop
 array-read-s c =
     let v = c .before .loop .inv in
-    omega (arith, in-lt 32 _ _ (v .2) (v .3 _ (pick c .inside)))
+    omega (arith, in-lt 32 _ _ (v .2) (v .3 _ (next c .inside)))
 
 cast-s : tie.Need-cast-s Inv-loop μ-loop
 cast-s c = omega (arith, small c)
@@ -77,12 +77,12 @@ sub-todo : tie.Need-sub-todo Inv-loop μ-loop
 sub-todo c = omega arith
 
 loop-less : tie.Need-loop-less Inv-loop μ-loop
-loop-less c = pick (c .before) .less
+loop-less c = next (c .before) .less
 
 loop-again : tie.Need-loop-again Inv-loop μ-loop
 loop-again c =
     let v = c .before .before .loop .inv in
-    let k = pick (c .before) in (
+    let k = next (c .before) in (
       omega (arith, k .less),
       simp length-set (v .1),
       v .2,

@@ -22,8 +22,8 @@ Inv-loop table events set left₀ r₀ left r = (left < 2 ^ 64) × Joined (λ e.
 abbrev μ-loop : tie.MeasureT-loop
 μ-loop table events set left₀ r₀ left r = left
 
-pick : (c : tie.In-loop Inv-loop μ-loop) → Taken (c .before .loop .left) (trailingZeros 64 (c .before .loop .left)) (bitAnd (c .before .loop .left) (c .before .loop .left - 1))
-pick c = taken (c .before .loop .left) (omega arith) (c .before .loop .inv .0)
+next : (c : tie.In-loop Inv-loop μ-loop) → Taken (c .before .loop .left) (trailingZeros 64 (c .before .loop .left)) (bitAnd (c .before .loop .left) (c .before .loop .left - 1))
+next c = taken (c .before .loop .left) (omega arith) (c .before .loop .inv .0)
 
 falls : (a b k : ℕ) → b < k → bitAnd a b < k
 falls a b k h = lt-of-le-of-lt (and-le-r a b) h
@@ -32,11 +32,11 @@ loop-holds : tie.Need-loop-holds Inv-loop μ-loop
 loop-holds c = (omega arith, join-start _ _)
 
 cast-e : tie.Need-cast-e Inv-loop μ-loop
-cast-e c = omega (arith, pick c .small)
+cast-e c = omega (arith, next c .small)
 
 -- the event that is looked at
 small : (c : tie.In-loop Inv-loop μ-loop) → trailingZeros 64 (c .before .loop .left) < 32
-small c = c .before .before .before .pre .1 _ (c .before .loop .inv .1 .sub _ (pick c .inside))
+small c = c .before .before .before .pre .1 _ (c .before .loop .inv .1 .sub _ (next c .inside))
 
 event-rows-requires : tie.Need-event-rows-requires Inv-loop μ-loop
 event-rows-requires c κs = (c .before .before .before .pre .0, small c)
@@ -53,7 +53,7 @@ loop-less c = falls (c .before .before .before .loop .left) _ _ (omega arith)
 loop-again : tie.Need-loop-again Inv-loop μ-loop
 loop-again c = (
   falls (c .before .before .before .loop .left) _ _ (omega (arith, c .before .before .before .loop .inv .0)),
-  join-turn _ _ _ _ _ _ _ (pick (c .before .before))
+  join-turn _ _ _ _ _ _ _ (next (c .before .before))
       (subst (λ (l : List ℕ). Is (c .image .result) (Image (Row l) (c .before .before .before .before .before .args .set))) (c .before .event-rows .ensures) (c .image .ensures))
       (c .before .before .before .loop .inv .1),
 )

@@ -2,37 +2,37 @@
 -- Assumes nothing.
 use mathlib.Core.Path.{ap, subst, _∙_}
 use mathlib.Core.List.{List}
-use Prim.Native.Nat.{ℕ, _-_, _^_, _<_}
+use Prim.Native.Nat.{ℕ, _-_, _*_, _^_, _<_}
 use native.Mathlib.Omega.{arith}
 use lib.ListN.{length}
 use lib.Bits.{bitAnd}
 use lib.Count.{trailingZeros}
 use Rattle.stateset.specs.Set.{Is}
 use Rattle.stateset.proofs.Bits.{Taken, taken}
-use Rattle.automaton.specs.Relation.{Row, Preimage}
 use Rattle.automaton.proofs.Entering.{part-size}
+use Rattle.automaton.proofs.Falling.{Leading}
 use Rattle.automaton.proofs.Joining.{Joined, wordsOf, join-start, join-turn, join-end, preimage-joined}
 use Rattle.automaton.proofs.preimage_by.Statement.{statement}
 use Rattle.automaton.proofs.preimage_by.Tie as tie
 
 abbrev Inv-loop : tie.InvT-loop
-Inv-loop table events few set todo₀ r₀ todo r = (todo < 2 ^ 64) × Joined (λ e q. (q < few) × Preimage (Row (wordsOf table e)) set q) events todo r
+Inv-loop table events pairs set todo₀ r₀ todo r = (todo < 2 ^ 64) × Joined (λ e. Leading (wordsOf table e) (2 * pairs) set) events todo r
 
 abbrev μ-loop : tie.MeasureT-loop
-μ-loop table events few set todo₀ r₀ todo r = todo
+μ-loop table events pairs set todo₀ r₀ todo r = todo
 
-pick : (c : tie.In-loop Inv-loop μ-loop) → Taken (c .before .loop .todo) (trailingZeros 64 (c .before .loop .todo)) (bitAnd (c .before .loop .todo) (c .before .loop .todo - 1))
-pick c = taken (c .before .loop .todo) (omega arith) (c .before .loop .inv .0)
+next : (c : tie.In-loop Inv-loop μ-loop) → Taken (c .before .loop .todo) (trailingZeros 64 (c .before .loop .todo)) (bitAnd (c .before .loop .todo) (c .before .loop .todo - 1))
+next c = taken (c .before .loop .todo) (omega arith) (c .before .loop .inv .0)
 
 loop-holds : tie.Need-loop-holds Inv-loop μ-loop
 loop-holds c = (omega arith, join-start _ _)
 
 cast-e : tie.Need-cast-e Inv-loop μ-loop
-cast-e c = omega (arith, pick c .small)
+cast-e c = omega (arith, next c .small)
 
 -- the event that is looked at
 small : (c : tie.In-loop Inv-loop μ-loop) → trailingZeros 64 (c .before .loop .todo) < 32
-small c = c .before .before .before .pre .1 _ (c .before .loop .inv .1 .sub _ (pick c .inside))
+small c = c .before .before .before .pre .1 _ (c .before .loop .inv .1 .sub _ (next c .inside))
 
 event-rows-requires : tie.Need-event-rows-requires Inv-loop μ-loop
 event-rows-requires c κs = (c .before .before .before .pre .0, small c)
@@ -44,20 +44,24 @@ sub-todo : tie.Need-sub-todo Inv-loop μ-loop
 sub-todo c = omega arith
 
 loop-less : tie.Need-loop-less Inv-loop μ-loop
-loop-less c = pick (c .before .before) .less
+loop-less c = next (c .before .before) .less
 
 loop-again : tie.Need-loop-again Inv-loop μ-loop
-loop-again c = (
-  omega (arith, pick (c .before .before) .less),
-  join-turn _ _ _ _ _ _ _ (pick (c .before .before))
-      (subst (λ (l : List ℕ). Is (c .preimage .result) (λ q. (q < c .before .before .before .before .before .args .few) × Preimage (Row l) (c .before .before .before .before .before .args .set) q)) (c .before .event-rows .ensures) (c .preimage .ensures))
-      (c .before .before .before .loop .inv .1),
-)
+loop-again c =
+    let l = c .before .before .before .loop in
+    let a = c .before .before .before .before .before .args in
+    let k = next (c .before .before) in (
+      omega (arith, k .less),
+      join-turn _ _ _ _ _ _ _ k
+          (subst (λ (w : List ℕ). Is (c .preimage .result) (Leading w (2 * a .pairs) (a .set))) (c .before .event-rows .ensures) (c .preimage .ensures))
+          (l .inv .1),
+    )
 
 returns : tie.Need-returns Inv-loop μ-loop
 returns c =
     let s = c .before .before .before in
-    preimage-joined _ _ _ _ (s .pre .0) (λ k. omega (arith, c .before .before .shared-slice-known .given k)) (s .pre .1) _ (join-end _ _ _ _ (c .loop-test .left) (c .before .loop .inv .1))
+    preimage-joined _ _ _ _ (s .pre .0) (λ k. omega (arith, c .before .before .shared-slice-known .given k)) (s .pre .1) (2 * s .args .pairs)
+    (join-end _ _ _ _ (c .loop-test .left) (c .before .loop .inv .1))
 
 pub preimage-by-spec : {M : Type 1} → statement M
 preimage-by-spec =

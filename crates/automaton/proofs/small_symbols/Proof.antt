@@ -15,8 +15,8 @@ Inv-loop symbols observable untested₀ untested = Tested symbols observable unt
 abbrev μ-loop : tie.MeasureT-loop
 μ-loop symbols observable untested₀ untested = untested
 
-pick : (c : tie.In-loop Inv-loop μ-loop) → Taken (c .before .loop .untested) (trailingZeros 64 (c .before .loop .untested)) (bitAnd (c .before .loop .untested) (c .before .loop .untested - 1))
-pick c = taken (c .before .loop .untested) (omega arith) (c .before .loop .inv .1)
+next : (c : tie.In-loop Inv-loop μ-loop) → Taken (c .before .loop .untested) (trailingZeros 64 (c .before .loop .untested)) (bitAnd (c .before .loop .untested) (c .before .loop .untested - 1))
+next c = taken (c .before .loop .untested) (omega arith) (c .before .loop .inv .1)
 
 upper-bound-requires : tie.Need-upper-bound-requires Inv-loop μ-loop
 upper-bound-requires c κs = search needs
@@ -32,26 +32,26 @@ loop-holds : tie.Need-loop-holds Inv-loop μ-loop
 loop-holds c = (test-start _ _ (omega arith), omega arith)
 
 cast-e : tie.Need-cast-e Inv-loop μ-loop
-cast-e c = omega (arith, pick c .small)
+cast-e c = omega (arith, next c .small)
 
 array-read-if2 : tie.Need-array-read-if2 Inv-loop μ-loop
 array-read-if2 c =
     let g = c .before .loop .inv .0 in
-    omega (arith, in-lt 32 _ _ (g .small) (g .sub _ (pick c .inside)))
+    omega (arith, in-lt 32 _ _ (g .small) (g .sub _ (next c .inside)))
 
 returns-2 : tie.Need-returns-2 Inv-loop μ-loop
 returns-2 c = λ all.
     let g = c .before .before .loop .inv .0 in
-    omega (arith, all _ (g .sub _ (pick (c .before) .inside)), c .if2 .taken)
+    omega (arith, all _ (g .sub _ (next (c .before) .inside)), c .if2 .taken)
 
 sub-untested : tie.Need-sub-untested Inv-loop μ-loop
 sub-untested c = omega arith
 
 loop-less : tie.Need-loop-less Inv-loop μ-loop
-loop-less c = pick (c .before) .less
+loop-less c = next (c .before) .less
 
 loop-again : tie.Need-loop-again Inv-loop μ-loop
-loop-again c = (test-turn _ _ _ _ _ (pick (c .before)) (omega (arith, c .if2 .left)) (c .before .before .loop .inv .0), omega (arith, pick (c .before) .less))
+loop-again c = (test-turn _ _ _ _ _ (next (c .before)) (omega (arith, c .if2 .left)) (c .before .before .loop .inv .0), omega (arith, next (c .before) .less))
 
 returns-3 : tie.Need-returns-3 Inv-loop μ-loop
 returns-3 c = test-end _ _ _ (c .loop-test .left) (c .before .loop .inv .0)

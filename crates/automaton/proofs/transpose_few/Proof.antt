@@ -1,5 +1,5 @@
 -- `automaton::transpose_few` meets its contract. Both loops have the invariant `Turning`. Assumes nothing.
-use mathlib.Core.Path.{_≡_, sym, subst, ap, _∙_}
+use mathlib.Core.Path.{sym, subst, ap, _∙_}
 use mathlib.Core.List.{List}
 use Prim.Native.Nat.{ℕ, _-_, _^_, _≤_, _<_}
 use native.Mathlib.Omega.{arith}
@@ -24,9 +24,9 @@ Inv-loop rows few out₀ p₀ out p = (p ≤ few) × Turning rows out p (getD ro
 abbrev μ-loop : tie.MeasureT-loop
 μ-loop rows few out₀ p₀ out p = few - p
 
-pick : (c : tie.In-loop2 Inv-loop2 μ-loop2 Inv-loop μ-loop)
+next : (c : tie.In-loop2 Inv-loop2 μ-loop2 Inv-loop μ-loop)
     → Taken (c .before .loop2 .todo) (trailingZeros 64 (c .before .loop2 .todo)) (bitAnd (c .before .loop2 .todo) (c .before .loop2 .todo - 1))
-pick c = taken (c .before .loop2 .todo) (omega arith) (c .before .loop2 .inv .0)
+next c = taken (c .before .loop2 .todo) (omega arith) (c .before .loop2 .inv .0)
 
 loop-holds : tie.Need-loop-holds Inv-loop2 μ-loop2 Inv-loop μ-loop
 loop-holds c = (omega arith, subst (λ (l : List ℕ). Turning (now (c .args .rows)) l 0 (getD (now (c .args .rows)) 0 0)) (sym (c .pre .2)) (turning-start _))
@@ -41,28 +41,28 @@ loop2-holds : tie.Need-loop2-holds Inv-loop2 μ-loop2 Inv-loop μ-loop
 loop2-holds c = (c .shared-slice-known .given _ .fits, c .before .before .loop .inv .1)
 
 cast-q : tie.Need-cast-q Inv-loop2 μ-loop2 Inv-loop μ-loop
-cast-q c = omega (arith, pick c .small)
+cast-q c = omega (arith, next c .small)
 
 shl-out : tie.Need-shl-out Inv-loop2 μ-loop2 Inv-loop μ-loop
 shl-out c = omega arith
 
 mul-out : tie.Need-mul-out Inv-loop2 μ-loop2 Inv-loop μ-loop
-mul-out c = omega (arith, pick c .small)
+mul-out c = omega (arith, next c .small)
 
 slice-read-out : tie.Need-slice-read-out Inv-loop2 μ-loop2 Inv-loop μ-loop
-slice-read-out c = omega (arith, pick (c .before) .small, c .before .before .loop2 .inv .1 .size)
+slice-read-out c = omega (arith, next (c .before) .small, c .before .before .loop2 .inv .1 .size)
 
 slice-write-out : tie.Need-slice-write-out Inv-loop2 μ-loop2 Inv-loop μ-loop
-slice-write-out c = omega (arith, pick (c .before) .small, c .before .before .loop2 .inv .1 .size)
+slice-write-out c = omega (arith, next (c .before) .small, c .before .before .loop2 .inv .1 .size)
 
 sub-todo : tie.Need-sub-todo Inv-loop2 μ-loop2 Inv-loop μ-loop
 sub-todo c = omega arith
 
 loop2-less : tie.Need-loop2-less Inv-loop2 μ-loop2 Inv-loop μ-loop
-loop2-less c = pick (c .before) .less
+loop2-less c = next (c .before) .less
 
 loop2-again : tie.Need-loop2-again Inv-loop2 μ-loop2 Inv-loop μ-loop
-loop2-again c = (omega (arith, pick (c .before) .less), turning-turn _ _ _ _ _ _ (omega arith) (pick (c .before)) (c .before .before .loop2 .inv .1))
+loop2-again c = (omega (arith, next (c .before) .less), turning-turn _ _ _ _ _ _ (omega arith) (next (c .before)) (c .before .before .loop2 .inv .1))
 
 add-p : tie.Need-add-p Inv-loop2 μ-loop2 Inv-loop μ-loop
 add-p c = omega arith

@@ -6,8 +6,8 @@ use borrow.Author.Needs.{needs}
 use Rattle.gateway.proofs.read_secret.Statement.{statement}
 use Rattle.gateway.proofs.read_secret.Tie as tie
 
-number-at-requires : tie.Need-number-at-requires
-number-at-requires c κs = search needs
+word-at-requires : tie.Need-word-at-requires
+word-at-requires c κs = search needs
 
 add-t4 : tie.Need-add-t4
 add-t4 c = search needs
@@ -18,7 +18,7 @@ shared-slice-read-t6 c = search needs
 returns : tie.Need-returns
 returns c =
     let a = c .before .before .before .args in
-    λ i. record { states = c .before .number-at .ensures i; k = getD (now (a .bytes)) (a .at + 8) 0 }
+    λ i. record { states = c .before .word-at .ensures i; k = getD (now (a .bytes)) (a .at + 8) 0 }
 
 pub read-secret-spec : {M : Type 1} → statement M
-read-secret-spec = tie.close (tie.spec number-at-requires add-t4 shared-slice-read-t6 returns)
+read-secret-spec = tie.close (tie.spec word-at-requires add-t4 shared-slice-read-t6 returns)

@@ -3,7 +3,6 @@ use mathlib.Core.Path.{refl}
 use borrow.Author.Needs.{needs}
 use Rattle.verifier.proofs.choose_each.Statement.{statement}
 use Rattle.verifier.proofs.choose_each.Tie as tie
-use Rattle.verifier.proofs.choose.Reads as choose-reads
 
 choose-requires : tie.Need-choose-requires
 choose-requires c κs = search needs

@@ -15,9 +15,6 @@ use Rattle.verifier.specs.Inner.{Looks, Remembers, UnobservableReach}
 use Rattle.verifier.proofs.LookBack.{prepared-few, remembers-part, Follows, follows-start, follows-step, delayed-whole, Past, past-start, past-turn}
 use Rattle.verifier.proofs.delayed_estimates.Statement.{statement}
 use Rattle.verifier.proofs.delayed_estimates.Tie as tie
-use Rattle.automaton.proofs.backward_reach.Reads as backward-reach-reads
-use Rattle.automaton.proofs.events_with.Reads as events-with-reads
-use Rattle.automaton.proofs.unobservable_reach.Reads as unobservable-reach-reads
 
 abbrev Inv-loop : tie.InvT-loop
 Inv-loop table sets silent back past₀ symbols entries last near then₀ l₀ past then l =

@@ -12,7 +12,7 @@ use Rattle.automaton.specs.Notion.{ClearAt}
 use Rattle.verifier.specs.declared.Notion.the-variants.{Weak}
 use Rattle.verifier.specs.Verdicts.{NoLeakBelow}
 use Rattle.verifier.proofs.Passing.{Passed, pass-start, pass-turn, pass-end, digit-in}
-use Rattle.verifier.proofs.LookBack.{ForPast, past-by, below-start, below-step, below-leak, below-last, decided-sure, decided-clear}
+use Rattle.verifier.proofs.LookBack.{remembers-part, ForPast, past-by, below-start, below-step, below-leak, below-last, decided-sure, decided-clear}
 use Rattle.verifier.proofs.first_secret.Statement.{statement}
 use Rattle.verifier.proofs.first_secret.Tie as tie
 
@@ -89,7 +89,8 @@ returns c = λ p s n d few.
     let u = c .before .before .before .before .steps in
     record {
       bounded = u .inv .1;
-      exact = λ trace m.
+      exact = λ trace whole.
+          let m = remembers-part whole (a .last) few in
           below-leak Weak _ _ trace _ _ (u .inv .1) (m .reached) (u .inv .0 p _ _ n trace d few m)
           (decided-sure _ _ trace _ _ (past-by _ _ (a .secret) (u .l) (u .inv .1) p _ _ n trace d few m) (λ q i. pass-end _ _ _ (c .if2 .taken) (c .before .before .states .inv) q i));
     }
@@ -98,7 +99,12 @@ returns c = λ p s n d few.
 
 returns-2 : tie.Need-returns-2 Inv-states μ-states Inv-steps μ-steps
 returns-2 c = λ p s n d few.
-    record { bounded = tt; exact = λ trace m. below-last Weak _ _ trace _ _ (omega arith) (below-next (c .before) p _ _ n trace d few m) }
+    record {
+      bounded = tt;
+      exact = λ trace whole.
+          below-last Weak _ _ trace _ _ (omega arith)
+          (below-next (c .before) p _ _ n trace d few (remembers-part whole (c .before .before .before .before .before .before .args .last) few));
+    }
 
 -- What else is asked: numbers that fit, indices, and that the loops end
 

@@ -15,10 +15,10 @@ all : (s : tie.Start) → s .args .estimator .count ≡ min (s .args .header .k)
 all s = omega (arith, s .pre .0 .limits .few, back-none (s .args .header) (s .args .estimator .further) (s .pre .2))
 
 weak-verdict-requires : tie.Need-weak-verdict-requires
-weak-verdict-requires c κs = let x = c .before .before .before .before .before .pre in (x .0, omega arith, x .1)
+weak-verdict-requires c κs = let x = c .before .before .before .before .before .pre in (x .0, x .1)
 
 strong-verdict-requires : tie.Need-strong-verdict-requires
-strong-verdict-requires c κs = (c .before .before .before .before .before .before .pre .0, omega arith)
+strong-verdict-requires c κs = c .before .before .before .before .before .before .pre .0
 
 returns : tie.Need-returns
 returns c =

@@ -6,7 +6,6 @@ use Rattle.verifier.specs.Secrets.{secretsOf, secretAt}
 use borrow.Author.Needs.{needs}
 use Rattle.verifier.proofs.secret_at.Statement.{statement}
 use Rattle.verifier.proofs.secret_at.Tie as tie
-use Rattle.verifier.proofs.further_at.Reads as further-at-reads
 
 returns : tie.Need-returns
 returns c = rw (c .if1 .taken) refl

@@ -34,28 +34,28 @@ use Rattle.verifier.proofs.weak_verdict.Tie as tie
 
 -- 'steps: no step below l is a leak, `then` has the states that the last l events can follow, and `possible` is a part of m(l) that decides
 abbrev Inv-steps : tie.InvT-steps
-Inv-steps table sets silent back states estimate secret last symbols entries then₀ possible₀ l₀ then possible l =
+Inv-steps table sets silent back states estimate secret symbols entries last then₀ possible₀ l₀ then possible l =
     ForTracesWith table sets silent back states estimate last symbols entries (λ p trace. NoLeakBelow Weak p secret trace l)
     × ForTracesWith table sets silent back states estimate last symbols entries (λ p trace. Follows p states trace l then)
     × ForTracesWith table sets silent back states estimate last symbols entries (λ p trace. DecidedBy secret (DelayedEstimate p trace (length trace - l)) possible)
     × (l ≤ last) × (last ≤ 15) × (possible < 2 ^ 64)
 
 abbrev μ-steps : tie.MeasureT-steps
-μ-steps table sets silent back states estimate secret last symbols entries then₀ possible₀ l₀ then possible l = last - l
+μ-steps table sets silent back states estimate secret symbols entries last then₀ possible₀ l₀ then possible l = last - l
 
 -- 'states: what is left of the part of m(l) that is visited, and all else of it is secret
 abbrev Inv-states : tie.InvT-states
-Inv-states table sets silent back states estimate secret last symbols entries then possible l todo₀ todo = Passed possible secret todo
+Inv-states table sets silent back states estimate secret symbols entries last then possible l todo₀ todo = Passed possible secret todo
 
 abbrev μ-states : tie.MeasureT-states
-μ-states table sets silent back states estimate secret last symbols entries then possible l todo₀ todo = todo
+μ-states table sets silent back states estimate secret symbols entries last then possible l todo₀ todo = todo
 
 -- Start, "k ∈ [0, ..": the loop takes up step 0, and there is no smaller one. m(0) is the estimate
 
 steps-holds : tie.Need-steps-holds Inv-states μ-states Inv-steps μ-steps
 steps-holds c =
     let a = c .before .before .before .before .before .before in
-    let few : a .args .last ≤ 15 = omega (arith, a .pre .1, prepared-few (a .pre .0)) in (
+    let few : a .args .estimator .count ≤ 15 = omega (arith, prepared-few (a .pre .0)) in (
       λ p trace g m r. below-start Weak p _ trace,
       λ p trace g m r. follows-start p _ trace,
       λ p trace g m r. estimate-by p _ trace _ _ _ _ _ _ (g .start) few (g .near) m r,
@@ -72,13 +72,13 @@ begin u = u .before .before .before .before .before .before .before
 -- an automaton for which holds what was prepared for this call
 abbrev Good : tie.At-steps Inv-states μ-states Inv-steps μ-steps → Automaton → Type 0
 Good u p =
-    Looks p (begin u .args .table .now) (begin u .args .sets .now) (begin u .args .estimator .entries) (begin u .args .silent .now) (begin u .args .back .now) (begin u .args .states) (begin u .args .last)
+    Looks p (begin u .args .table .now) (begin u .args .sets .now) (begin u .args .estimator .entries) (begin u .args .silent .now) (begin u .args .back .now) (begin u .args .states) (begin u .args .estimator .count)
 
 -- what holds for each of these and each trace that is remembered
 abbrev Each : tie.At-steps Inv-states μ-states Inv-steps μ-steps → (Automaton → List ℕ → Type 0) → Type 0
 Each u =
     ForTracesWith (begin u .args .table .now) (begin u .args .sets .now) (begin u .args .silent .now) (begin u .args .back .now) (begin u .args .states) (begin u .args .estimate)
-    (begin u .args .last) (begin u .args .estimator .symbols) (begin u .args .estimator .entries)
+    (begin u .args .estimator .count) (begin u .args .estimator .symbols) (begin u .args .estimator .entries)
 
 -- the state that a turn of the inner loop visits
 pick : (c : tie.In-states Inv-states μ-states Inv-steps μ-steps)
@@ -131,7 +131,7 @@ steps-again : tie.Need-steps-again Inv-states μ-states Inv-steps μ-steps
 steps-again c =
     let u = c .before .before .before .before .before .before .before in
     let s = u .steps in
-    let next : s .l + 1 ≤ begin u .args .last = omega arith in (
+    let next : s .l + 1 ≤ begin u .args .estimator .count = omega arith in (
       below-next (c .before .before .before .before),
       follows-next (c .before),
       λ p trace g m r.
@@ -150,7 +150,7 @@ returns c =
     let u = c .before .before .before in
     let s = u .steps in
     let g = begin u .pre .0 .looks in
-    let r = begin u .pre .2 in
+    let r = begin u .pre .1 in
     record {
       bounded = s .inv .3;
       exact = λ trace m.
@@ -166,7 +166,7 @@ returns-2 c =
     let u = c .before .before .before .before in
     record {
       bounded = tt;
-      exact = λ trace m. below-last Weak _ _ trace _ _ (omega arith) (below-next (c .before) _ trace (begin u .pre .0 .looks) m (begin u .pre .2));
+      exact = λ trace m. below-last Weak _ _ trace _ _ (omega arith) (below-next (c .before) _ trace (begin u .pre .0 .looks) m (begin u .pre .1));
     }
 
 -- What else is asked: numbers that fit, indices, what is called, and that the loops end

@@ -1,0 +1,10 @@
+-- `automaton::any` meets its contract.
+use Rattle.automaton.proofs.FourSets.{union-of}
+use Rattle.automaton.proofs.any.Statement.{statement}
+use Rattle.automaton.proofs.any.Tie as tie
+
+returns : tie.Need-returns
+returns c = union-of (c .before .before .before .args .s)
+
+pub any-spec : {M : Type 1} → statement M
+any-spec = tie.close (tie.spec returns)

@@ -2,7 +2,7 @@
 // The whole encoding is checked first, so that a refusal leaves the table as it was; then the table is cleared and filled.
 // Every packed field is read through the Reader of `bitfields`. Only `decode` is an entry: it demands nothing of its caller.
 use automaton::Header;
-use automaton::Refusal;
+use refusal::Refusal;
 use bitfields::Field;
 use bitfields::Flags;
 ghost use mathlib.Core.Path.{_≡_};

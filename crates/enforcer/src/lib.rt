@@ -1,5 +1,5 @@
 use automaton::Header;
-use automaton::Refusal;
+use refusal::Refusal;
 use verifier::Answer;
 use verifier::AnswerBy;
 use verifier::Estimator;

@@ -7,7 +7,7 @@ use native.Mathlib.Numerals.{add-one}
 use lib.Pow.{pow-add}
 use lib.ListN.{length, getD, drop, set, length-set, length-drop}
 use lib.Seq.{sets, ext-getD, length-take-le, getD-take, getD-drop, drop-cons}
-use Rattle.automaton.proofs.Filled.{filled, sets-append}
+use Rattle.lists.proofs.Filled.{filled, sets-append}
 use Rattle.gateway.specs.Layout.{numberAt, bytesOf, wordsAt, wordsBytes, bytesAt}
 
 -- one byte more, from below

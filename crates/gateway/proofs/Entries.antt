@@ -4,9 +4,9 @@ use mathlib.Core.Path.{_≡_, refl, sym, subst, _∙_}
 use mathlib.Core.List.{List, [], _∷_, _++_, map}
 use lib.ListN.{length}
 use lib.Seq.{sets}
-use Rattle.automaton.specs.Refusals.{numberOf}
+use Rattle.refusal.specs.Refusals.{numberOf}
 use Rattle.automaton.specs.declared.Header.{Header}
-use Rattle.automaton.specs.declared.Refusal.{Refusal}
+use Rattle.refusal.specs.declared.Refusal.{Refusal}
 use Rattle.encoding.specs.Decoding as decoding
 use Rattle.encoding.specs.Decoding.{Decoding, answerMeans}
 use Rattle.encoding.specs.declared.Answer as decoded

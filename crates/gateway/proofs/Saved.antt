@@ -6,7 +6,7 @@ use native.Mathlib.Omega.{arith}
 use native.Mathlib.Numerals.{add-one}
 use lib.ListN.{length, set, length-append}
 use lib.Seq.{sets, sets-eq}
-use Rattle.automaton.proofs.Filled.{sets-append}
+use Rattle.lists.proofs.Filled.{sets-append}
 use Rattle.verifier.specs.declared.Notion.the-variants.{Strong}
 use Rattle.verifier.specs.declared.Secret.{Secret}
 use Rattle.verifier.specs.declared.Further.{Further}

@@ -372,7 +372,7 @@ pub extern "C" fn opacity_decode(encoding: &[u8], table: &mut [u64], header: &mu
     let decoded = encoding::decode(encoding, table);
     let answer = decoded.answer;
     match answer {
-        Decoded::Refused(refusal) => automaton::number(refusal),
+        Decoded::Refused(refusal) => refusal::number(refusal),
         Decoded::Accepted => {
             write_header(header, decoded.header);
             0
@@ -407,7 +407,7 @@ pub extern "C" fn opacity_fresh(
     let reply = Estimator::fresh(table, read_header(header), read_further(further, 0));
     let answer = reply.answer;
     match answer {
-        Answer::Refused(refusal) => automaton::number(refusal),
+        Answer::Refused(refusal) => refusal::number(refusal),
         Answer::Accepted(told) => {
             let after = reply.estimator;
             write_estimator(estimator, after);
@@ -441,7 +441,7 @@ pub extern "C" fn opacity_accept(
     let reply = before.accept(table, read_header(header), symbol);
     let answer = reply.answer;
     match answer {
-        Answer::Refused(refusal) => automaton::number(refusal),
+        Answer::Refused(refusal) => refusal::number(refusal),
         Answer::Accepted(told) => {
             let after = reply.estimator;
             write_estimator(estimator, after);
@@ -482,7 +482,7 @@ pub extern "C" fn opacity_start(
     );
     let answer = start.answer;
     match answer {
-        StartAnswer::Refused(refusal) => automaton::number(refusal),
+        StartAnswer::Refused(refusal) => refusal::number(refusal),
         StartAnswer::Started => {
             let fresh = start.enforcer;
             write_enforcer(enforcer, fresh);
@@ -519,7 +519,7 @@ pub extern "C" fn opacity_offer(
     let given = before.offer(table, read_header(header), symbol, output);
     let answer = given.answer;
     match answer {
-        OfferAnswer::Refused(refusal) => automaton::number(refusal),
+        OfferAnswer::Refused(refusal) => refusal::number(refusal),
         OfferAnswer::Released(told) => {
             let after = given.enforcer;
             write_enforcer(enforcer, after);

@@ -7,9 +7,9 @@ use Prim.Native.Nat.{ℕ, _+_, _-_, _≤_, _<_}
 use native.Mathlib.Omega.{arith}
 use lib.ListN.{length, take, drop, length-append, take-append-drop}
 use lib.Seq.{sets, drop-append-le, take-length, drop-length, take-append-le, take-append-add}
-use Rattle.automaton.specs.Refusals.{numberOf}
+use Rattle.refusal.specs.Refusals.{numberOf}
 use Rattle.automaton.specs.declared.Header.{Header}
-use Rattle.automaton.specs.declared.Refusal.{Refusal}
+use Rattle.refusal.specs.declared.Refusal.{Refusal}
 use Rattle.report.specs.Text.{refusedLog}
 use Rattle.report.specs.Writing.{roomFor, roomAtEnd, Written, no-room, written}
 use Rattle.report.specs.declared.Line.{Line}

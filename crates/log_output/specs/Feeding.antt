@@ -7,7 +7,7 @@ use lib.IntN.{ℤ, pos, negsuc}
 use mathlib.Core.Logic.{_⊎_}
 use lib.ListN.{length, take}
 use Rattle.automaton.specs.declared.Header.{Header}
-use Rattle.automaton.specs.declared.Refusal.{Refusal}
+use Rattle.refusal.specs.declared.Refusal.{Refusal}
 use Rattle.monitor.specs.Opening.{frontSize}
 use Rattle.monitor.specs.Stepping.{placeOf}
 use Rattle.monitor.specs.Running.{Front}

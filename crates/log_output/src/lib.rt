@@ -1,6 +1,6 @@
 // A log that is read from standard input and monitored, with its lines written to standard output: what the programs that read logs share.
 use automaton::Header;
-use automaton::Refusal;
+use refusal::Refusal;
 use monitor::AdvanceAnswer;
 use monitor::Monitor;
 use monitor::OpenAnswer;

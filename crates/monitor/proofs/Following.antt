@@ -7,7 +7,7 @@ use native.Mathlib.Omega.{arith}
 use lib.ListN.{length, getD, length-append}
 use lib.Seq.{sets}
 use Rattle.automaton.specs.declared.Header.{Header}
-use Rattle.automaton.proofs.Filled.{sets-append}
+use Rattle.lists.proofs.Filled.{sets-append}
 use Rattle.report.proofs.Laws.{take-one}
 use Rattle.monitor.specs.Stepping.{Within, Stepping, not-verified, not-enforced, accepted, Lines, done, next, Printed, Stepped}
 use Rattle.monitor.specs.Advancing.{taken, Ready, Advancing, advanced, Along}

@@ -14,7 +14,7 @@ use Rattle.verifier.specs.declared.Verdicts.{Verdicts}
 use Rattle.verifier.specs.Verdicts.{stepsOf}
 use Rattle.enforcer.proofs.Unique.{one-longest}
 use Rattle.report.specs.Text.{decimal, line, acceptedLine, idleLine, refusedLine, endLine}
-use Rattle.automaton.specs.declared.Refusal.the-variants.{NotObservable, Incompatible}
+use Rattle.refusal.specs.declared.Refusal.the-variants.{NotObservable, Incompatible}
 use Rattle.monitor.specs.Opening.{encodingOf, RightOwn, Decodes}
 use Rattle.monitor.specs.LogText.{Prints, none, not-observable, incompatible, accepted}
 use Rattle.monitor.specs.Log.{eventsOf, OpeningLeak, Refused, truncated, not-decoded, initial-leak, Monitored, Output, refused, idle, ended}

@@ -6,7 +6,7 @@ use Prim.Native.Nat.{ℕ, _+_, _≤_}
 use lib.ListN.{length, take}
 use lib.Seq.{sets}
 use Rattle.automaton.specs.declared.Header.{Header}
-use Rattle.automaton.specs.Refusals.{numberOf}
+use Rattle.refusal.specs.Refusals.{numberOf}
 use Rattle.monitor.specs.Stepping.{Within, Lines, Printed}
 use Rattle.monitor.specs.declared.Monitor.{Monitor}
 use Rattle.monitor.specs.declared.AdvanceAnswer.{AdvanceAnswer}

@@ -5,7 +5,7 @@ use Prim.Native.Nat.{ℕ, _+_}
 use lib.ListN.{length, take, drop}
 use Rattle.automaton.specs.Run.{automatonOf, Observable, Possible, Impossible}
 use Rattle.automaton.specs.declared.Header.{Header}
-use Rattle.automaton.specs.declared.Refusal.the-variants.{NotObservable, Incompatible}
+use Rattle.refusal.specs.declared.Refusal.the-variants.{NotObservable, Incompatible}
 use Rattle.verifier.specs.declared.Notion.the-variants.{Weak}
 use Rattle.verifier.specs.declared.Verdicts.{Verdicts}
 use Rattle.enforcer.specs.SafePrefix.{Safe}

@@ -1,6 +1,6 @@
 // Monitors a log (01: Log program): a verifier and a weak enforcer follow its events, and each event becomes a line.
 use automaton::Header;
-use automaton::Refusal;
+use refusal::Refusal;
 use enforcer::Enforcer;
 use enforcer::OfferAnswer;
 use enforcer::StartAnswer;

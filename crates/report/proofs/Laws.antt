@@ -6,7 +6,7 @@ use mathlib.Core.Path.{_≡_, refl, sym, ap, _∙_, subst}
 use mathlib.Core.List.{List, [], _∷_, _++_, append-assoc, append-nil, map}
 use lib.ListN.{length, take, drop, getD, length-append}
 use lib.Seq.{sets, take-suc, take-all}
-use Rattle.automaton.proofs.Filled.{sets-append}
+use Rattle.lists.proofs.Filled.{sets-append}
 use Rattle.report.specs.Text.{decimal, led, line, symbols}
 use Rattle.report.specs.Writing.{Wrote, Written, written}
 use Rattle.report.specs.declared.Line.the-variants.{Next}

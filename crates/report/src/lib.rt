@@ -1,5 +1,5 @@
 // The lines of the log program, written into a lent output. Bytes past the written ones stay as they were.
-use automaton::Refusal;
+use refusal::Refusal;
 use verifier::Judgement;
 use verifier::Verdict;
 ghost use mathlib.Core.Path.{_≡_};
@@ -7,7 +7,7 @@ ghost use mathlib.Core.List.{[], _∷_, _++_, map};
 ghost use Prim.Native.Nat.{_+_, _*_, _%_, _≤_, _<_};
 ghost use lib.ListN.{length};
 ghost use Rattle.stateset.specs.Set.{Decided};
-ghost use Rattle.automaton.specs.Refusals.{numberOf};
+ghost use Rattle.refusal.specs.Refusals.{numberOf};
 ghost use Rattle.report.specs.Text.{decimal, led, steps, symbols, acceptedLine, idleLine, refusedLine, endLine, refusedLog};
 ghost use Rattle.report.specs.Writing.{roomFor, roomAtEnd, Written, Wrote};
 
@@ -142,7 +142,7 @@ fn refusal_field(out: &mut [u8], at: usize, refusal: Refusal) -> usize
     requires { ⌜ at + 11 ≤ length (now out) ⌝ }
     ensures { λ r. ⌜ Wrote 11 (now (out .entry)) at (32 ∷ decimal (numberOf refusal)) (now (out .exit)) r ⌝ }
 {
-    field(out, at, 32, wide(automaton::number(refusal)))
+    field(out, at, 32, wide(refusal::number(refusal)))
 }
 
 fn put_accepted(

@@ -10,7 +10,7 @@ use Rattle.stateset.proofs.Bits.{in-lt, or-l, or-r, trailing-in}
 use Rattle.stateset.proofs.Counting.{counts-some, counts-below}
 use Rattle.automaton.specs.Run.{Automaton, Impossible}
 use Rattle.automaton.specs.Reaching.{Enters, Arrives, EstimateSize, Gained, Closed}
-use Rattle.automaton.specs.Relation.{Sub}
+use Rattle.relation.specs.Relation.{Sub}
 use Rattle.automaton.specs.declared.Reach.{Reach}
 use Rattle.automaton.proofs.Entering.{gained-closed}
 use Rattle.automaton.proofs.Estimates.{set-size}

@@ -11,8 +11,8 @@ use lib.Dec.{T}
 use lib.Seq.{take-length, getD-take, length-take-le}
 use Rattle.stateset.specs.Set.{Is}
 use Rattle.automaton.specs.Run.{Automaton, automatonOf, Possible, Observable, Sound}
-use Rattle.automaton.specs.Refusals.{numberOf}
-use Rattle.automaton.specs.declared.Refusal.{Refusal}
+use Rattle.refusal.specs.Refusals.{numberOf}
+use Rattle.refusal.specs.declared.Refusal.{Refusal}
 use Rattle.automaton.specs.Reaching.{Enters, EstimateSize}
 use Rattle.automaton.specs.declared.Header.{Header}
 use Rattle.automaton.proofs.Estimates.{size-some, size-most}

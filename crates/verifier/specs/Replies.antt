@@ -5,7 +5,7 @@ use Prim.Native.Nat.{ℕ, suc, _≤_, _<_}
 use lib.ListN.{length, getD, take}
 use Rattle.automaton.specs.Run.{automatonOf, Possible, Impossible, Observable, Sound}
 use Rattle.automaton.specs.Reaching.{EstimateSize}
-use Rattle.automaton.specs.Refusals.{numberOf}
+use Rattle.refusal.specs.Refusals.{numberOf}
 use Rattle.automaton.specs.declared.Header.{Header}
 use Rattle.verifier.specs.Secrets.{secretsOf, ForEach, clearedOf, Allowed, TooLarge}
 use Rattle.verifier.specs.Verdicts.{Steps, none, leak, stepsOf, Tells}

@@ -1,7 +1,7 @@
 use automaton::Header;
 use automaton::Reach;
-use automaton::Refusal;
-use automaton::StateSets;
+use refusal::Refusal;
+use relation::StateSets;
 ghost use mathlib.Core.Path.{_≡_};
 ghost use mathlib.Core.List.{List, [], _∷_, _++_};
 ghost use Prim.Native.Nat.{ℕ, _+_, _^_, _≤_, _<_, min};
@@ -10,7 +10,7 @@ ghost use lib.ListN.{length, getD, replicate};
 ghost use Rattle.stateset.specs.Set.{In, Is, Decided, complement};
 ghost use Rattle.automaton.specs.Run.{Automaton, automatonOf, Possible, Sound};
 ghost use Rattle.automaton.specs.Reaching.{Enters, Arrives, Showing, Known, Gained, Closed, Entered};
-ghost use Rattle.automaton.specs.Relation.{Sub, setAt};
+ghost use Rattle.relation.specs.Relation.{Sub, setAt};
 ghost use Rattle.verifier.specs.declared.Notion.the-variants as notion;
 ghost use Rattle.verifier.specs.declared.Verdict.the-variants as verdict;
 ghost use Rattle.verifier.specs.Secrets.{own, furtherOf, secretsOf, secretAt, lookBackOf, clearedOf, noFurther, Allowed};

@@ -4,7 +4,8 @@ use mathlib.Core.List.{List}
 use Prim.Native.Nat.{ℕ, _<_}
 use borrow.Author.Needs.{needs}
 use Rattle.stateset.specs.Set.{Is}
-use Rattle.automaton.specs.Relation.{Listed, Preimage, setAt}
+use Rattle.relation.specs.Relation.{Preimage, setAt}
+use Rattle.automaton.specs.Reaching.{Listed}
 use Rattle.automaton.proofs.Entering.{leaves-more}
 use Rattle.automaton.proofs.backward_reaches.Statement.{statement}
 use Rattle.automaton.proofs.backward_reaches.Tie as tie

@@ -9,7 +9,7 @@ use lib.Count.{trailingZeros}
 use Rattle.stateset.specs.Set.{In}
 use Rattle.stateset.proofs.Bits.{Taken, taken, in-lt}
 use Rattle.automaton.specs.Run.{automatonOf}
-use Rattle.automaton.proofs.Filled.{zeros}
+use Rattle.lists.proofs.Filled.{zeros}
 use Rattle.automaton.proofs.SymbolSets.{Sorted, with-event, sort-start, sort-turn, sort-end}
 use Rattle.automaton.proofs.by_symbol.Statement.{statement}
 use Rattle.automaton.proofs.by_symbol.Tie as tie

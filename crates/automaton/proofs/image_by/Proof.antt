@@ -10,9 +10,10 @@ use lib.Bits.{bitAnd, and-le-r}
 use lib.Count.{trailingZeros}
 use Rattle.stateset.specs.Set.{Is}
 use Rattle.stateset.proofs.Bits.{Taken, taken}
-use Rattle.automaton.specs.Relation.{Row, Image}
+use Rattle.relation.specs.Relation.{Row, Image}
 use Rattle.automaton.proofs.Entering.{part-size}
-use Rattle.automaton.proofs.Joining.{Joined, wordsOf, join-start, join-turn, join-end, image-joined}
+use Rattle.relation.proofs.Joining.{Joined, join-start, join-turn, join-end}
+use Rattle.automaton.proofs.Joining.{wordsOf, image-joined}
 use Rattle.automaton.proofs.image_by.Statement.{statement}
 use Rattle.automaton.proofs.image_by.Tie as tie
 

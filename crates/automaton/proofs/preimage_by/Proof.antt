@@ -10,8 +10,9 @@ use lib.Count.{trailingZeros}
 use Rattle.stateset.specs.Set.{Is}
 use Rattle.stateset.proofs.Bits.{Taken, taken}
 use Rattle.automaton.proofs.Entering.{part-size}
-use Rattle.automaton.proofs.Falling.{Leading}
-use Rattle.automaton.proofs.Joining.{Joined, wordsOf, join-start, join-turn, join-end, preimage-joined}
+use Rattle.relation.proofs.Falling.{Leading}
+use Rattle.relation.proofs.Joining.{Joined, join-start, join-turn, join-end}
+use Rattle.automaton.proofs.Joining.{wordsOf, preimage-joined}
 use Rattle.automaton.proofs.preimage_by.Statement.{statement}
 use Rattle.automaton.proofs.preimage_by.Tie as tie
 

@@ -11,10 +11,11 @@ use lib.Bits.{bitAnd}
 use lib.Count.{trailingZeros}
 use Rattle.stateset.specs.Set.{Is}
 use Rattle.stateset.proofs.Bits.{Taken, taken}
-use Rattle.automaton.specs.Relation.{setAt}
+use Rattle.relation.specs.Relation.{setAt}
 use Rattle.automaton.proofs.Entering.{part-size}
-use Rattle.automaton.proofs.Falling.{Leading}
-use Rattle.automaton.proofs.Joining.{Joined, wordsOf, join-start, join-turn, join-end, preimage-joined}
+use Rattle.relation.proofs.Falling.{Leading}
+use Rattle.relation.proofs.Joining.{Joined, join-start, join-turn, join-end}
+use Rattle.automaton.proofs.Joining.{wordsOf, preimage-joined}
 use Rattle.automaton.proofs.preimages_by.Statement.{statement}
 use Rattle.automaton.proofs.preimages_by.Tie as tie
 

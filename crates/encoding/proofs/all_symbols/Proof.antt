@@ -3,7 +3,7 @@ use Prim.Native.Nat.{ℕ, _-_, _≤_, _<_}
 use mathlib.Core.Path.{_≡_, refl}
 use native.Mathlib.Omega.{arith}
 use lib.ListN.{length, getD, length-set}
-use Rattle.automaton.proofs.Filled.{filled}
+use Rattle.lists.proofs.Filled.{filled}
 use Rattle.bitfields.specs.Bits.{bitsOf}
 use Rattle.encoding.specs.Transitions.{symbolsAt}
 use Rattle.encoding.specs.Answers.{symbolFor}

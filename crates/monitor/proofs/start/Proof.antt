@@ -1,6 +1,6 @@
 -- `monitor::start` meets its contract: a start and a fresh verifier with no further secret.
 use mathlib.Core.Path.{subst}
-use Rattle.automaton.specs.Refusals.{numberOf}
+use Rattle.refusal.specs.Refusals.{numberOf}
 use Rattle.verifier.specs.declared.Notion.the-variants.{Weak}
 use Rattle.verifier.specs.declared.Further.{Further}
 use Rattle.verifier.specs.declared.Answer.{Answer}

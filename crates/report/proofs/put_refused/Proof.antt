@@ -4,7 +4,7 @@ use native.Mathlib.Omega.{arith}
 use mathlib.Core.Path.{ap, _∙_}
 use mathlib.Core.List.{[], _∷_, _++_}
 use Rattle.report.specs.Text.{decimal}
-use Rattle.automaton.specs.Refusals.{numberOf}
+use Rattle.refusal.specs.Refusals.{numberOf}
 use Rattle.report.proofs.Laws.{then, same, lined}
 use Rattle.report.proofs.put_refused.Statement.{statement}
 use Rattle.report.proofs.put_refused.Tie as tie

@@ -2,7 +2,7 @@ use borrow.Author.Needs.{needs}
 use native.Mathlib.Omega.{arith}
 use mathlib.Core.List.{[], _∷_}
 use Rattle.report.specs.Text.{decimal}
-use Rattle.automaton.specs.Refusals.{numberOf}
+use Rattle.refusal.specs.Refusals.{numberOf}
 use Rattle.report.proofs.Laws.{then, same, lined}
 use Rattle.report.proofs.put_refused_log.Statement.{statement}
 use Rattle.report.proofs.put_refused_log.Tie as tie

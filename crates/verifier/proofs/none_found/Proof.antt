@@ -1,6 +1,6 @@
 -- `verifier::none_found` meets its contract.
 use mathlib.Core.Path.{refl}
-use Rattle.automaton.proofs.FourSets.{four}
+use Rattle.relation.proofs.FourSets.{four}
 use Rattle.verifier.proofs.none_found.Statement.{statement}
 use Rattle.verifier.proofs.none_found.Tie as tie
 

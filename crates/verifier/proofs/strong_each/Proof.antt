@@ -5,11 +5,11 @@ use borrow.Author.Needs.{needs}
 use borrow.Author.Tests.{not-true, not-false}
 use lib.Bits.{bitAnd}
 use Rattle.stateset.specs.Set.{complement}
-use Rattle.automaton.specs.Relation.{setAt}
-use Rattle.automaton.specs.declared.StateSets.{StateSets}
+use Rattle.relation.specs.Relation.{setAt}
+use Rattle.relation.specs.declared.StateSets.{StateSets}
 use Rattle.verifier.specs.Secrets.{secretsOf, secretAt}
 use Rattle.verifier.proofs.Judging.{not-both}
-use Rattle.automaton.proofs.FourSets.{four}
+use Rattle.relation.proofs.FourSets.{four}
 use Rattle.verifier.proofs.strong_each.Statement.{statement}
 use Rattle.verifier.proofs.strong_each.Tie as tie
 

@@ -11,9 +11,9 @@ use lib.ListN.{length, getD, drop}
 use Rattle.stateset.specs.Set.{In, Is, complement}
 use Rattle.stateset.proofs.Bits.{in-and}
 use Rattle.automaton.specs.Run.{Automaton, automatonOf}
-use Rattle.automaton.specs.Relation.{setAt}
+use Rattle.relation.specs.Relation.{setAt}
 use Rattle.automaton.specs.Reaching.{Leaves, Showing}
-use Rattle.automaton.proofs.FourSets.{four}
+use Rattle.relation.proofs.FourSets.{four}
 use Rattle.verifier.specs.declared.Notion.the-variants.{Strong}
 use Rattle.verifier.specs.declared.Verdict.{Verdict}
 use Rattle.verifier.specs.Verdicts.{stepsOf}

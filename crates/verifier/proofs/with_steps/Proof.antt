@@ -1,6 +1,6 @@
 -- `verifier::with_steps` meets its contract: each of the four by its own call.
 use borrow.Author.Needs.{needs}
-use Rattle.automaton.proofs.FourSets.{four}
+use Rattle.relation.proofs.FourSets.{four}
 use Rattle.verifier.proofs.with_steps.Statement.{statement}
 use Rattle.verifier.proofs.with_steps.Tie as tie
 

@@ -17,8 +17,8 @@ use borrow.Author.Tests.{not-true, not-false}
 use Rattle.stateset.specs.Set.{Decided}
 use Rattle.stateset.proofs.Decides.{holds, fails}
 use Rattle.enforcer.specs.Offerings.{Offering, output-too-small}
-use Rattle.automaton.specs.Refusals.{numberOf}
-use Rattle.automaton.specs.declared.Refusal.the-variants as refusal
+use Rattle.refusal.specs.Refusals.{numberOf}
+use Rattle.refusal.specs.declared.Refusal.the-variants as refusal
 use Rattle.enforcer.proofs.Outcomes.{refused-given, refused-outcome, taken-outcome}
 use Rattle.enforcer.proofs.TakingIn.{limits-joined}
 use borrow.Author.Needs.{needs}

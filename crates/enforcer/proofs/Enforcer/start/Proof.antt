@@ -3,7 +3,7 @@ use mathlib.Core.Path.{subst, refl}
 use denote.Ref.{now}
 use Rattle.verifier.specs.declared.Answer.{Answer}
 use Rattle.verifier.specs.declared.VerdictsBy.{VerdictsBy}
-use Rattle.automaton.specs.Refusals.{numberOf}
+use Rattle.refusal.specs.Refusals.{numberOf}
 use Rattle.verifier.specs.Secrets.{secretsOf}
 use Rattle.verifier.specs.Replies as verifier
 use Rattle.verifier.specs.Replies.{Opening, toldEach}

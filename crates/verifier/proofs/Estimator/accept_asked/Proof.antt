@@ -8,7 +8,7 @@ use Prim.Native.Nat.{ℕ}
 use native.Mathlib.Omega.{arith}
 use Rattle.stateset.proofs.Decides.{holds, fails}
 use Rattle.automaton.specs.Run.{automatonOf, Sound, Observable}
-use Rattle.automaton.specs.declared.Refusal.the-variants as refusal
+use Rattle.refusal.specs.declared.Refusal.the-variants as refusal
 use Rattle.automaton.specs.Reaching.{Showing}
 use Rattle.automaton.proofs.SymbolSets.{some-observable, none-observable, observable-small}
 use Rattle.automaton.proofs.Entering.{known-none}

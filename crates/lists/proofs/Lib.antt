@@ -1,0 +1,2 @@
+-- Laws of plain lists that the crates above cite.
+pub mod Filled

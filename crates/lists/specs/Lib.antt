@@ -1,0 +1,1 @@
+-- No contract cites a definition of `lists`.

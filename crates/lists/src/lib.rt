@@ -1,0 +1,1 @@
+// No code: laws of plain lists, which know no automaton.

@@ -1,0 +1,2 @@
+-- What the contracts of `relation` cite.
+pub mod Relation

@@ -2,14 +2,12 @@
 use relation::StateSets;
 ghost use mathlib.Core.Path.{_≡_};
 ghost use mathlib.Core.List.{List, [], _∷_, _++_};
-ghost use mathlib.Core.Logic.{_⊎_};
 ghost use Prim.Native.Nat.{ℕ, _+_, _-_, _*_, _<_, _≤_, max};
-ghost use lib.Bits.{bitAnd, bitOr};
 ghost use lib.ListN.{length, getD, take, drop, replicate};
-ghost use Rattle.stateset.specs.Set.{In, Is, Decided, complement};
+ghost use Rattle.stateset.specs.Set.{In, Is, Decided};
 ghost use Rattle.automaton.specs.Run.{Automaton, automatonOf, SmallSymbols, Sound};
 ghost use Rattle.automaton.specs.Reaching.{Enters, Arrives, Leaves, Showing, BySymbol, Listed, Known, Gained, Closed, Entered};
-ghost use Rattle.relation.specs.Relation.{Row, Image, Preimage, Sub, setAt};
+ghost use Rattle.relation.specs.Relation.{Image, Preimage, Sub, setAt};
 
 // What an encoding says beside its transitions (01: head): the initial state, the look-back K, the secret states, the observable events, and
 // the observation symbol of each event (02: lamp), which counts only where the event is observable. (The symbols stand first: a header is copied

@@ -2,9 +2,9 @@
 // The whole encoding is checked first, so that a refusal leaves the table as it was; then the table is cleared and filled.
 // Every packed field is read through the Reader of `bitfields`. Only `decode` is an entry: it demands nothing of its caller.
 use automaton::Header;
-use refusal::Refusal;
 use bitfields::Field;
 use bitfields::Flags;
+use refusal::Refusal;
 ghost use mathlib.Core.Path.{_≡_};
 ghost use Prim.Native.Nat.{_+_, _*_, _≤_, _<_};
 ghost use lib.ListN.{length, replicate};

@@ -1,9 +1,9 @@
 // A log that is read from standard input and monitored, with its lines written to standard output: what the programs that read logs share.
 use automaton::Header;
-use refusal::Refusal;
 use monitor::AdvanceAnswer;
 use monitor::Monitor;
 use monitor::OpenAnswer;
+use refusal::Refusal;
 use report::Line;
 ghost use Prim.Native.Nat.{_+_, _-_, _≤_, _<_};
 ghost use mathlib.Core.Path.{_≡_};

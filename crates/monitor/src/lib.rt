@@ -1,9 +1,9 @@
 // Monitors a log (01: Log program): a verifier and a weak enforcer follow its events, and each event becomes a line.
 use automaton::Header;
-use refusal::Refusal;
 use enforcer::Enforcer;
 use enforcer::OfferAnswer;
 use enforcer::StartAnswer;
+use refusal::Refusal;
 use report::Line;
 use verifier::Answer;
 use verifier::Estimator;

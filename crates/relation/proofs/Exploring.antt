@@ -1,6 +1,6 @@
 -- A loop that gets to know the rows of unobservable events, eight at a time. Assumes nothing.
 use mathlib.Core.Path.{_≡_, ap, sym, subst, _∙_}
-use mathlib.Core.Logic.{_⊎_, inl, inr, ⊎-elim}
+use mathlib.Core.Logic.{inl, inr, ⊎-elim}
 use mathlib.Core.List.{List}
 use Prim.Native.Nat.{ℕ, _+_, _-_, _*_, _/_, _%_, _^_, _≤_, _<_}
 use native.Mathlib.Omega.{arith}
@@ -8,7 +8,7 @@ use native.Mathlib.Decide.{decLt}
 use native.Mathlib.Nat.{mod-lt}
 use lib.Bits.{bitAnd, bitOr, or-lt}
 use lib.Pow.{shl-exact}
-use lib.ListN.{length, getD}
+use lib.ListN.{getD}
 use Rattle.stateset.specs.Set.{bit, In, Is}
 use Rattle.stateset.proofs.Bits.{empty, in?, in-lt, in-or, or-l, or-r, not-in, without-is, subset-lt, Taken}
 use Rattle.relation.specs.Relation.{Rows, Sub, Put}

@@ -4,9 +4,6 @@ ghost use mathlib.Core.Logic.{_⊎_};
 ghost use Prim.Native.Nat.{ℕ, _<_, _≤_};
 ghost use Rattle.stateset.specs.Set.{In, Is, Counts, Decided};
 
-// The set of all 64 states.
-pub const ALL: u64 = 0xffff_ffff_ffff_ffff;
-
 // Whether a state is in the set.
 pub fn member(set: u64, state: usize) -> bool
     ensures { λ r. ⌜ Decided r (In state set) ⌝ }

@@ -3,7 +3,6 @@ use Prim.Native.Nat.{ℕ, _≤_, _<_, _-_}
 use mathlib.Core.Path.{_≡_}
 use native.Mathlib.Omega.{arith}
 use native.Mathlib.Decide.{decLt}
-use borrow.Author.Needs.{needs}
 use borrow.Author.Count.{below-more}
 use denote.Ref.{now}
 use lib.ListN.{length, getD, List·getD-eq-default}

@@ -1,8 +1,6 @@
 -- `stateset::bound` meets its contract: a word is below the power of 2 at its length. Assumes nothing.
-use Prim.Native.Nat.{ℕ, _<_}
 use native.Mathlib.Omega.{arith}
-use lib.Count.{leadingZeros, leading-le, leading-length}
-use Rattle.stateset.specs.Set.{In}
+use lib.Count.{leading-le, leading-length}
 use Rattle.stateset.proofs.Bits.{in-lt}
 use Rattle.stateset.proofs.bound.Statement.{statement}
 use Rattle.stateset.proofs.bound.Tie as tie

@@ -20,9 +20,11 @@ module _ (p : Automaton) (trace : List ℕ) (states low : ℕ) (all : (j q : ℕ
       let again : (run ++ s ∷ []) ++ ss ≡ run ++ s ∷ ss = append-assoc run (s ∷ []) ss in
       let x = part-run p trace (length (shown p (run ++ s ∷ []))) (run ++ s ∷ []) ss (run ++ s ∷ ss) again f refl in
       let more : low ≤ length (shown p (run ++ s ∷ [])) = omega (arith, shown-count p run (s ∷ [])) in
-      let room : length (shown p (run ++ s ∷ [])) ≤ length trace = omega (arith, ap length (f .shown-is), ap (λ (r : List Step). length (shown p r)) again, shown-count p (run ++ s ∷ []) ss) in (
+      let room : length (shown p (run ++ s ∷ [])) ≤ length trace =
+      omega (arith, ap length (f .shown-is), ap (λ (r : List Step). length (shown p r)) again, shown-count p (run ++ s ∷ []) ss) in (
         subst (λ (q : ℕ). In q states) (end-join (p .initial) run (s ∷ []))
-            (all (length (shown p (run ++ s ∷ []))) (endOf (p .initial) (run ++ s ∷ [])) more room (record { run = run ++ s ∷ []; compatible = x .front; ends = refl })),
+            (all (length (shown p (run ++ s ∷ []))) (endOf (p .initial) (run ++ s ∷ [])) more room
+            (record { run = run ++ s ∷ []; compatible = x .front; ends = refl })),
         follows-inside (run ++ s ∷ []) ss (subst (Compatible p trace) (sym again) f) more,
       )
 
@@ -49,4 +51,11 @@ pub leaves-anywhere : (p : Automaton) (a : ℕ) (trace : List ℕ) (j q : ℕ) �
     → Leaves p everything (drop j trace) q
 leaves-anywhere p a trace j q start x y =
     let small = end-small p (p .initial) (x .run) start (x .compatible .takes) in
-    record { start = all-in q (omega (arith, x .ends)); steps = y .steps; takes = y .takes; shown-is = y .shown-is; through = anywhere p q (y .steps) (y .takes) }
+    record {
+      start = all-in q (omega (arith, x .ends));
+      steps = y .steps;
+      takes = y .takes;
+      shown-is = y .shown-is;
+      through =
+          anywhere p q (y .steps) (y .takes);
+    }

@@ -27,7 +27,8 @@ module _ (t : List ℕ) (events set r : ℕ) (size : length t ≡ 2048) (words :
             g .whole x (l .0, l .1, (m .0, m .1, row-whole _ _ (part-rows t (l .0) (small (l .0) (l .1)) size words) (m .0) x (l .2 .from-small) (l .2)));
       }
 
-  pub preimage-joined : (few : ℕ) → Is r (λ q. (e : ℕ) × In e events × Leading (wordsOf t e) few set q) → Is r (λ q. (q < few) × Preimage (Listed t events) set q)
+  pub preimage-joined : (few : ℕ) → Is r (λ q. (e : ℕ) × In e events × Leading (wordsOf t e) few set q)
+      → Is r (λ q. (q < few) × Preimage (Listed t events) set q)
   preimage-joined few g =
       record {
         sound = λ q i.
@@ -37,5 +38,19 @@ module _ (t : List ℕ) (events set r : ℕ) (size : length t ≡ 2048) (words :
         whole = λ q m.
             let x = m .1 in
             let l = x .1 .2 in
-            g .whole q (l .0, l .1, (m .0, (x .0, (x .1 .0, x .1 .1, row-whole _ _ (part-rows t (l .0) (small (l .0) (l .1)) size words) q (x .1 .0) (x .0) (l .2)))));
+            g .whole q (
+              l .0,
+              l .1,
+              (
+                m .0,
+                (
+                  x .0,
+                  (
+                    x .1 .0,
+                    x .1 .1,
+                    row-whole _ _ (part-rows t (l .0) (small (l .0) (l .1)) size words) q (x .1 .0) (x .0) (l .2),
+                  ),
+                ),
+              ),
+            );
       }

@@ -33,7 +33,8 @@ module _ (symbols : List ℕ) (observable : ℕ) where
       record {
         small = g .small;
         sub = λ x i. g .sub x (k .kept x i);
-        tested = λ x i. ⊎-elim (λ t. ⊎-elim (λ same. inr (subst (λ (y : ℕ). getD symbols y 0 ≤ 31) (sym same) h)) (λ m. inl m) (k .left x t)) (λ d. inr d) (g .tested x i);
+        tested = λ x i. ⊎-elim (λ t. ⊎-elim (λ same. inr (subst (λ (y : ℕ). getD symbols y 0 ≤ 31) (sym same) h)) (λ m. inl m) (k .left x t)) (λ d. inr d)
+            (g .tested x i);
       }
 
   pub test-end : (todo : ℕ) → todo ≡ 0 → Tested symbols observable todo → SmallSymbols observable symbols
@@ -57,7 +58,8 @@ module _ (symbols : List ℕ) (observable : ℕ) where
       here x =
           record {
             sound = λ y i. ⊎-elim (λ j. x .sound y j) (λ same. subst (λ (z : ℕ). In z observable × (getD symbols z 0 ≡ s)) (sym same) (ob, has)) (W .sound y i);
-            whole = λ y i same. ⊎-elim (λ d. ⊎-elim (λ eq. inr (W .whole y (inr eq))) (λ m. inl m) (t .left y d)) (λ m. inr (W .whole y (inl m))) (x .whole y i same);
+            whole = λ y i same. ⊎-elim (λ d. ⊎-elim (λ eq. inr (W .whole y (inr eq))) (λ m. inl m) (t .left y d)) (λ m. inr (W .whole y (inl m)))
+                (x .whole y i same);
           }
 
       other : (k ≡ s → ⊥) → Sorted symbols observable todo k (getD sets k 0) → Sorted symbols observable rest k (getD sets k 0)

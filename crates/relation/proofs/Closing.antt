@@ -70,7 +70,8 @@ module _ (R : ℕ → ℕ → Type 0) (a s : ℕ) where
 
     module _ (rest : ℕ) (e : rest ≡ bitAnd missing (complement new)) where
       L : Is rest (λ q. In q missing × (In q new → ⊥))
-      L = subst (λ (x : ℕ). Is x (λ q. In q missing × (In q new → ⊥))) (sym e) (without-is missing new (c .small) (omega (arith, n, and-le-r to missing, c .small)))
+      L = subst (λ (x : ℕ). Is x (λ q. In q missing × (In q new → ⊥))) (sym e)
+          (without-is missing new (c .small) (omega (arith, n, and-le-r to missing, c .small)))
 
       pub close-turn : Closing R a s rest new
       close-turn =

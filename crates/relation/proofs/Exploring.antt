@@ -43,7 +43,8 @@ pub record Exploring (R : ℕ → ℕ → Type 0) (from : ℕ) (rows : List ℕ)
   pub left : Is todo (λ q. In q states × (In q known → ⊥))
 
 module _ (R : ℕ → ℕ → Type 0) (from : ℕ) where
-  pub explore-start : (rows : List ℕ) (known : ℕ) → from < 2 ^ 64 → known < 2 ^ 64 → Rows rows (λ q r. In q known × R q r) → ((q r : ℕ) → In q known → R q r → In r from)
+  pub explore-start : (rows : List ℕ) (known : ℕ) → from < 2 ^ 64 → known < 2 ^ 64 → Rows rows (λ q r. In q known × R q r)
+      → ((q r : ℕ) → In q known → R q r → In r from)
       → Exploring R from rows from known (bitAnd from ((2 ^ 64 - 1) - known))
   explore-start rows known hf hk h on =
       record { states-small = hf; known-small = hk; rows-are = h; onward = on; more = λ q i. i; left = without-is from known hf hk }
@@ -78,7 +79,11 @@ module _ (R : ℕ → ℕ → Type 0) (from : ℕ) where
 
         join : (y r : ℕ) → (first ≤ y) × (y < first + 8) → R y r → In r to
         join y r l h =
-            p .joined .whole r (y - first, omega (arith, l .0, l .1), e (y - first) (omega (arith, l .0, l .1)) .whole r (subst (λ (z : ℕ). R z r) (sym (place y (l .0))) h))
+            p .joined .whole r (
+              y - first,
+              omega (arith, l .0, l .1),
+              e (y - first) (omega (arith, l .0, l .1)) .whole r (subst (λ (z : ℕ). R z r) (sym (place y (l .0))) h),
+            )
 
         other : (y : ℕ) → y < 64 → (In y mask → ⊥) → getD after y 0 ≡ getD rows y 0 → Is (getD after y 0) (λ r. In y (bitOr known mask) × R y r)
         other y l n same =
@@ -97,14 +102,19 @@ module _ (R : ℕ → ℕ → Type 0) (from : ℕ) where
             let w = e (y - first) (omega arith) in
             let in-mask = or-r y known mask (M .whole y (omega arith, b)) in
             rw at (record {
-              sound = λ r i. ⊎-elim (λ j. (in-mask, x .rows-are .each y l .sound r j .1)) (λ j. (in-mask, subst (λ (z : ℕ). R z r) e′ (w .sound r j))) (in-or r (getD rows y 0) (getD eight (y - first) 0) i);
+              sound = λ r i. ⊎-elim (λ j. (in-mask, x .rows-are .each y l .sound r j .1)) (λ j. (in-mask, subst (λ (z : ℕ). R z r) e′ (w .sound r j)))
+                  (in-or r (getD rows y 0) (getD eight (y - first) 0) i);
               whole = λ r m. or-r r (getD rows y 0) (getD eight (y - first) 0) (w .whole r (subst (λ (z : ℕ). R z r) (sym e′) (m .1)));
             })
 
     pub explore-less : 2 ^ 64 - bitOr known mask < 2 ^ 64 - known
     explore-less =
         let new = M .whole q (omega arith, omega arith) in
-        omega (arith, subset-lt 64 known (bitOr known mask) q (x .known-small) known-lt (λ y i. or-l y known mask i) (or-r q known mask new) (x .left .sound q (k .inside) .1))
+        omega (
+          arith,
+          subset-lt 64 known (bitOr known mask) q (x .known-small) known-lt (λ y i. or-l y known mask i) (or-r q known mask new)
+              (x .left .sound q (k .inside) .1),
+        )
 
   -- all that was reached is known
   pub explore-end : (rows : List ℕ) (states known todo : ℕ) → todo ≡ 0 → Exploring R from rows states known todo → Sub states known

@@ -61,7 +61,8 @@ module _ (rows : List ℕ) (few set n q r up : ℕ) (e : n + 1 ≡ q) (le : q �
   Meets y = (x : ℕ) × In x set × In x (getD rows y 0)
 
   pub row-turn : From (Leading rows few set) n up
-  row-turn = from-turn (Leading rows few set) 1 n q r up e (omega arith) f (record { sound = λ p i. sound p (g .sound p i); whole = λ p m. g .whole p (whole p m) })
+  row-turn = from-turn (Leading rows few set) 1 n q r up e (omega arith) f
+      (record { sound = λ p i. sound p (g .sound p i); whole = λ p m. g .whole p (whole p m) })
     where
       sound : (p : ℕ) → Moved 1 r p ⊎ ((p ≡ 0) × Meets n) → Moved 1 r p ⊎ ((p < 1) × Leading rows few set (n + p))
       sound p (inl m) = inl m

@@ -25,7 +25,8 @@ module _ (s : StateSets) where
   union-of =
       record {
         sound = λ q i. number q (U .sound q i);
-        whole = λ q m. U .whole q (four (λ k. In q (setAt s k) → Some q) (λ i. inl (inl (inl i))) (λ i. inl (inl (inr i))) (λ i. inl (inr i)) (λ i. inr i) (m .0) (m .1) (m .2));
+        whole = λ q m. U .whole q (four (λ k. In q (setAt s k) → Some q) (λ i. inl (inl (inl i))) (λ i. inl (inl (inr i))) (λ i. inl (inr i)) (λ i. inr i)
+            (m .0) (m .1) (m .2));
       }
     where
       U : Is (bitOr (bitOr (bitOr (s .own) (s .first)) (s .second)) (s .third)) Some

@@ -42,7 +42,8 @@ module _ (before : List ℕ) (first : ℕ) (eight : List ℕ) where
             let other : k ≡ first + n → ⊥ = λ e. apart k e o in
             getD-set-other after (first + n) k word 0 other ∙ p .old k (⊎-elim (λ h. inl h) (λ h. inr (omega arith)) o);
         joined = record {
-          sound = λ x i. ⊎-elim (λ j. let m = p .joined .sound x j in (m .0, omega (arith, m .1), m .2)) (λ j. (n, omega arith, j)) (in-or x to (getD eight n 0) i);
+          sound = λ x i. ⊎-elim (λ j. let m = p .joined .sound x j in (m .0, omega (arith, m .1), m .2)) (λ j. (n, omega arith, j))
+              (in-or x to (getD eight n 0) i);
           whole = λ x m. whole x (m .0) (m .1) (m .2) (ℕ-discrete (m .0) n);
         };
       }
@@ -56,7 +57,8 @@ module _ (before : List ℕ) (first : ℕ) (eight : List ℕ) where
 
       go : (i : ℕ) → i < n + 1 → Dec (i ≡ n) → getD (set after (first + n) word) (first + i) 0 ≡ bitOr (getD before (first + i) 0) (getD eight i 0)
       go i h (yes e) =
-          rw e (getD-set-same after (first + n) word 0 (omega (arith, p .size)) ∙ ap (λ (w : ℕ). bitOr w (getD eight n 0)) (p .old (first + n) (inr (omega arith))))
+          rw e (getD-set-same after (first + n) word 0 (omega (arith, p .size))
+          ∙ ap (λ (w : ℕ). bitOr w (getD eight n 0)) (p .old (first + n) (inr (omega arith))))
       go i h (no d) =
           let other : first + i ≡ first + n → ⊥ = λ e. d (omega arith) in
           getD-set-other after (first + n) (first + i) word 0 other ∙ p .new i (omega arith)

@@ -59,7 +59,8 @@ module _ (j mask : ℕ) (old out : List ℕ) (i : ℕ) (pos : 0 < j) (small : ma
       go : (k c d x : ℕ) → 2 * i ≡ 2 * k + x → c / j % 2 ≡ 0 → j + c < 64 → d < 2 → x < 2
           → bit (d * j + c) (first j mask low high) ≡ bit (x * j + c) (getD old (32 * d + k) 0)
       go k c zero zero e z h hd hx = moved old _ _ _ _ c c i (omega arith) (omega arith) (omega arith) (first-0 j mask low high pos small m c z h)
-      go k c (suc zero) zero e z h hd hx = moved old _ _ _ _ (j + c) c (32 + i) (omega arith) (omega arith) (omega arith) (first-1 j mask low high pos small m c z h)
+      go k c (suc zero) zero e z h hd hx = moved old _ _ _ _ (j + c) c (32 + i) (omega arith) (omega arith) (omega arith)
+          (first-1 j mask low high pos small m c z h)
       go k c (suc (suc d)) zero e z h hd hx = absurd (omega arith)
       go k c d (suc x) e z h hd hx = absurd (omega arith)
 
@@ -69,12 +70,14 @@ module _ (j mask : ℕ) (old out : List ℕ) (i : ℕ) (pos : 0 < j) (small : ma
       go : (k c d x : ℕ) → 2 * i + 1 ≡ 2 * k + x → c / j % 2 ≡ 0 → j + c < 64 → d < 2 → x < 2
           → bit (d * j + c) (second j mask low high) ≡ bit (x * j + c) (getD old (32 * d + k) 0)
       go k c zero (suc zero) e z h hd hx = moved old _ _ _ _ c (j + c) i (omega arith) (omega arith) (omega arith) (second-0 j mask low high pos small m c z h)
-      go k c (suc zero) (suc zero) e z h hd hx = moved old _ _ _ _ (j + c) (j + c) (32 + i) (omega arith) (omega arith) (omega arith) (second-1 j mask low high pos small m c z h)
+      go k c (suc zero) (suc zero) e z h hd hx = moved old _ _ _ _ (j + c) (j + c) (32 + i) (omega arith) (omega arith) (omega arith)
+          (second-1 j mask low high pos small m c z h)
       go k c (suc (suc d)) (suc zero) e z h hd hx = absurd (omega arith)
       go k c d zero e z h hd hx = absurd (omega arith)
       go k c d (suc (suc x)) e z h hd hx = absurd (omega arith)
 
-  pub swapping-turn : Swapping j old out (2 * i) → Swapping j old (set (set out (2 * i) (first j mask low high)) (2 * i + 1) (second j mask low high)) (2 * (i + 1))
+  pub swapping-turn : Swapping j old out (2 * i) → Swapping j old (set (set out (2 * i) (first j mask low high)) (2 * i + 1) (second j mask low high))
+      (2 * (i + 1))
   swapping-turn s =
       let e : 2 * (i + 1) ≡ 2 * i + 1 + 1 = omega arith in
       rw e (more j old (set out (2 * i) (first j mask low high)) (2 * i + 1) (second j mask low high) (omega arith)
@@ -165,7 +168,8 @@ module _ (a b j : ℕ) (rows m new : List ℕ) where
 -- before the first round
 begin : (rows : List ℕ) → Between 1 64 rows rows
 begin rows = record {
-  each = λ u v y z hu hv hy hz. ap₂ (λ (p q : ℕ). bit p (getD rows q 0)) {x = y * 64 + z} {y = v * 64 + z} {u = u * 1 + v} {v = y * 64 + u} (omega arith) (omega arith);
+  each = λ u v y z hu hv hy hz. ap₂ (λ (p q : ℕ). bit p (getD rows q 0)) {x = y * 64 + z} {y = v * 64 + z} {u = u * 1 + v} {v = y * 64 + u} (omega arith)
+      (omega arith);
 }
 
 -- THE LAW: six rounds turn the rows round

@@ -89,7 +89,10 @@ module _ (rows : List ℕ) where
       record {
         size = t .size;
         each = λ q k. record {
-          sound = λ x i. let m = t .each q k .sound x i in (m .0, ⊎-elim (λ l. omega arith) (λ l. absurd (l .1 (subst (λ (y : ℕ). In q (getD rows y 0)) (l .0) (m .0)))) (m .1));
+          sound = λ x i. let m = t .each q k .sound x i in (
+            m .0,
+            ⊎-elim (λ l. omega arith) (λ l. absurd (l .1 (subst (λ (y : ℕ). In q (getD rows y 0)) (l .0) (m .0)))) (m .1),
+          );
           whole = λ x r. t .each q k .whole x (r .0, inl (omega arith));
         };
       }

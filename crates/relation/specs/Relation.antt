@@ -50,7 +50,8 @@ pub record Put (before : List ℕ) (first : ℕ) (eight after : List ℕ) (to : 
 pub record Masks (j mask : ℕ) : Type 0 where
   pub digit : (c : ℕ) → c < 64 → bit c mask ≡ 1 - c / j % 2
 
--- x, the digit of weight j of a bit's number, and d, the highest of its word's, have changed places; the word's digits have moved up by one, so that x stands lowest
+-- x, the digit of weight j of a bit's number, and d, the highest of its word's, have changed places; the word's digits have moved up by one, so that x stands
+-- lowest
 pub record Swapped (j : ℕ) (old new : List ℕ) : Type 0 where
   pub size : length new ≡ 64
   pub small : (i : ℕ) → i < 64 → getD new i 0 < 2 ^ 64

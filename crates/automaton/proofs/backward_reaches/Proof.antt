@@ -24,7 +24,8 @@ returns c = λ i p rest symbol h same shows b sub T.
     let s = c .before .before .before .before .before in
     let few = c .before .before .bound in
     leaves-more p _ (s .args .states) _ symbol _ _ _ _ _ rest shows b sub (λ q m. few .ensures .1 q (sub q m)) T
-    (subst (λ (t : List ℕ). Is (setAt (c .before .preimages-by .result) i) (λ q. (q < few .result) × Preimage (Listed t (s .args .events)) (setAt (s .args .then) i) q)) (sym same) (c .before .preimages-by .ensures i h))
+    (subst (λ (t : List ℕ). Is (setAt (c .before .preimages-by .result) i)
+    (λ q. (q < few .result) × Preimage (Listed t (s .args .events)) (setAt (s .args .then) i) q)) (sym same) (c .before .preimages-by .ensures i h))
     (c .closures .ensures i h)
 
 pub backward-reaches-spec : {M : Type 1} → statement M

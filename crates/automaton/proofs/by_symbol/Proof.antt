@@ -22,7 +22,8 @@ Inv-loop sets₀ symbols observable todo₀ sets todo = (todo < 2 ^ 64) × (leng
 abbrev μ-loop : tie.MeasureT-loop
 μ-loop sets₀ symbols observable todo₀ sets todo = todo
 
-next : (c : tie.In-loop Inv-loop μ-loop) → Taken (c .before .loop .todo) (trailingZeros 64 (c .before .loop .todo)) (bitAnd (c .before .loop .todo) (c .before .loop .todo - 1))
+next : (c : tie.In-loop Inv-loop μ-loop) → Taken (c .before .loop .todo) (trailingZeros 64 (c .before .loop .todo))
+    (bitAnd (c .before .loop .todo) (c .before .loop .todo - 1))
 next c = taken (c .before .loop .todo) (omega arith) (c .before .loop .inv .0)
 
 -- the event that is looked at, and its symbol
@@ -87,7 +88,8 @@ loop-again c =
       simp length-set (v .1),
       v .2,
       λ e i. v .3 e (k .kept e i),
-      sort-turn _ _ _ _ _ (symbolIn (c .before)) _ (c .before .before .loop .sets) k refl (omega (arith, v .1, small (c .before))) (seen (c .before)) (with-event _ _ (low (c .before))) (v .4),
+      sort-turn _ _ _ _ _ (symbolIn (c .before)) _ (c .before .before .loop .sets) k refl (omega (arith, v .1, small (c .before))) (seen (c .before))
+          (with-event _ _ (low (c .before))) (v .4),
     )
 
 same-length : tie.Need-same-length Inv-loop μ-loop
@@ -96,7 +98,10 @@ same-length c = omega (arith, c .before .loop .inv .1, ap length (c .before .bef
 returns : tie.Need-returns Inv-loop μ-loop
 returns c = λ t.
     let v = c .before .loop .inv in
-    record { size = v .1; each = λ k h. sort-end (automatonOf t (c .before .before .before .before .args .header)) _ _ _ (v .2) (c .loop-test .left) (v .4 k h) }
+    record {
+      size = v .1;
+      each = λ k h. sort-end (automatonOf t (c .before .before .before .before .args .header)) _ _ _ (v .2) (c .loop-test .left) (v .4 k h);
+    }
 
 pub by-symbol-spec : {M : Type 1} → statement M
 by-symbol-spec =

@@ -23,7 +23,8 @@ Inv-loop table events set left₀ r₀ left r = (left < 2 ^ 64) × Joined (λ e.
 abbrev μ-loop : tie.MeasureT-loop
 μ-loop table events set left₀ r₀ left r = left
 
-next : (c : tie.In-loop Inv-loop μ-loop) → Taken (c .before .loop .left) (trailingZeros 64 (c .before .loop .left)) (bitAnd (c .before .loop .left) (c .before .loop .left - 1))
+next : (c : tie.In-loop Inv-loop μ-loop) → Taken (c .before .loop .left) (trailingZeros 64 (c .before .loop .left))
+    (bitAnd (c .before .loop .left) (c .before .loop .left - 1))
 next c = taken (c .before .loop .left) (omega arith) (c .before .loop .inv .0)
 
 falls : (a b k : ℕ) → b < k → bitAnd a b < k
@@ -55,14 +56,16 @@ loop-again : tie.Need-loop-again Inv-loop μ-loop
 loop-again c = (
   falls (c .before .before .before .loop .left) _ _ (omega (arith, c .before .before .before .loop .inv .0)),
   join-turn _ _ _ _ _ _ _ (next (c .before .before))
-      (subst (λ (l : List ℕ). Is (c .image .result) (Image (Row l) (c .before .before .before .before .before .args .set))) (c .before .event-rows .ensures) (c .image .ensures))
+      (subst (λ (l : List ℕ). Is (c .image .result) (Image (Row l) (c .before .before .before .before .before .args .set))) (c .before .event-rows .ensures)
+      (c .image .ensures))
       (c .before .before .before .loop .inv .1),
 )
 
 returns : tie.Need-returns Inv-loop μ-loop
 returns c =
     let s = c .before .before .before in
-    image-joined _ _ _ _ (s .pre .0) (λ k. omega (arith, c .before .before .shared-slice-known .given k)) (s .pre .1) (join-end _ _ _ _ (c .loop-test .left) (c .before .loop .inv .1))
+    image-joined _ _ _ _ (s .pre .0) (λ k. omega (arith, c .before .before .shared-slice-known .given k)) (s .pre .1)
+    (join-end _ _ _ _ (c .loop-test .left) (c .before .loop .inv .1))
 
 pub image-by-spec : {M : Type 1} → statement M
 image-by-spec =

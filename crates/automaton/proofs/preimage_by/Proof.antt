@@ -22,7 +22,8 @@ Inv-loop table events pairs set todo₀ r₀ todo r = (todo < 2 ^ 64) × Joined 
 abbrev μ-loop : tie.MeasureT-loop
 μ-loop table events pairs set todo₀ r₀ todo r = todo
 
-next : (c : tie.In-loop Inv-loop μ-loop) → Taken (c .before .loop .todo) (trailingZeros 64 (c .before .loop .todo)) (bitAnd (c .before .loop .todo) (c .before .loop .todo - 1))
+next : (c : tie.In-loop Inv-loop μ-loop) → Taken (c .before .loop .todo) (trailingZeros 64 (c .before .loop .todo))
+    (bitAnd (c .before .loop .todo) (c .before .loop .todo - 1))
 next c = taken (c .before .loop .todo) (omega arith) (c .before .loop .inv .0)
 
 loop-holds : tie.Need-loop-holds Inv-loop μ-loop
@@ -39,7 +40,9 @@ event-rows-requires : tie.Need-event-rows-requires Inv-loop μ-loop
 event-rows-requires c κs = (c .before .before .before .pre .0, small c)
 
 preimage-requires : tie.Need-preimage-requires Inv-loop μ-loop
-preimage-requires c κs = (ap length (c .event-rows .ensures) ∙ part-size _ _ (small (c .before)) (c .before .before .before .before .pre .0), c .before .before .before .before .pre .2)
+preimage-requires c κs =
+    let s = c .before .before .before .before in
+    (ap length (c .event-rows .ensures) ∙ part-size _ _ (small (c .before)) (s .pre .0), s .pre .2)
 
 sub-todo : tie.Need-sub-todo Inv-loop μ-loop
 sub-todo c = omega arith

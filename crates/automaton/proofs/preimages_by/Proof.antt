@@ -20,12 +20,14 @@ use Rattle.automaton.proofs.preimages_by.Statement.{statement}
 use Rattle.automaton.proofs.preimages_by.Tie as tie
 
 abbrev Inv-loop : tie.InvT-loop
-Inv-loop table events few into todo₀ r₀ todo r = (todo < 2 ^ 64) × ((i : ℕ) → i < 4 → Joined (λ e. Leading (wordsOf table e) few (setAt into i)) events todo (setAt r i))
+Inv-loop table events few into todo₀ r₀ todo r = (todo < 2 ^ 64)
+    × ((i : ℕ) → i < 4 → Joined (λ e. Leading (wordsOf table e) few (setAt into i)) events todo (setAt r i))
 
 abbrev μ-loop : tie.MeasureT-loop
 μ-loop table events few into todo₀ r₀ todo r = todo
 
-next : (c : tie.In-loop Inv-loop μ-loop) → Taken (c .before .loop .todo) (trailingZeros 64 (c .before .loop .todo)) (bitAnd (c .before .loop .todo) (c .before .loop .todo - 1))
+next : (c : tie.In-loop Inv-loop μ-loop) → Taken (c .before .loop .todo) (trailingZeros 64 (c .before .loop .todo))
+    (bitAnd (c .before .loop .todo) (c .before .loop .todo - 1))
 next c = taken (c .before .loop .todo) (omega arith) (c .before .loop .inv .0)
 
 no-sets-requires : tie.Need-no-sets-requires Inv-loop μ-loop
@@ -33,8 +35,11 @@ no-sets-requires c κs = search needs
 
 loop-holds : tie.Need-loop-holds Inv-loop μ-loop
 loop-holds c =
-    let s = c .before .before .args in
-    (omega arith, λ i l. subst (Joined (λ e. Leading (wordsOf (now (s .table)) e) (s .few) (setAt (s .into) i)) (s .events) (s .events)) (sym (c .no-sets .ensures i l)) (join-start _ _))
+    let s = c .before .before .args in (
+      omega arith,
+      λ i l. subst (Joined (λ e. Leading (wordsOf (now (s .table)) e) (s .few) (setAt (s .into) i)) (s .events) (s .events))
+          (sym (c .no-sets .ensures i l)) (join-start _ _),
+    )
 
 cast-e : tie.Need-cast-e Inv-loop μ-loop
 cast-e c = omega (arith, next c .small)
@@ -67,9 +72,11 @@ loop-again c =
     let k = next (c .before .before .before) in
     let some = c .before .preimages in (
       omega (arith, k .less),
-      λ i h. subst (Joined (λ e. Leading (wordsOf (now (a .table)) e) (a .few) (setAt (a .into) i)) (a .events) (bitAnd (l .todo) (l .todo - 1))) (sym (c .join .ensures i h))
+      λ i h. subst (Joined (λ e. Leading (wordsOf (now (a .table)) e) (a .few) (setAt (a .into) i)) (a .events) (bitAnd (l .todo) (l .todo - 1)))
+          (sym (c .join .ensures i h))
           (join-turn _ _ _ _ _ _ _ k
-          (subst (λ (w : List ℕ). Is (setAt (some .result) i) (Leading w (a .few) (setAt (a .into) i))) (c .before .before .event-rows .ensures) (some .ensures i h))
+          (subst (λ (w : List ℕ). Is (setAt (some .result) i) (Leading w (a .few) (setAt (a .into) i))) (c .before .before .event-rows .ensures)
+          (some .ensures i h))
           (l .inv .1 i h)),
     )
 

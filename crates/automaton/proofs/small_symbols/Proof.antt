@@ -15,7 +15,8 @@ Inv-loop symbols observable untested₀ untested = Tested symbols observable unt
 abbrev μ-loop : tie.MeasureT-loop
 μ-loop symbols observable untested₀ untested = untested
 
-next : (c : tie.In-loop Inv-loop μ-loop) → Taken (c .before .loop .untested) (trailingZeros 64 (c .before .loop .untested)) (bitAnd (c .before .loop .untested) (c .before .loop .untested - 1))
+next : (c : tie.In-loop Inv-loop μ-loop) → Taken (c .before .loop .untested) (trailingZeros 64 (c .before .loop .untested))
+    (bitAnd (c .before .loop .untested) (c .before .loop .untested - 1))
 next c = taken (c .before .loop .untested) (omega arith) (c .before .loop .inv .1)
 
 upper-bound-requires : tie.Need-upper-bound-requires Inv-loop μ-loop

@@ -32,7 +32,8 @@ without-requires c κs = search needs
 loop-holds : tie.Need-loop-holds Inv-loop μ-loop
 loop-holds c =
     let s = c .before .before .before in
-    let small = four (λ i. setAt (s .args .allowed) i < 2 ^ 64) (omega (arith, s .good)) (omega (arith, s .good)) (omega (arith, s .good)) (omega (arith, s .good)) in
+    let small = four (λ i. setAt (s .args .allowed) i < 2 ^ 64) (omega (arith, s .good)) (omega (arith, s .good)) (omega (arith, s .good))
+    (omega (arith, s .good)) in
     λ i l from e. close-start _ _ _ _ _ (small i l) e (c .without .ensures i l)
 
 any-requires : tie.Need-any-requires Inv-loop μ-loop
@@ -54,8 +55,10 @@ returns : tie.Need-returns Inv-loop μ-loop
 returns c =
     let s = c .before .before .before .before .before .before .before .before .before .before .before in
     let l = c .before .before .before .before .before .before .before .loop in
-    λ i h. close-end (Row (now (s .args .rows))) _ _ _ _ _ _ (c .before .before .before .both2 .ensures i h) (c .before .before .before .before .images .ensures i h)
-    (l .inv i h (setAt (s .args .from) i) (c .before .before .before .before .before .before .before .before .before .both .ensures i h)) _ (c .without2 .ensures i h)
+    λ i h. close-end (Row (now (s .args .rows))) _ _ _ _ _ _ (c .before .before .before .both2 .ensures i h)
+    (c .before .before .before .before .images .ensures i h)
+    (l .inv i h (setAt (s .args .from) i) (c .before .before .before .before .before .before .before .before .before .both .ensures i h)) _
+    (c .without2 .ensures i h)
     (λ q j. empty q _ (c .before .if2 .taken) (c .before .before .any2 .ensures .whole q (i, h, j)))
 
 without-requires-3 : tie.Need-without-requires-3 Inv-loop μ-loop
@@ -67,9 +70,11 @@ loop-less c =
     let l = c .before .before .before .before .before .before .before .loop in
     let new = c .before .before .before .both2 in
     let any = c .before .before .any2 in
-    let m = any .ensures .sound (trailingZeros 64 (any .result)) (trailing-in 64 (any .result) (omega (arith, c .before .if2 .left)) (omega (arith, any .ok))) in
+    let m = any .ensures .sound (trailingZeros 64 (any .result))
+    (trailing-in 64 (any .result) (omega (arith, c .before .if2 .left)) (omega (arith, any .ok))) in
     let start = c .before .before .before .before .before .before .before .before .before .both .ensures (m .0) (m .1) in
-    total-less (l .missing) (c .without3 .result) (λ i h. omega (arith, c .without3 .ensures i h, and-le-l (setAt (l .missing) i) (complement (setAt (new .result) i)))) (m .0) (m .1)
+    total-less (l .missing) (c .without3 .result) (λ i h. omega
+    (arith, c .without3 .ensures i h, and-le-l (setAt (l .missing) i) (complement (setAt (new .result) i)))) (m .0) (m .1)
     (close-less (Row (now (s .rows))) _ _ _ _ _ _ (new .ensures (m .0) (m .1)) (c .before .before .before .before .images .ensures (m .0) (m .1))
     (l .inv (m .0) (m .1) (setAt (s .from) (m .0)) start) _ (c .without3 .ensures (m .0) (m .1)) _ (m .2))
 
@@ -77,7 +82,8 @@ loop-again : tie.Need-loop-again Inv-loop μ-loop
 loop-again c =
     let s = c .before .before .before .before .before .before .before .before .before .before .before in
     let l = c .before .before .before .before .before .before .before .loop in
-    λ i h from e. close-turn (Row (now (s .args .rows))) _ _ _ _ _ _ (c .before .before .before .both2 .ensures i h) (c .before .before .before .before .images .ensures i h)
+    λ i h from e. close-turn (Row (now (s .args .rows))) _ _ _ _ _ _ (c .before .before .before .both2 .ensures i h)
+    (c .before .before .before .before .images .ensures i h)
     (l .inv i h from e) _ (c .without3 .ensures i h)
 
 returns-2 : tie.Need-returns-2 Inv-loop μ-loop

@@ -39,8 +39,12 @@ loop-less c = omega arith
 loop-again : tie.Need-loop-again Inv-loop μ-loop
 loop-again c =
     let l = c .before .before .loop in
-    let from = c .before .before .before .args .from .now in
-    (omega arith, simp length-set (l .inv .1), filled (λ k v. v ≡ getD from k 0) (l .to) (l .i) (getD from (l .i) 0) (omega (arith, l .inv .1)) (l .inv .2) refl)
+    let from = c .before .before .before .args .from .now in (
+      omega arith,
+      simp length-set (l .inv .1),
+      filled (λ k v. v ≡ getD from k 0) (l .to) (l .i) (getD from (l .i) 0) (omega (arith, l .inv .1)) (l .inv .2)
+          refl,
+    )
 
 same-length : tie.Need-same-length Inv-loop μ-loop
 same-length c = c .before .loop .inv .1 ∙ sym (c .before .before .pre .1)

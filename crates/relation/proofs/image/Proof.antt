@@ -17,7 +17,8 @@ Inv-loop rows set todo₀ r₀ todo r = (todo < 2 ^ 64) × Joined (Row rows) set
 abbrev μ-loop : tie.MeasureT-loop
 μ-loop rows set todo₀ r₀ todo r = todo
 
-next : (c : tie.In-loop Inv-loop μ-loop) → Taken (c .before .loop .todo) (trailingZeros 64 (c .before .loop .todo)) (bitAnd (c .before .loop .todo) (c .before .loop .todo - 1))
+next : (c : tie.In-loop Inv-loop μ-loop) → Taken (c .before .loop .todo) (trailingZeros 64 (c .before .loop .todo))
+    (bitAnd (c .before .loop .todo) (c .before .loop .todo - 1))
 next c = taken (c .before .loop .todo) (omega arith) (c .before .loop .inv .0)
 
 loop-holds : tie.Need-loop-holds Inv-loop μ-loop

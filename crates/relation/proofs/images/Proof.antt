@@ -34,7 +34,8 @@ Inv-loop rows waves todo₀ r₀ todo r = (todo < 2 ^ 64) × ((i : ℕ) → i < 
 abbrev μ-loop : tie.MeasureT-loop
 μ-loop rows waves todo₀ r₀ todo r = todo
 
-next : (c : tie.In-loop Inv-loop μ-loop) → Taken (c .before .loop .todo) (trailingZeros 64 (c .before .loop .todo)) (bitAnd (c .before .loop .todo) (c .before .loop .todo - 1))
+next : (c : tie.In-loop Inv-loop μ-loop) → Taken (c .before .loop .todo) (trailingZeros 64 (c .before .loop .todo))
+    (bitAnd (c .before .loop .todo) (c .before .loop .todo - 1))
 next c = taken (c .before .loop .todo) (omega arith) (c .before .loop .inv .0)
 
 any-requires : tie.Need-any-requires Inv-loop μ-loop
@@ -46,8 +47,11 @@ no-sets-requires c κs = search needs
 loop-holds : tie.Need-loop-holds Inv-loop μ-loop
 loop-holds c =
     let s = c .before .before .before .args in
-    let all = c .before .any .result in
-    (omega (arith, c .before .any .ok), λ i l. subst (Joined (Adds (now (s .rows)) (setAt (s .waves) i)) all all) (sym (c .no-sets .ensures i l)) (join-start _ _))
+    let all = c .before .any .result in (
+      omega (arith, c .before .any .ok),
+      λ i l. subst (Joined (Adds (now (s .rows)) (setAt (s .waves) i)) all all) (sym (c .no-sets .ensures i l))
+          (join-start _ _),
+    )
 
 cast-row : tie.Need-cast-row Inv-loop μ-loop
 cast-row c = omega (arith, next c .small)

@@ -35,7 +35,8 @@ returns c =
     let n = a .first in
     let fits = s .pre .1 in
     let turn = row-turn (now (a .rows)) (n + 2) (a .set) in
-    let higher = turn (n + 1) (n + 2) 0 _ (omega arith) (omega arith) (omega (arith, fits)) (from-start _ _ (λ x m. m .0)) (c .before .before .shift .ensures) in
+    let higher = turn (n + 1) (n + 2) 0 _ (omega arith) (omega arith) (omega (arith, fits)) (from-start _ _ (λ x m. m .0))
+    (c .before .before .shift .ensures) in
     let two = turn n (n + 1) _ _ (omega arith) (omega arith) (omega (arith, fits)) higher (c .shift2 .ensures) in
     record { sound = λ d i. let m = two .sound d i in (omega (arith, m .0), m .1); whole = λ d m. two .whole d (omega (arith, m .0), m .1) }
 

@@ -1,4 +1,5 @@
--- `relation::preimage` meets its contract. The invariant: `r` has the states from `2 left` on, below `2 pairs`, whose rows meet the set, each `2 left` places lower.
+-- `relation::preimage` meets its contract. The invariant: `r` has the states from `2 left` on, below `2 pairs`, whose rows meet the set, each `2 left` places
+-- lower.
 use Prim.Native.Nat.{ℕ, _+_, _-_, _*_, _≤_, _<_}
 use native.Mathlib.Omega.{arith}
 use denote.Ref.{now}
@@ -42,7 +43,8 @@ loop-again c =
     let n = 2 * (l .left - 1) in (
       omega arith,
       from-turn _ 2 n (2 * l .left) (l .r) _ (omega arith) (omega (arith, l .inv .0, s .pre .1)) (l .inv .1)
-          (or-is _ _ (moved-is 2 (l .r)) (below (Preimage (Row (now (s .args .rows))) (s .args .set)) n (s .args .pairs) (c .pair .result) (omega (arith, l .inv .0)) (c .pair .ensures))),
+          (or-is _ _ (moved-is 2 (l .r)) (below (Preimage (Row (now (s .args .rows))) (s .args .set)) n (s .args .pairs) (c .pair .result)
+          (omega (arith, l .inv .0)) (c .pair .ensures))),
     )
 
 returns : tie.Need-returns Inv-loop μ-loop

@@ -21,8 +21,11 @@ no-sets-requires c κs = search needs
 
 loop-holds : tie.Need-loop-holds Inv-loop μ-loop
 loop-holds c =
-    let s = c .before .before .args in
-    (omega arith, λ i l. subst (From (Leading (now (s .rows)) (s .few) (setAt (s .into) i)) (s .few)) (sym (c .no-sets .ensures i l)) (from-start _ _ (λ x m. m .0)))
+    let s = c .before .before .args in (
+      omega arith,
+      λ i l. subst (From (Leading (now (s .rows)) (s .few) (setAt (s .into) i)) (s .few)) (sym (c .no-sets .ensures i l))
+          (from-start _ _ (λ x m. m .0)),
+    )
 
 sub-q : tie.Need-sub-q Inv-loop μ-loop
 sub-q c = omega arith
@@ -52,7 +55,8 @@ loop-again : tie.Need-loop-again Inv-loop μ-loop
 loop-again c =
     let l = c .before .before .before .before .before .before .loop in
     let s = c .before .before .before .before .before .before .before .before .before in
-    let turn : (set r up : ℕ) → _ = λ set r up. row-turn (now (s .args .rows)) (s .args .few) set (l .q - 1) (l .q) r up (omega arith) (l .inv .0) (s .pre .1) in (
+    let turn : (set r up : ℕ) → _ = λ set r up. row-turn (now (s .args .rows)) (s .args .few) set (l .q - 1) (l .q) r up (omega arith) (l .inv .0)
+    (s .pre .1) in (
       omega arith,
       four (λ i. From (Leading (now (s .args .rows)) (s .args .few) (setAt (s .args .into) i)) (l .q - 1) (setAt _ i))
           (turn _ _ _ (l .inv .1 0 (omega arith)) (c .before .before .before .shift .ensures))

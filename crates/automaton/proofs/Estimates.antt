@@ -1,14 +1,14 @@
 -- How many states are possible after a trace. Assumes nothing.
 use Prim.Native.Nat.{ℕ, _≤_}
-use mathlib.Core.Path.{refl, ap, _∙_}
+use mathlib.Core.Path.{refl, ap, subst, _∙_}
 use mathlib.Core.List.{List, [], append-nil}
 use native.Mathlib.Omega.{arith}
 use lib.ListN.{length}
 use lib.Seq.{take-length}
 use Rattle.stateset.specs.Set.{In, Is, Counts}
-use Rattle.stateset.proofs.Counting.{counts-as, counts-some, counts-below}
+use Rattle.stateset.proofs.Counting.{counts-as, counts-one, counts-some, counts-below}
 use Rattle.automaton.specs.Run.{Automaton, endOf, Possible}
-use Rattle.automaton.specs.Reaching.{Arrives, EstimateSize, DelayedEstimate}
+use Rattle.automaton.specs.Reaching.{Arrives, EstimateSize, SizeWithin, RightSize, DelayedEstimate}
 use Rattle.automaton.proofs.Runs.{end-small}
 use Rattle.automaton.proofs.Positions.{part-run}
 
@@ -40,3 +40,7 @@ module _ (p : Automaton) (trace : List ℕ) where
 
   pub size-most : (n : ℕ) → p .initial ≤ 63 → EstimateSize p trace n → n ≤ 64
   size-most n start c = counts-below n 64 (λ q a. omega (arith, a .ends, end-small p (p .initial) (a .run) start (a .compatible .takes))) c
+
+-- a number by the definition is the only one
+pub right-size : (p : Automaton) (trace : List ℕ) (n : ℕ) → SizeWithin n → EstimateSize p trace n → RightSize p trace n
+right-size p trace n within x = record { exactly = λ m. (λ e. subst (EstimateSize p trace) e x, λ y. counts-one n m x y); within = within }

@@ -12,10 +12,10 @@ use Rattle.automaton.specs.Symbols.{WithoutSymbols, Distinct, SameButSymbols, A
 use Rattle.automaton.proofs.Agreeing.{agree-back, possible-agree, sureAt-agree}
 use Rattle.automaton.proofs.Spelling.{take-events, same-length, alike-agree, distinct-alike, events-spelled, same-agree, same-back}
 use Rattle.verifier.proofs.Agreed as estimators
-use Rattle.verifier.specs.declared.Notion.{Notion}
-use Rattle.verifier.specs.declared.Notion.the-variants.{Weak, Strong}
-use Rattle.verifier.specs.declared.Secret.{Secret}
-use Rattle.verifier.specs.Secrets.{largest}
+use Rattle.opacity.specs.declared.Notion.{Notion}
+use Rattle.opacity.specs.declared.Notion.the-variants.{Weak, Strong}
+use Rattle.opacity.specs.declared.Secret.{Secret}
+use Rattle.opacity.specs.Secrets.{largest}
 use Rattle.enforcer.specs.SafePrefix.{Excused, Safe, SafeForAll}
 use Rattle.enforcer.specs.Queues.{Longest, Queue}
 use Rattle.enforcer.specs.Enforcers.{Grown}

@@ -38,13 +38,13 @@ use Rattle.automaton.proofs.Spelling.{
 }
 use Rattle.automaton.proofs.Agreeing.{possible-agree, impossible-agree, size-agree}
 use Rattle.automaton.proofs.Headers.{both-observable, own-sound, same-observable, same-sound, relabelled, same-header}
-use Rattle.verifier.specs.declared.Notion.{Notion}
-use Rattle.verifier.specs.declared.Secret.{Secret}
-use Rattle.verifier.specs.declared.Further.{Further}
-use Rattle.verifier.specs.Secrets.{furtherOf, secretsOf, ForEach, Allowed, TooLarge}
-use Rattle.verifier.specs.Verdicts.{Steps, none, leak, Tells}
-use Rattle.verifier.proofs.Numbering.{allowed-not-large}
-use Rattle.verifier.proofs.Exactness.{in-words, exactly}
+use Rattle.opacity.specs.declared.Notion.{Notion}
+use Rattle.opacity.specs.declared.Secret.{Secret}
+use Rattle.opacity.specs.declared.Further.{Further}
+use Rattle.opacity.specs.Secrets.{furtherOf, secretsOf, ForEach, Allowed, TooLarge}
+use Rattle.opacity.specs.Verdicts.{Steps, none, leak, Tells}
+use Rattle.opacity.proofs.Numbering.{allowed-not-large}
+use Rattle.opacity.proofs.Exactness.{in-words, exactly}
 use Rattle.verifier.proofs.Agreed.{alike-tells, sizes-agree, same-tells}
 use Rattle.enforcer.specs.SafePrefix.{SafeForAll}
 use Rattle.enforcer.specs.Queues.{Longest}

@@ -10,16 +10,16 @@ use lib.ListN.{length, getD, take}
 use lib.Seq.{getD-take}
 use Rattle.automaton.specs.Run.{Automaton}
 use Rattle.automaton.specs.declared.Header.{Header}
-use Rattle.verifier.specs.declared.Notion.{Notion}
-use Rattle.verifier.specs.declared.Notion.the-variants.{Weak, Strong}
-use Rattle.verifier.specs.declared.Secret.{Secret}
-use Rattle.verifier.specs.declared.Further.{Further}
+use Rattle.opacity.specs.declared.Notion.{Notion}
+use Rattle.opacity.specs.declared.Notion.the-variants.{Weak, Strong}
+use Rattle.opacity.specs.declared.Secret.{Secret}
+use Rattle.opacity.specs.declared.Further.{Further}
 use Rattle.verifier.specs.declared.SecretVerdicts.{SecretVerdicts}
-use Rattle.verifier.specs.Secrets.{own, secretsOf, secretAt, ForEach, largest, clearedOf}
-use Rattle.verifier.specs.Verdicts.{Steps, none, Tells}
+use Rattle.opacity.specs.Secrets.{own, secretsOf, secretAt, ForEach, largest, clearedOf}
+use Rattle.opacity.specs.Verdicts.{Steps, none, Tells}
 use Rattle.verifier.specs.Replies.{Told, chosenEach, stepsEach, stepsBy, noneTold, toldAt, toldEach, numbered, toldOf}
-use Rattle.verifier.proofs.Numbering.{largest-bounds, same-secrets, how-many-most, getD-map}
-use Rattle.published.proofs.Corollary.{every-verdict}
+use Rattle.opacity.proofs.Numbering.{largest-bounds, same-secrets, how-many-most, getD-map}
+use Rattle.opacity.proofs.EveryVerdict.{every-verdict}
 use Rattle.enforcer.specs.SafePrefix.{Safe, SafeForAll, SafeForAllByRuns, UnsafeForSome}
 use Rattle.enforcer.specs.Queues.{Laws, Longest}
 use Rattle.enforcer.specs.Inner.{waitOf, WaitAt, LargestWait}

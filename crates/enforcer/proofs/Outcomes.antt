@@ -5,19 +5,19 @@ use Prim.Native.Nat.{ℕ, _+_, _≤_}
 use native.Mathlib.Omega.{arith}
 use lib.ListN.{length, getD}
 use Rattle.automaton.specs.Run.{automatonOf, Sound}
-use Rattle.automaton.specs.Reaching.{EstimateSize}
+use Rattle.automaton.specs.Reaching.{EstimateSize, SizeWithin}
 use Rattle.automaton.specs.declared.Header.{Header}
 use Rattle.refusal.specs.declared.Refusal.{Refusal}
 use Rattle.refusal.specs.Refusals.{numberOf}
 use Rattle.automaton.proofs.SymbolSets.{observable-small}
-use Rattle.verifier.specs.declared.Notion.{Notion}
-use Rattle.verifier.specs.declared.Further.{Further}
+use Rattle.opacity.specs.declared.Notion.{Notion}
+use Rattle.opacity.specs.declared.Further.{Further}
 use Rattle.verifier.specs.declared.Estimator.{Estimator}
-use Rattle.verifier.specs.Secrets.{secretsOf, ForEach, lookBackOf}
-use Rattle.verifier.specs.Verdicts.{Steps, none, Tells}
+use Rattle.opacity.specs.Secrets.{secretsOf, ForEach, lookBackOf}
+use Rattle.opacity.specs.Verdicts.{Steps, none, Tells}
 use Rattle.verifier.specs.Estimators as estimators
 use Rattle.verifier.specs.Replies as verifier
-use Rattle.verifier.specs.Replies.{SizeWithin, Accepting, Moved, TellsBy}
+use Rattle.verifier.specs.Replies.{Accepting, Moved, TellsBy}
 use Rattle.enforcer.specs.Enforcers.{Limits, InLimits, Grown, secretsIn}
 use Rattle.enforcer.specs.Offerings.{refused, said, Offering, not-observable, incompatible, accepted}
 use Rattle.enforcer.specs.Inner.{PendingWithin, LargestWait, Took}

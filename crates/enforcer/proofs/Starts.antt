@@ -7,18 +7,18 @@ use native.Mathlib.Omega.{arith}
 use lib.ListN.{length, getD}
 use Rattle.automaton.specs.Run.{Automaton, automatonOf, Sound}
 use Rattle.automaton.specs.declared.Header.{Header}
-use Rattle.verifier.specs.declared.Notion.{Notion}
-use Rattle.verifier.specs.declared.Secret.{Secret}
-use Rattle.verifier.specs.declared.Further.{Further}
+use Rattle.opacity.specs.declared.Notion.{Notion}
+use Rattle.opacity.specs.declared.Secret.{Secret}
+use Rattle.opacity.specs.declared.Further.{Further}
 use Rattle.verifier.specs.declared.SecretVerdicts.{SecretVerdicts}
 use Rattle.verifier.specs.declared.Estimator.{Estimator}
-use Rattle.verifier.specs.Secrets.{secretsOf, secretAt, ForEach, largest, clearedOf, Allowed}
-use Rattle.verifier.specs.Verdicts.{Steps, none, leak, Tells}
+use Rattle.opacity.specs.Secrets.{secretsOf, secretAt, ForEach, largest, clearedOf, Allowed}
+use Rattle.opacity.specs.Verdicts.{Steps, none, leak, Tells}
 use Rattle.verifier.specs.Estimators as estimators
 use Rattle.verifier.specs.Replies as verifier
 use Rattle.verifier.specs.Replies.{Opening, toldEach, chosenEach, stepsEach}
-use Rattle.verifier.proofs.Numbering.{look-back-small}
-use Rattle.verifier.proofs.Exactness.{clear-unsure}
+use Rattle.opacity.proofs.Numbering.{look-back-small}
+use Rattle.opacity.proofs.Exactness.{clear-unsure}
 use Rattle.verifier.proofs.PastCount.{past-count, past-secrets, past-allowed, past-large, withFurther, past-limits, past-grown}
 use Rattle.enforcer.specs.Enforcers.{Limits, InLimits, Padded, Grown, GrownOn}
 use Rattle.enforcer.specs.Queues.{Queue}

@@ -12,11 +12,11 @@ use Rattle.stateset.specs.Set.{Decided}
 use Rattle.stateset.proofs.Decides.{decided-as}
 use Rattle.automaton.specs.Run.{Automaton, Possible, Sound}
 use Rattle.automaton.specs.declared.Header.{Header}
-use Rattle.verifier.specs.declared.Notion.{Notion}
+use Rattle.opacity.specs.declared.Notion.{Notion}
 use Rattle.verifier.specs.declared.Estimator.{Estimator}
-use Rattle.verifier.specs.declared.Secret.{Secret}
-use Rattle.verifier.specs.Secrets.{ForEach, largest, lookBackOf}
-use Rattle.verifier.specs.Verdicts.{Steps, none, Tells}
+use Rattle.opacity.specs.declared.Secret.{Secret}
+use Rattle.opacity.specs.Secrets.{ForEach, largest, lookBackOf}
+use Rattle.opacity.specs.Verdicts.{Steps, none, Tells}
 use Rattle.verifier.specs.Estimators as estimators
 use Rattle.enforcer.specs.SafePrefix.{SafeForAll}
 use Rattle.enforcer.specs.Enforcers.{Limits, InLimits, pendingOf, Padded, Grown}

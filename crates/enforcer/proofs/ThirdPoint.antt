@@ -8,11 +8,11 @@ use lib.Seq.{length-take-le}
 use Rattle.automaton.specs.Run.{automatonOf, Sound}
 use Rattle.automaton.specs.declared.Header.{Header}
 use Rattle.automaton.proofs.Traces.{prefix-possible}
-use Rattle.verifier.specs.declared.Notion.{Notion}
-use Rattle.verifier.specs.declared.Secret.{Secret}
-use Rattle.verifier.specs.declared.Further.{Further}
-use Rattle.verifier.specs.Secrets.{secretsOf, lookBackOf, clearedOf}
-use Rattle.verifier.proofs.Exactness.{right-size}
+use Rattle.opacity.specs.declared.Notion.{Notion}
+use Rattle.opacity.specs.declared.Secret.{Secret}
+use Rattle.opacity.specs.declared.Further.{Further}
+use Rattle.opacity.specs.Secrets.{secretsOf, lookBackOf, clearedOf}
+use Rattle.automaton.proofs.Estimates.{right-size}
 use Rattle.published.specs.Source.{Enforced}
 use Rattle.enforcer.specs.SafePrefix.{SafeForAll}
 use Rattle.enforcer.specs.Enforcers.{Grown, GrownOn}

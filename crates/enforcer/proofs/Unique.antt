@@ -7,9 +7,9 @@ use native.Mathlib.Decide.{decLt}
 use lib.ListN.{length, getD, take, drop}
 use lib.Seq.{ext-getD, getD-take}
 use Rattle.automaton.specs.Run.{Automaton}
-use Rattle.verifier.specs.declared.Notion.{Notion}
-use Rattle.verifier.specs.declared.Secret.{Secret}
-use Rattle.verifier.specs.Secrets.{largest}
+use Rattle.opacity.specs.declared.Notion.{Notion}
+use Rattle.opacity.specs.declared.Secret.{Secret}
+use Rattle.opacity.specs.Secrets.{largest}
 use Rattle.verifier.proofs.Growing as estimators
 use Rattle.enforcer.specs.Queues.{Longest}
 use Rattle.enforcer.specs.Enforcers.{Padded, Grown}

@@ -5,9 +5,9 @@ use Prim.Native.Nat.{ℕ, _+_, _≤_, _<_}
 use lib.ListN.{length, getD, take}
 use Rattle.automaton.specs.Run.{Automaton, automatonOf, Possible}
 use Rattle.automaton.specs.declared.Header.{Header}
-use Rattle.verifier.specs.declared.Notion.{Notion}
-use Rattle.verifier.specs.declared.Secret.{Secret}
-use Rattle.verifier.specs.Secrets.{secretsOf, largest, lookBackOf}
+use Rattle.opacity.specs.declared.Notion.{Notion}
+use Rattle.opacity.specs.declared.Secret.{Secret}
+use Rattle.opacity.specs.Secrets.{secretsOf, largest, lookBackOf}
 use Rattle.verifier.specs.Estimators as estimator
 use Rattle.enforcer.specs.SafePrefix.{SafeForAll}
 use Rattle.enforcer.specs.Queues.{Queue}

@@ -5,9 +5,9 @@ use mathlib.Core.Logic.{_⊎_, _↔_}
 use Prim.Native.Nat.{ℕ, _+_, _-_, _≤_, _<_}
 use lib.ListN.{length, getD, take, drop}
 use Rattle.verifier.specs.declared.Estimator.{Estimator}
-use Rattle.verifier.specs.declared.Secret.{Secret}
-use Rattle.verifier.specs.Secrets.{secretAt, ForEach}
-use Rattle.verifier.specs.Verdicts.{Steps, none, leak}
+use Rattle.opacity.specs.declared.Secret.{Secret}
+use Rattle.opacity.specs.Secrets.{secretAt, ForEach}
+use Rattle.opacity.specs.Verdicts.{Steps, none, leak}
 use Rattle.enforcer.specs.Enforcers.{pendingOf, Padded}
 use Rattle.enforcer.specs.declared.Enforcer.{Enforcer}
 use Rattle.enforcer.specs.declared.OfferAnswer.{OfferAnswer}

@@ -5,10 +5,10 @@ use Prim.Native.Nat.{ℕ, suc, _+_, _≤_, _<_}
 use lib.ListN.{length, take}
 use Rattle.automaton.specs.Run.{automatonOf, Possible, Impossible, Observable}
 use Rattle.automaton.specs.declared.Header.{Header}
-use Rattle.verifier.specs.declared.Notion.{Notion}
-use Rattle.verifier.specs.declared.Further.{Further}
-use Rattle.verifier.specs.Secrets.{secretsOf, lookBackOf, clearedOf}
-use Rattle.verifier.specs.Calls.{RightSize}
+use Rattle.opacity.specs.declared.Notion.{Notion}
+use Rattle.opacity.specs.declared.Further.{Further}
+use Rattle.opacity.specs.Secrets.{secretsOf, lookBackOf, clearedOf}
+use Rattle.automaton.specs.Reaching.{RightSize}
 use Rattle.published.specs.Source.{SafeToOutputForAll}
 use Rattle.enforcer.specs.SafePrefix.{SafeForAll, SafeForAllByRuns, UnsafeForSome}
 use Rattle.enforcer.specs.Enforcers.{GrownOn}

@@ -3,9 +3,9 @@ use refusal::Refusal;
 use verifier::Answer;
 use verifier::AnswerBy;
 use verifier::Estimator;
-use verifier::Further;
-use verifier::Notion;
-use verifier::Verdict;
+use opacity::Further;
+use opacity::Notion;
+use opacity::Verdict;
 use verifier::VerdictsBy;
 ghost use mathlib.Core.Path.{_≡_};
 ghost use mathlib.Core.List.{_++_};
@@ -13,8 +13,8 @@ ghost use Prim.Native.Nat.{ℕ, _+_, _-_, _≤_, _<_};
 ghost use lib.ListN.{length, getD, take, drop};
 ghost use Rattle.stateset.specs.Set.{Decided};
 ghost use Rattle.automaton.specs.Run.{Sound};
-ghost use Rattle.verifier.specs.Secrets.{secretsOf, Allowed};
-ghost use Rattle.verifier.specs.Verdicts.{stepsOf};
+ghost use Rattle.opacity.specs.Secrets.{secretsOf, Allowed};
+ghost use Rattle.opacity.specs.Verdicts.{stepsOf};
 ghost use Rattle.verifier.specs.Replies.{stepsEach};
 ghost use Rattle.enforcer.specs.Enforcers.{InLimits, Padded};
 ghost use Rattle.enforcer.specs.declared.OfferAnswer.the-variants as answer;
@@ -79,7 +79,7 @@ fn wait_at(header: Header, further: Further, verdict: Verdict, i: u8) -> u8
     if further.count < i {
         return 0;
     }
-    let secret = verifier::secret_at(header, further, i);
+    let secret = opacity::secret_at(header, further, i);
     wait(secret.k, verdict)
 }
 
@@ -253,7 +253,7 @@ impl Enforcer {
             return false;
         }
         let further = estimator.further;
-        let k = verifier::look_back(header, further);
+        let k = opacity::look_back(header, further);
         self.pending_within(k)
     }
 
@@ -334,7 +334,7 @@ impl Enforcer {
         }
         let estimator = self.estimator;
         let further = estimator.further;
-        let k = verifier::look_back(header, further);
+        let k = opacity::look_back(header, further);
         if !self.pending_within(k) {
             return self.refused(Refusal::Malformed);
         }

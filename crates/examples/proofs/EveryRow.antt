@@ -10,22 +10,23 @@ use lib.Dec.{T, T-not}
 use lib.ListN.{length, getD, take, List·getD-eq-default}
 use Rattle.stateset.specs.Set.{bit}
 use Rattle.automaton.specs.Run.{automatonOf, showsBy, Observable, SmallSymbols}
-use Rattle.automaton.specs.Reaching.{EstimateSize}
+use Rattle.automaton.specs.Reaching.{EstimateSize, SizeWithin}
 use Rattle.automaton.specs.declared.Header.{Header}
 use Rattle.bitfields.specs.Bits.{bitsOf, byteBits, numberAt, numberFrom, setOf}
 use Rattle.bitfields.specs.Parser.{field, flags}
 use Rattle.encoding.specs.Encoding.{encoding, fixed, front, symbols, preamble, transition, transitions, ending}
 use Rattle.encoding.specs.Answers.{headerSymbols}
 use Rattle.encoding.specs.Transitions.{Transition}
-use Rattle.verifier.specs.declared.Notion.{Notion}
-use Rattle.verifier.specs.declared.Notion.the-variants.{Weak, Strong}
-use Rattle.verifier.specs.declared.Secret.{Secret}
-use Rattle.verifier.specs.declared.Further.{Further}
-use Rattle.verifier.specs.Secrets.{furtherOf, secretsOf, secretAt, ForEach, noFurther, Allowed}
-use Rattle.verifier.specs.Verdicts.{Steps, none, leak, Tells, Exactly}
-use Rattle.verifier.specs.Replies.{Told, stepsBy, toldAt, Said, refused, verdicts, SizeWithin}
+use Rattle.opacity.specs.declared.Notion.{Notion}
+use Rattle.opacity.specs.declared.Notion.the-variants.{Weak, Strong}
+use Rattle.opacity.specs.declared.Secret.{Secret}
+use Rattle.opacity.specs.declared.Further.{Further}
+use Rattle.opacity.specs.Secrets.{furtherOf, secretsOf, secretAt, ForEach, noFurther, Allowed}
+use Rattle.opacity.specs.Verdicts.{Steps, none, leak, Tells, Exactly}
+use Rattle.verifier.specs.Replies.{Told, stepsBy, toldAt, Said, refused, verdicts}
 use Rattle.verifier.specs.Calls.{Call, takenBy, Right, Answered, AllAnswered}
-use Rattle.verifier.proofs.Exactness.{exactly, right-size}
+use Rattle.opacity.proofs.Exactness.{exactly}
+use Rattle.automaton.proofs.Estimates.{right-size}
 use Rattle.enforcer.specs.Offerings.{Begun, started, not-started}
 use Rattle.enforcer.proofs.ForAll.{only}
 use Rattle.examples.specs.Meaning.{Question, verdicts-of, answers-after, start-of, releases-of, verdicts-of-all, start-for-all, releases-for-all, VerdictsAre, Opened, StartIs, ReleasedIs, EachReleases, VerdictsOfAll, OpenedForAll, StartForAll, ReleasedForAll, Says, Example, Row, about, description, AboutHolds, RowHolds, All}

@@ -12,11 +12,11 @@ use Rattle.automaton.specs.Reaching.{EstimateSize}
 use Rattle.automaton.specs.Notion.{SureAt, ClearFrom}
 use Rattle.automaton.specs.declared.Header.{Header}
 use Rattle.encoding.specs.Transitions.{Transition}
-use Rattle.verifier.specs.declared.Notion.{Notion}
-use Rattle.verifier.specs.declared.Notion.the-variants.{Weak, Strong}
-use Rattle.verifier.specs.declared.Secret.{Secret}
-use Rattle.verifier.specs.Secrets.{secretAt, ForEach}
-use Rattle.verifier.specs.Verdicts.{Steps, none, leak, Sure, Clear, Tells}
+use Rattle.opacity.specs.declared.Notion.{Notion}
+use Rattle.opacity.specs.declared.Notion.the-variants.{Weak, Strong}
+use Rattle.opacity.specs.declared.Secret.{Secret}
+use Rattle.opacity.specs.Secrets.{secretAt, ForEach}
+use Rattle.opacity.specs.Verdicts.{Steps, none, leak, Sure, Clear, Tells}
 use Rattle.enforcer.specs.SafePrefix.{Excused, Safe, SafeByRuns, Unsafe, SafeForAll}
 use Rattle.enforcer.specs.Queues.{Longest}
 use Rattle.enforcer.specs.Offerings.{OpensAsLeak}

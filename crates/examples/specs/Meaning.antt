@@ -13,11 +13,11 @@ use Rattle.encoding.specs.Encoding.{Encoding, encoding}
 use Rattle.encoding.specs.Answers.{headerOf}
 use Rattle.bitfields.specs.Bits.{bitsOf}
 use Rattle.bitfields.specs.Parser.{Parsed, done, refused}
-use Rattle.verifier.specs.declared.Notion.{Notion}
-use Rattle.verifier.specs.declared.Notion.the-variants.{Weak, Strong}
-use Rattle.verifier.specs.declared.Further.{Further}
-use Rattle.verifier.specs.Secrets.{secretsOf, ForEach, noFurther, Allowed}
-use Rattle.verifier.specs.Verdicts.{Steps, none, leak, Tells}
+use Rattle.opacity.specs.declared.Notion.{Notion}
+use Rattle.opacity.specs.declared.Notion.the-variants.{Weak, Strong}
+use Rattle.opacity.specs.declared.Further.{Further}
+use Rattle.opacity.specs.Secrets.{secretsOf, ForEach, noFurther, Allowed}
+use Rattle.opacity.specs.Verdicts.{Steps, none, leak, Tells}
 use Rattle.verifier.specs.Replies.{Told}
 use Rattle.verifier.specs.Calls.{Call, Right, AllAnswered}
 use Rattle.enforcer.specs.SafePrefix.{Safe, SafeForAll}

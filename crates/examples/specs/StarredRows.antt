@@ -4,9 +4,9 @@ use mathlib.Core.List.{List, [], _∷_, _++_}
 use lib.ListN.{take, replicate}
 use Prim.Native.Nat.{ℕ, _+_, _^_}
 use Rattle.encoding.specs.Transitions.{Transition}
-use Rattle.verifier.specs.declared.Notion.the-variants.{Weak, Strong}
-use Rattle.verifier.specs.declared.Further.{Further}
-use Rattle.verifier.specs.Verdicts.{Steps, none, leak}
+use Rattle.opacity.specs.declared.Notion.the-variants.{Weak, Strong}
+use Rattle.opacity.specs.declared.Further.{Further}
+use Rattle.opacity.specs.Verdicts.{Steps, none, leak}
 use Rattle.verifier.specs.Replies.{Told, Said, refused, verdicts}
 use Rattle.verifier.specs.Calls.{Call}
 use Rattle.enforcer.specs.Offerings.{started, not-started}

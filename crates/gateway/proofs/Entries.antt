@@ -10,8 +10,8 @@ use Rattle.refusal.specs.declared.Refusal.{Refusal}
 use Rattle.encoding.specs.Decoding as decoding
 use Rattle.encoding.specs.Decoding.{Decoding, answerMeans}
 use Rattle.encoding.specs.declared.Answer as decoded
-use Rattle.verifier.specs.declared.Notion.{Notion}
-use Rattle.verifier.specs.declared.Further.{Further}
+use Rattle.opacity.specs.declared.Notion.{Notion}
+use Rattle.opacity.specs.declared.Further.{Further}
 use Rattle.verifier.specs.declared.Estimator.{Estimator}
 use Rattle.verifier.specs.declared.Judgement.{Judgement}
 use Rattle.verifier.specs.declared.Answer as verdict

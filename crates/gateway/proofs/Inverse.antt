@@ -9,13 +9,13 @@ use lib.Pow.{pow-add}
 use lib.ListN.{length, getD, take, length-append}
 use lib.Seq.{append-snoc, take-at, drop-at, getD-at}
 use Rattle.automaton.specs.declared.Header.{Header}
-use Rattle.verifier.specs.declared.Notion.{Notion}
-use Rattle.verifier.specs.declared.Notion.the-variants.{Weak, Strong}
-use Rattle.verifier.specs.declared.Secret.{Secret}
-use Rattle.verifier.specs.declared.Further.{Further}
+use Rattle.opacity.specs.declared.Notion.{Notion}
+use Rattle.opacity.specs.declared.Notion.the-variants.{Weak, Strong}
+use Rattle.opacity.specs.declared.Secret.{Secret}
+use Rattle.opacity.specs.declared.Further.{Further}
 use Rattle.verifier.specs.declared.Estimator.{Estimator}
-use Rattle.verifier.specs.Secrets.{placeOf}
-use Rattle.verifier.specs.Verdicts.{Steps, none, leak}
+use Rattle.opacity.specs.Secrets.{placeOf}
+use Rattle.opacity.specs.Verdicts.{Steps, none, leak}
 use Rattle.verifier.specs.Replies.{Bounded}
 use Rattle.enforcer.specs.declared.Enforcer.{Enforcer}
 use Rattle.gateway.specs.Layout.{numberAt, bytesOf, wordsAt, wordsBytes, bytesAt, headerAt, headerBytes, placeAt, placeBytes, furtherAt, furtherBytes, FurtherSized, estimatorAt, estimatorBytes, EstimatorSized, EnforcerSized, notionAt, notionByte, enforcerAt, enforcerBytes, verdictAt, verdictByte}

@@ -7,10 +7,10 @@ use native.Mathlib.Numerals.{add-one}
 use lib.ListN.{length, set, length-append}
 use lib.Seq.{sets, sets-eq}
 use Rattle.lists.proofs.Filled.{sets-append}
-use Rattle.verifier.specs.declared.Notion.the-variants.{Strong}
-use Rattle.verifier.specs.declared.Secret.{Secret}
-use Rattle.verifier.specs.declared.Further.{Further}
-use Rattle.verifier.specs.Secrets.{placeOf}
+use Rattle.opacity.specs.declared.Notion.the-variants.{Strong}
+use Rattle.opacity.specs.declared.Secret.{Secret}
+use Rattle.opacity.specs.declared.Further.{Further}
+use Rattle.opacity.specs.Secrets.{placeOf}
 use Rattle.verifier.specs.Replies.{Told}
 use Rattle.gateway.specs.Layout.{bytesOf, wordsBytes, placeBytes, furtherBytes, notionAt, toldBytes}
 use Rattle.gateway.proofs.Bytes.{bytes-length, drop-all}

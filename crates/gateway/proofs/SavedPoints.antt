@@ -8,16 +8,16 @@ use Rattle.automaton.specs.Run.{Automaton, automatonOf, Sound}
 use Rattle.automaton.specs.declared.Header.{Header}
 use Rattle.encoding.specs.Decoding.{Decoding, accept}
 use Rattle.encoding.proofs.Listing.{decoded-sound}
-use Rattle.verifier.specs.declared.Notion.{Notion}
-use Rattle.verifier.specs.declared.Further.{Further}
+use Rattle.opacity.specs.declared.Notion.{Notion}
+use Rattle.opacity.specs.declared.Further.{Further}
 use Rattle.verifier.specs.declared.Estimator.{Estimator}
-use Rattle.verifier.specs.Secrets.{secretsOf, secretAt, clearedOf, Allowed}
-use Rattle.verifier.specs.Verdicts.{Steps, none, leak, Tells}
+use Rattle.opacity.specs.Secrets.{secretsOf, secretAt, clearedOf, Allowed}
+use Rattle.opacity.specs.Verdicts.{Steps, none, leak, Tells}
 use Rattle.verifier.specs.Estimators as estimator
 use Rattle.verifier.specs.Replies as replies
 use Rattle.verifier.specs.Replies.{Told, toldAt, Bounded, Opening, Accepting}
 use Rattle.verifier.specs.Calls as verifier
-use Rattle.verifier.proofs.Numbering.{look-back-small, secret-back, how-many, allowed-not-large}
+use Rattle.opacity.proofs.Numbering.{look-back-small, secret-back, how-many, allowed-not-large}
 use Rattle.verifier.proofs.Judging.{bounded-up}
 use Rattle.verifier.proofs.SecondPoint.{second-point}
 use Rattle.verifier.proofs.PastCount.{past-opening}

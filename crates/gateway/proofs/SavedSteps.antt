@@ -6,15 +6,15 @@ use native.Mathlib.Omega.{arith}
 use lib.ListN.{length, getD}
 use lib.Seq.{getD-take, length-take-le}
 use Rattle.automaton.specs.declared.Header.{Header}
-use Rattle.verifier.specs.declared.Notion.{Notion}
-use Rattle.verifier.specs.declared.Notion.the-variants.{Weak, Strong}
-use Rattle.verifier.specs.declared.Further.{Further}
+use Rattle.opacity.specs.declared.Notion.{Notion}
+use Rattle.opacity.specs.declared.Notion.the-variants.{Weak, Strong}
+use Rattle.opacity.specs.declared.Further.{Further}
 use Rattle.verifier.specs.declared.Estimator.{Estimator}
-use Rattle.verifier.specs.Secrets.{secretsOf}
+use Rattle.opacity.specs.Secrets.{secretsOf}
 use Rattle.verifier.specs.Replies as verifier
 use Rattle.verifier.specs.Replies.{Told, noneTold, stepsBy, toldAt, Bounded, Accepting}
 use Rattle.verifier.specs.Calls.{Calls}
-use Rattle.verifier.proofs.Numbering.{look-back-small, secret-back, how-many}
+use Rattle.opacity.proofs.Numbering.{look-back-small, secret-back, how-many}
 use Rattle.verifier.proofs.Judging.{bounded-up}
 use Rattle.verifier.proofs.Corresponding.{same-told}
 use Rattle.enforcer.specs.declared.Enforcer.{Enforcer}

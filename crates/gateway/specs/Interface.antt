@@ -6,9 +6,9 @@ use mathlib.Core.List.{List}
 use lib.ListN.{length, getD}
 use Rattle.automaton.specs.declared.Header.{Header}
 use Rattle.encoding.specs.Decoding.{Decoding, accept, refuse}
-use Rattle.verifier.specs.declared.Further.{Further}
+use Rattle.opacity.specs.declared.Further.{Further}
 use Rattle.verifier.specs.declared.Estimator.{Estimator}
-use Rattle.verifier.specs.Secrets.{Allowed, TooLarge}
+use Rattle.opacity.specs.Secrets.{Allowed, TooLarge}
 use Rattle.verifier.specs.Replies as verifier
 use Rattle.verifier.specs.Replies.{Told, Opening, Accepting}
 use Rattle.enforcer.specs.Offerings as offering

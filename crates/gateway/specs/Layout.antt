@@ -6,13 +6,13 @@ use mathlib.Core.List.{List, [], _∷_, _++_}
 use lib.Dec.{eqb}
 use lib.ListN.{length, getD, take, drop}
 use Rattle.automaton.specs.declared.Header.{Header}
-use Rattle.verifier.specs.declared.Notion.{Notion}
-use Rattle.verifier.specs.declared.Notion.the-variants.{Weak, Strong}
-use Rattle.verifier.specs.declared.Secret.{Secret}
-use Rattle.verifier.specs.declared.Further.{Further}
+use Rattle.opacity.specs.declared.Notion.{Notion}
+use Rattle.opacity.specs.declared.Notion.the-variants.{Weak, Strong}
+use Rattle.opacity.specs.declared.Secret.{Secret}
+use Rattle.opacity.specs.declared.Further.{Further}
 use Rattle.verifier.specs.declared.Estimator.{Estimator}
-use Rattle.verifier.specs.Secrets.{placeOf}
-use Rattle.verifier.specs.Verdicts.{Steps, none, leak}
+use Rattle.opacity.specs.Secrets.{placeOf}
+use Rattle.opacity.specs.Verdicts.{Steps, none, leak}
 use Rattle.verifier.specs.Replies.{Told, noneTold}
 use Rattle.enforcer.specs.declared.Enforcer.{Enforcer}
 

@@ -6,16 +6,15 @@ use Prim.Native.Nat.{ℕ}
 use native.Mathlib.Omega.{arith}
 use lib.ListN.{length}
 use Rattle.automaton.specs.Run.{automatonOf}
-use Rattle.automaton.specs.Reaching.{EstimateSize}
+use Rattle.automaton.specs.Reaching.{EstimateSize, RightSize}
 use Rattle.automaton.specs.declared.Header.{Header}
-use Rattle.automaton.proofs.Estimates.{size-some, size-most}
-use Rattle.verifier.specs.declared.Notion.{Notion}
-use Rattle.verifier.specs.declared.Notion.the-variants.{Weak, Strong}
-use Rattle.verifier.specs.declared.Verdict.{Verdict}
-use Rattle.verifier.specs.declared.Verdict.the-variants.{NoLeak, Leak}
-use Rattle.verifier.specs.Verdicts.{none, leak, stepsOf, LeakAt, Words}
-use Rattle.verifier.specs.Calls.{RightSize}
-use Rattle.verifier.proofs.Exactness.{words-exactly, right-size}
+use Rattle.automaton.proofs.Estimates.{size-some, size-most, right-size}
+use Rattle.opacity.specs.declared.Notion.{Notion}
+use Rattle.opacity.specs.declared.Notion.the-variants.{Weak, Strong}
+use Rattle.opacity.specs.declared.Verdict.{Verdict}
+use Rattle.opacity.specs.declared.Verdict.the-variants.{NoLeak, Leak}
+use Rattle.opacity.specs.Verdicts.{none, leak, stepsOf, LeakAt, Words}
+use Rattle.opacity.proofs.Exactness.{words-exactly}
 use Rattle.encoding.proofs.Refusing.{decoding-never}
 use Rattle.encoding.proofs.Listing.{decoded-sound}
 use Rattle.report.specs.Text.{digits, decimal, idleLine, endLine}

@@ -11,9 +11,9 @@ use lib.Seq.{sets, sets-eq, length-sets, slice, slice-empty, take-at, drop-at, t
 use Rattle.automaton.specs.Run.{automatonOf, Sound}
 use Rattle.automaton.specs.declared.Header.{Header}
 use Rattle.encoding.specs.Decoding.{Outcome, Decoding}
-use Rattle.verifier.specs.declared.Notion.the-variants.{Weak}
-use Rattle.verifier.specs.Secrets.{noFurther, secretsOf, secretAt}
-use Rattle.verifier.specs.Verdicts.{leak, Tells}
+use Rattle.opacity.specs.declared.Notion.the-variants.{Weak}
+use Rattle.opacity.specs.Secrets.{noFurther, secretsOf, secretAt}
+use Rattle.opacity.specs.Verdicts.{leak, Tells}
 use Rattle.verifier.proofs.Growing.{grown-limits}
 use Rattle.enforcer.specs.declared.Enforcer.{Enforcer}
 use Rattle.enforcer.specs.Enforcers as enforcers

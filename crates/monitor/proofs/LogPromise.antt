@@ -9,10 +9,10 @@ use Rattle.automaton.specs.declared.Header.{Header}
 use Rattle.refusal.specs.declared.Refusal.{Refusal}
 use Rattle.refusal.specs.declared.Refusal.the-variants.{NotObservable, Incompatible}
 use Rattle.refusal.specs.Refusals.{numberOf}
-use Rattle.verifier.specs.declared.Notion.the-variants.{Weak}
+use Rattle.opacity.specs.declared.Notion.the-variants.{Weak}
 use Rattle.verifier.specs.declared.Estimator.{Estimator}
 use Rattle.verifier.specs.declared.Judgement.{Judgement}
-use Rattle.verifier.specs.Secrets.{noFurther, secretsOf}
+use Rattle.opacity.specs.Secrets.{noFurther, secretsOf}
 use Rattle.verifier.specs.Estimators as estimators
 use Rattle.verifier.specs.Replies as verifier
 use Rattle.verifier.specs.Replies.{Told, toldEach, Accepting}

@@ -7,11 +7,11 @@ use lib.ListN.{length, take, drop}
 use Rattle.automaton.specs.declared.Header.{Header}
 use Rattle.encoding.specs.Decoding.{Outcome, accept, refuse, Decoding}
 use Rattle.encoding.proofs.Only.{Same, one-decoding}
-use Rattle.verifier.specs.declared.Notion.the-variants.{Weak}
-use Rattle.verifier.specs.declared.Verdict.{Verdict}
-use Rattle.verifier.specs.declared.Verdict.the-variants.{NoLeak, Leak}
-use Rattle.verifier.specs.declared.Verdicts.{Verdicts}
-use Rattle.verifier.specs.Verdicts.{stepsOf}
+use Rattle.opacity.specs.declared.Notion.the-variants.{Weak}
+use Rattle.opacity.specs.declared.Verdict.{Verdict}
+use Rattle.opacity.specs.declared.Verdict.the-variants.{NoLeak, Leak}
+use Rattle.opacity.specs.declared.Verdicts.{Verdicts}
+use Rattle.opacity.specs.Verdicts.{stepsOf}
 use Rattle.enforcer.proofs.Unique.{one-longest}
 use Rattle.report.specs.Text.{decimal, line, acceptedLine, idleLine, refusedLine, endLine}
 use Rattle.refusal.specs.declared.Refusal.the-variants.{NotObservable, Incompatible}

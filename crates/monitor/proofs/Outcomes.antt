@@ -14,7 +14,7 @@ use Rattle.verifier.specs.declared.Judgement.{Judgement}
 use Rattle.verifier.specs.Estimators as estimators
 use Rattle.verifier.specs.Replies as verifier
 use Rattle.verifier.specs.Replies.{Told, toldEach, Accepting}
-use Rattle.verifier.proofs.Numbering.{look-back-small}
+use Rattle.opacity.proofs.Numbering.{look-back-small}
 use Rattle.enforcer.specs.declared.Enforcer.{Enforcer}
 use Rattle.enforcer.specs.Enforcers as enforcers
 use Rattle.enforcer.specs.Offerings as enforcer

@@ -9,10 +9,10 @@ use Rattle.refusal.specs.Refusals.{numberOf}
 use Rattle.automaton.specs.declared.Header.{Header}
 use Rattle.refusal.specs.declared.Refusal.{Refusal}
 use Rattle.encoding.specs.Decoding.{accept, refuse}
-use Rattle.verifier.specs.declared.Notion.{Notion}
-use Rattle.verifier.specs.declared.Notion.the-variants.{Weak}
-use Rattle.verifier.specs.declared.Verdicts.{Verdicts}
-use Rattle.verifier.specs.Verdicts.{LeakAt}
+use Rattle.opacity.specs.declared.Notion.{Notion}
+use Rattle.opacity.specs.declared.Notion.the-variants.{Weak}
+use Rattle.opacity.specs.declared.Verdicts.{Verdicts}
+use Rattle.opacity.specs.Verdicts.{LeakAt}
 use Rattle.report.specs.Text.{idleLine, refusedLog, endLine}
 use Rattle.monitor.specs.Opening.{frontSize, RightOwn, Decodes}
 use Rattle.monitor.specs.LogText.{Prints}

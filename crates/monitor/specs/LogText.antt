@@ -6,8 +6,8 @@ use lib.ListN.{length, take, drop}
 use Rattle.automaton.specs.Run.{automatonOf, Observable, Possible, Impossible}
 use Rattle.automaton.specs.declared.Header.{Header}
 use Rattle.refusal.specs.declared.Refusal.the-variants.{NotObservable, Incompatible}
-use Rattle.verifier.specs.declared.Notion.the-variants.{Weak}
-use Rattle.verifier.specs.declared.Verdicts.{Verdicts}
+use Rattle.opacity.specs.declared.Notion.the-variants.{Weak}
+use Rattle.opacity.specs.declared.Verdicts.{Verdicts}
 use Rattle.enforcer.specs.SafePrefix.{Safe}
 use Rattle.enforcer.specs.Queues.{Longest}
 use Rattle.report.specs.Text.{acceptedLine, refusedLine}

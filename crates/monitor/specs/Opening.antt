@@ -6,14 +6,14 @@ use lib.ListN.{length, getD, take, drop}
 use Rattle.automaton.specs.Run.{automatonOf}
 use Rattle.refusal.specs.Refusals.{numberOf}
 use Rattle.automaton.specs.declared.Header.{Header}
-use Rattle.verifier.specs.declared.Notion.the-variants.{Weak, Strong}
-use Rattle.verifier.specs.declared.Verdicts.{Verdicts}
+use Rattle.opacity.specs.declared.Notion.the-variants.{Weak, Strong}
+use Rattle.opacity.specs.declared.Verdicts.{Verdicts}
 use Rattle.verifier.specs.declared.Judgement.{Judgement}
-use Rattle.verifier.specs.Secrets.{noFurther}
-use Rattle.verifier.specs.Verdicts.{stepsOf, Exactly}
+use Rattle.opacity.specs.Secrets.{noFurther}
+use Rattle.opacity.specs.Verdicts.{stepsOf, Exactly}
 use Rattle.verifier.specs.Replies as verifier
 use Rattle.verifier.specs.Replies.{noLeaks, OthersNoLeak}
-use Rattle.verifier.specs.Calls.{RightSize}
+use Rattle.automaton.specs.Reaching.{RightSize}
 use Rattle.verifier.specs.Estimators as estimators
 use Rattle.encoding.specs.Decoding.{Outcome, accept, refuse, Decoding}
 use Rattle.enforcer.specs.declared.Enforcer.{Enforcer}

@@ -8,10 +8,10 @@ use report::Line;
 use verifier::Answer;
 use verifier::Estimator;
 use verifier::Judgement;
-use verifier::Notion;
+use opacity::Notion;
 use verifier::SecretVerdicts;
-use verifier::Verdict;
-use verifier::Verdicts;
+use opacity::Verdict;
+use opacity::Verdicts;
 ghost use mathlib.Core.Path.{_≡_};
 ghost use Prim.Native.Nat.{_+_, _*_, _≤_};
 ghost use lib.ListN.{length};
@@ -320,7 +320,7 @@ fn nothing_told() -> Judgement
 fn refused(refusal: Refusal) -> Opened
     ensures { λ r. ⌜ (r .answer ≡ answer.Refused refusal) × NoMonitor (r .header) (r .monitor) ⌝ }
 {
-    let further = verifier::no_further();
+    let further = opacity::no_further();
     let estimator = Estimator {
         count: 255,
         symbols: [0u8; 15],
@@ -361,7 +361,7 @@ fn start(table: [u64; 2048], header: Header, events: usize) -> Opened
     requires { ⌜ Sound table header ⌝ }
     ensures { λ r. ⌜ Begun table header events (opened (r .answer)) (r .table) (r .header) (r .monitor) ⌝ }
 {
-    let alone = verifier::no_further();
+    let alone = opacity::no_further();
     let begun = Enforcer::start(&table, header, Notion::Weak, alone);
     let answer = begun.answer;
     match answer {

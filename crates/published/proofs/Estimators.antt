@@ -16,16 +16,16 @@ use Rattle.automaton.specs.Notion.{SureAt}
 use Rattle.automaton.specs.Reaching.{Arrives, EstimateSize, DelayedEstimate}
 use Rattle.automaton.proofs.Estimates.{delayed-arrives, arrives-delayed}
 use Rattle.automaton.proofs.Positions.{part-run, estimate-sure, sure-estimate}
-use Rattle.verifier.specs.declared.Notion.the-variants.{Weak}
-use Rattle.verifier.specs.Verdicts.{Steps, none, leak, LeakAt, Tells, Words, Exactly}
-use Rattle.verifier.specs.declared.Further.{Further}
-use Rattle.verifier.specs.Secrets.{secretsOf, secretAt}
+use Rattle.opacity.specs.declared.Notion.the-variants.{Weak}
+use Rattle.opacity.specs.Verdicts.{Steps, none, leak, LeakAt, Tells, Words, Exactly}
+use Rattle.opacity.specs.declared.Further.{Further}
+use Rattle.opacity.specs.Secrets.{secretsOf, secretAt}
 use Rattle.verifier.specs.Replies.{toldAt, Said}
-use Rattle.verifier.proofs.Exactness.{exactly}
+use Rattle.opacity.proofs.Exactness.{exactly}
 use Rattle.published.specs.Source.{Prefix, Trace, RightVerdict, SaysAfter}
 use Rattle.published.specs.Estimators.{EstimateAt, estimatorAfter, Parts, StillAt, Within, Gamma, SaysGamma}
 use Rattle.published.proofs.SourceLaws.{take-prefix, PositionAt, position-at, still-at, published}
-use Rattle.published.proofs.Corollary.{every-verdict}
+use Rattle.opacity.proofs.EveryVerdict.{every-verdict}
 use Rattle.published.proofs.SoundVerdicts.{right-verdict, definition-6}
 use Rattle.published.proofs.Trajectories.{trajectory-length, lemma-1, lemma-2}
 

@@ -7,13 +7,14 @@ use native.Mathlib.Omega.{arith}
 use lib.ListN.{length}
 use Rattle.automaton.specs.Run.{Automaton, Step, shown, Compatible}
 use Rattle.automaton.proofs.Runs.{takes-front}
-use Rattle.verifier.specs.declared.Notion.{Notion}
-use Rattle.verifier.specs.declared.Notion.the-variants.{Weak, Strong}
-use Rattle.verifier.specs.Verdicts.{Steps, none, leak, Tells}
-use Rattle.verifier.proofs.Exactness.{in-words}
+use Rattle.opacity.specs.declared.Notion.{Notion}
+use Rattle.opacity.specs.declared.Notion.the-variants.{Weak, Strong}
+use Rattle.opacity.specs.Verdicts.{Steps, none, leak, Tells}
+use Rattle.opacity.proofs.Exactness.{in-words}
 use Rattle.published.specs.Source.{Prefix, Lang, Trace, AllSecret, NoneFree, Excused, Alone, Breaks, WeaklyOpaque, StronglyOpaque, Opaque, LeakSet, RevealsWithin, LeaksByRuns}
 use Rattle.published.proofs.SourceLaws.{prefix-short, position-at, still-at, run-trace, words-leak-at, tells-excused, excused-like, excused-free, excused-opaque}
-use Rattle.published.proofs.Corollary.{every-verdict, at-within, opaque-empty, empty-opaque}
+use Rattle.published.proofs.Corollary.{at-within, opaque-empty, empty-opaque}
+use Rattle.opacity.proofs.EveryVerdict.{every-verdict}
 
 -- Proposition 1: "S is (G, P, K)-weakly opaque iff ∀ μ ∈ T(G), ∀ μ′ ⪯ μ : |μ − μ′| ≤ K ⇒ ⟦μ′/μ⟧ ⊄ L_S(G)"
 pub proposition-1 : (p : Automaton) (secret K : ℕ)

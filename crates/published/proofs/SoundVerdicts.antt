@@ -9,10 +9,10 @@ use lib.Seq.{take-at, getD-append-seam}
 use Rattle.automaton.specs.declared.Header.{Header}
 use Rattle.automaton.specs.Run.{Automaton, automatonOf, Possible, Observable}
 use Rattle.automaton.proofs.Traces.{trace-observable, prefix-possible}
-use Rattle.verifier.specs.declared.Notion.{Notion}
-use Rattle.verifier.specs.declared.Further.{Further}
-use Rattle.verifier.specs.Secrets.{secretsOf, secretAt}
-use Rattle.verifier.specs.Verdicts.{Steps}
+use Rattle.opacity.specs.declared.Notion.{Notion}
+use Rattle.opacity.specs.declared.Further.{Further}
+use Rattle.opacity.specs.Secrets.{secretsOf, secretAt}
+use Rattle.opacity.specs.Verdicts.{Steps}
 use Rattle.verifier.specs.Replies.{Told, toldAt, Said, refused, verdicts}
 use Rattle.verifier.specs.Calls.{Call, takenBy, Right, Answered, AllAnswered}
 use Rattle.verifier.proofs.SecondPoint.{second-point}

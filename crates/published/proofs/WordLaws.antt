@@ -8,8 +8,8 @@ use lib.ListN.{length}
 use Rattle.stateset.specs.Set.{In}
 use Rattle.automaton.specs.Run.{Automaton, Transition, Step, Takes, endOf, shows, shown}
 use Rattle.automaton.proofs.Runs.{takes-front}
-use Rattle.verifier.specs.declared.Notion.{Notion}
-use Rattle.verifier.specs.declared.Notion.the-variants.{Weak, Strong}
+use Rattle.opacity.specs.declared.Notion.{Notion}
+use Rattle.opacity.specs.declared.Notion.the-variants.{Weak, Strong}
 use Rattle.published.specs.Source.{Prefix, Lang, Secretly, WeaklyOpaque, StronglyOpaque, Opaque}
 use Rattle.published.specs.ByWords.{OneTarget, wordOf, Leads, WordLang, Marked, projected, WeaklyByWords, StronglyByWords, OpaqueByWords}
 

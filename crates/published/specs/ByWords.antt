@@ -7,8 +7,8 @@ use lib.ListN.{length, replicate, set}
 use Rattle.stateset.specs.Set.{bit, In}
 use Rattle.automaton.specs.Run.{Automaton, Transition, Step, showIf, shows}
 use Rattle.automaton.specs.Symbols.{ownNumbers}
-use Rattle.verifier.specs.declared.Notion.{Notion}
-use Rattle.verifier.specs.declared.Notion.the-variants.{Weak, Strong}
+use Rattle.opacity.specs.declared.Notion.{Notion}
+use Rattle.opacity.specs.declared.Notion.the-variants.{Weak, Strong}
 use Rattle.published.specs.Source.{Prefix}
 
 -- Definition 1, "the partial transition function": at most one target for each state and event

@@ -9,11 +9,11 @@ use Rattle.stateset.specs.Set.{In, Counts}
 use Rattle.automaton.specs.declared.Header.{Header}
 use Rattle.automaton.specs.Run.{Automaton, automatonOf, Step, Takes, endOf, shown, Compatible}
 use Rattle.automaton.specs.Reaching.{Arrives}
-use Rattle.verifier.specs.Secrets.{secretsOf, ForEach}
-use Rattle.verifier.specs.Verdicts.{Steps, none, leak}
+use Rattle.opacity.specs.Secrets.{secretsOf, ForEach}
+use Rattle.opacity.specs.Verdicts.{Steps, none, leak}
 use Rattle.verifier.specs.Replies.{Told, toldAt, Said, verdicts}
-use Rattle.verifier.specs.declared.Notion.the-variants.{Weak}
-use Rattle.verifier.specs.declared.Further.{Further}
+use Rattle.opacity.specs.declared.Notion.the-variants.{Weak}
+use Rattle.opacity.specs.declared.Further.{Further}
 use Rattle.published.specs.Source.{Prefix, Still}
 
 -- "trajectory mapping": a set of trajectories, which are lists of states. The paper writes a trajectory oldest state first, (q_1, .., q_l). Here the newest

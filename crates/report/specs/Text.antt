@@ -7,8 +7,8 @@ use lib.Dec.{ltb}
 use lib.ListN.{length, getD}
 use Rattle.refusal.specs.declared.Refusal.{Refusal}
 use Rattle.refusal.specs.Refusals.{numberOf}
-use Rattle.verifier.specs.declared.Verdict.{Verdict}
-use Rattle.verifier.specs.declared.Verdict.the-variants.{NoLeak, Leak}
+use Rattle.opacity.specs.declared.Verdict.{Verdict}
+use Rattle.opacity.specs.declared.Verdict.the-variants.{NoLeak, Leak}
 
 -- n in base ten, where n has at most `most` digits
 unfoldable pub digits : (most n : ℕ) → List ℕ

@@ -1,7 +1,7 @@
 // The lines of the log program, written into a lent output. Bytes past the written ones stay as they were.
 use refusal::Refusal;
 use verifier::Judgement;
-use verifier::Verdict;
+use opacity::Verdict;
 ghost use mathlib.Core.Path.{_≡_};
 ghost use mathlib.Core.List.{[], _∷_, _++_, map};
 ghost use Prim.Native.Nat.{_+_, _*_, _%_, _≤_, _<_};

@@ -12,10 +12,10 @@ use Rattle.automaton.proofs.Agreeing.{agree-back, possible-agree, enters-agree,
 use Rattle.automaton.proofs.Spelling.{alike-agree, distinct-alike, events-spelled, same-agree, same-back}
 use Rattle.verifier.specs.declared.Estimator.{Estimator}
 use Rattle.verifier.specs.Estimators.{Grown}
-use Rattle.verifier.specs.declared.Notion.{Notion}
-use Rattle.verifier.specs.declared.Notion.the-variants.{Weak, Strong}
-use Rattle.verifier.specs.Verdicts.{Steps, none, leak, Sure, Clear, Tells, LeakAt, Words}
-use Rattle.verifier.specs.Calls.{RightSize}
+use Rattle.opacity.specs.declared.Notion.{Notion}
+use Rattle.opacity.specs.declared.Notion.the-variants.{Weak, Strong}
+use Rattle.opacity.specs.Verdicts.{Steps, none, leak, Sure, Clear, Tells, LeakAt, Words}
+use Rattle.automaton.specs.Reaching.{RightSize}
 
 module _ (p q : Automaton) (a b : List ℕ) (g : Agree p q a b) (secret : ℕ) where
   pub sure-agree : (notion : Notion) (j : ℕ) → Sure notion p secret a j → Sure notion q secret b j

@@ -26,13 +26,13 @@ use Rattle.automaton.specs.declared.Header.{Header}
 use Rattle.automaton.proofs.Agreeing.{possible-agree, impossible-agree, size-agree}
 use Rattle.automaton.proofs.Spelling.{no-events, one-event, join-events, alike-agree, alike-impossible, distinct-alike, spelled-own, same-agree}
 use Rattle.automaton.proofs.Headers.{both-observable, own-sound, same-observable, same-sound, relabelled, same-header}
-use Rattle.verifier.specs.declared.Notion.{Notion}
-use Rattle.verifier.specs.declared.Notion.the-variants.{Weak, Strong}
-use Rattle.verifier.specs.declared.Secret.{Secret}
-use Rattle.verifier.specs.declared.Further.{Further}
+use Rattle.opacity.specs.declared.Notion.{Notion}
+use Rattle.opacity.specs.declared.Notion.the-variants.{Weak, Strong}
+use Rattle.opacity.specs.declared.Secret.{Secret}
+use Rattle.opacity.specs.declared.Further.{Further}
 use Rattle.verifier.specs.declared.Estimator.{Estimator}
-use Rattle.verifier.specs.Secrets.{furtherOf, secretsOf, secretAt, ForEach, lookBackOf}
-use Rattle.verifier.specs.Verdicts.{Steps, none, Exactly}
+use Rattle.opacity.specs.Secrets.{furtherOf, secretsOf, secretAt, ForEach, lookBackOf}
+use Rattle.opacity.specs.Verdicts.{Steps, none, Exactly}
 use Rattle.verifier.specs.Estimators.{GrownOn}
 use Rattle.verifier.specs.Replies.{
   Told,
@@ -55,7 +55,7 @@ use Rattle.verifier.specs.Replies.{
 use Rattle.verifier.specs.Calls.{Call, Calls, done, takenBy, Right, Answered, AllAnswered, end, more}
 use Rattle.verifier.specs.Paired.{SameCalled, Corresponds, CallsFollow}
 use Rattle.verifier.proofs.Agreed.{alike-words, sizes-agree, same-tells, same-grown}
-use Rattle.verifier.proofs.Numbering.{allowed-not-large}
+use Rattle.opacity.proofs.Numbering.{allowed-not-large}
 use Rattle.verifier.proofs.SecondPoint.{second-point}
 
 -- lists of verdicts that tell the same of each number

@@ -13,30 +13,30 @@ use Rattle.stateset.specs.Set.{Is}
 use Rattle.automaton.specs.Run.{Automaton, automatonOf, Possible, Observable, Sound}
 use Rattle.refusal.specs.Refusals.{numberOf}
 use Rattle.refusal.specs.declared.Refusal.{Refusal}
-use Rattle.automaton.specs.Reaching.{Enters, EstimateSize}
+use Rattle.automaton.specs.Reaching.{Enters, EstimateSize, SizeWithin}
 use Rattle.automaton.specs.declared.Header.{Header}
 use Rattle.automaton.proofs.Estimates.{size-some, size-most}
-use Rattle.verifier.specs.declared.Notion.{Notion}
-use Rattle.verifier.specs.declared.Notion.the-variants.{Weak, Strong}
-use Rattle.verifier.specs.declared.Verdict.{Verdict}
-use Rattle.verifier.specs.declared.Verdict.the-variants.{NoLeak}
-use Rattle.verifier.specs.declared.Verdicts.{Verdicts}
-use Rattle.verifier.specs.declared.Secret.{Secret}
-use Rattle.verifier.specs.declared.Further.{Further}
+use Rattle.opacity.specs.declared.Notion.{Notion}
+use Rattle.opacity.specs.declared.Notion.the-variants.{Weak, Strong}
+use Rattle.opacity.specs.declared.Verdict.{Verdict}
+use Rattle.opacity.specs.declared.Verdict.the-variants.{NoLeak}
+use Rattle.opacity.specs.declared.Verdicts.{Verdicts}
+use Rattle.opacity.specs.declared.Secret.{Secret}
+use Rattle.opacity.specs.declared.Further.{Further}
 use Rattle.verifier.specs.declared.SecretVerdicts.{SecretVerdicts}
 use Rattle.verifier.specs.declared.Judgement.{Judgement}
 use Rattle.verifier.specs.declared.Estimate.{Estimate}
 use Rattle.verifier.specs.declared.Estimator.{Estimator}
-use Rattle.verifier.specs.Verdicts.{Steps, none, leak, stepsOf, Tells}
-use Rattle.verifier.specs.Secrets.{own, secretsOf, secretAt, ForEach, lookBackOf, clearedOf, Allowed}
+use Rattle.opacity.specs.Verdicts.{Steps, none, leak, stepsOf, Tells}
+use Rattle.opacity.specs.Secrets.{own, secretsOf, secretAt, ForEach, lookBackOf, clearedOf, Allowed}
 use Rattle.verifier.specs.Estimators.{Limits, InLimits, Grown, GrownOn}
-use Rattle.verifier.specs.Replies.{toldOf, noneTold, noLeaks, stepsBy, toldAt, numbered, toldEach, refused, said, OthersNoLeak, Others, refused-by, verdicts-by, saidBy, OthersBy, chosen, Bounded, SizeWithin, Opening, opened, Accepting, accepted, Moved, TellsBy, AcceptingBy, turned-back, accepted-by}
+use Rattle.verifier.specs.Replies.{toldOf, noneTold, noLeaks, stepsBy, toldAt, numbered, toldEach, refused, said, OthersNoLeak, Others, refused-by, verdicts-by, saidBy, OthersBy, chosen, Bounded, Opening, opened, Accepting, accepted, Moved, TellsBy, AcceptingBy, turned-back, accepted-by}
 use Rattle.verifier.specs.Inner.{Estimated, Stepped, Found, Asks, askFor, chosenAnswer, Given, Judged, JudgedAt, JudgedAll, Opened, AcceptingAsked}
 use Rattle.verifier.specs.declared.Reply.{Reply}
 use Rattle.verifier.specs.declared.Asked.{Asked}
 use Rattle.verifier.specs.declared.Answer.{Answer}
 use Rattle.verifier.specs.declared.Answer.the-variants as answer
-use Rattle.verifier.proofs.Numbering.{getD-map, secret-back, how-many, how-many-most, same-secrets}
+use Rattle.opacity.proofs.Numbering.{getD-map, secret-back, how-many, how-many-most, same-secrets}
 use Rattle.verifier.proofs.Growing.{grown-remembers, grown-limits}
 use Rattle.verifier.proofs.Estimating.{estimated-size}
 

@@ -1,6 +1,4 @@
 -- Laws that belong to no one function.
-pub mod Numbering
-pub mod Exactness
 pub mod Growing
 pub mod Estimating
 pub mod Passing

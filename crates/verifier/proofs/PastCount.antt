@@ -6,13 +6,13 @@ use Prim.Native.Nat.{ℕ, _≤_, _<_}
 use native.Mathlib.Omega.{arith}
 use lib.ListN.{length}
 use Rattle.automaton.specs.declared.Header.{Header}
-use Rattle.verifier.specs.declared.Secret.{Secret}
-use Rattle.verifier.specs.declared.Further.{Further}
+use Rattle.opacity.specs.declared.Secret.{Secret}
+use Rattle.opacity.specs.declared.Further.{Further}
 use Rattle.verifier.specs.declared.Estimator.{Estimator}
-use Rattle.verifier.specs.Secrets.{own, furtherOf, secretsOf, secretAt, ForEach, largest, lookBackOf, clearedOf, Allowed, TooLarge}
+use Rattle.opacity.specs.Secrets.{own, furtherOf, secretsOf, secretAt, ForEach, largest, lookBackOf, clearedOf, Allowed, TooLarge}
 use Rattle.verifier.specs.Estimators.{InLimits, GrownOn}
 use Rattle.verifier.specs.Replies.{Said, Exact, Opening, opened}
-use Rattle.verifier.proofs.Numbering.{same-further}
+use Rattle.opacity.proofs.Numbering.{same-further}
 
 module _ (f g : Further) (same : clearedOf f ≡ clearedOf g) where
   pub past-count : f .count ≡ g .count

@@ -6,15 +6,17 @@ use Prim.Native.Nat.{ℕ}
 use lib.ListN.{length}
 use Rattle.automaton.specs.Run.{automatonOf, Sound}
 use Rattle.automaton.specs.declared.Header.{Header}
-use Rattle.verifier.specs.declared.Secret.{Secret}
-use Rattle.verifier.specs.declared.Further.{Further}
+use Rattle.opacity.specs.declared.Secret.{Secret}
+use Rattle.opacity.specs.declared.Further.{Further}
 use Rattle.verifier.specs.declared.Estimator.{Estimator}
-use Rattle.verifier.specs.Secrets.{secretsOf, clearedOf}
+use Rattle.opacity.specs.Secrets.{secretsOf, clearedOf}
 use Rattle.verifier.specs.Estimators.{InLimits, GrownOn}
-use Rattle.verifier.specs.Replies.{Told, Said, refused, verdicts, SizeWithin, Exact, Unusable, Opening, opened, Accepting, not-observable, incompatible, accepted}
+use Rattle.verifier.specs.Replies.{Told, Said, refused, verdicts, Exact, Unusable, Opening, opened, Accepting, not-observable, incompatible, accepted}
+use Rattle.automaton.specs.Reaching.{SizeWithin}
 use Rattle.verifier.specs.Calls.{Call, Calls, done, next, takenBy, acceptedOf, Right, Answered, AllAnswered, end, more, Promise}
-use Rattle.verifier.proofs.Numbering.{look-back-small, same-secrets}
-use Rattle.verifier.proofs.Exactness.{exactly, right-size}
+use Rattle.opacity.proofs.Numbering.{look-back-small, same-secrets}
+use Rattle.opacity.proofs.Exactness.{exactly}
+use Rattle.automaton.proofs.Estimates.{right-size}
 use Rattle.verifier.proofs.Growing.{grown-limits}
 
 -- what an answer tells of a trace is right

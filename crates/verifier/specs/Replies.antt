@@ -4,24 +4,24 @@ use mathlib.Core.List.{List, [], _∷_, _++_, map}
 use Prim.Native.Nat.{ℕ, suc, _≤_, _<_}
 use lib.ListN.{length, getD, take}
 use Rattle.automaton.specs.Run.{automatonOf, Possible, Impossible, Observable, Sound}
-use Rattle.automaton.specs.Reaching.{EstimateSize}
+use Rattle.automaton.specs.Reaching.{EstimateSize, SizeWithin}
 use Rattle.refusal.specs.Refusals.{numberOf}
 use Rattle.automaton.specs.declared.Header.{Header}
-use Rattle.verifier.specs.Secrets.{secretsOf, ForEach, clearedOf, Allowed, TooLarge}
-use Rattle.verifier.specs.Verdicts.{Steps, none, leak, stepsOf, Tells}
+use Rattle.opacity.specs.Secrets.{secretsOf, ForEach, clearedOf, Allowed, TooLarge}
+use Rattle.opacity.specs.Verdicts.{Steps, none, leak, stepsOf, Tells}
 use Rattle.verifier.specs.Estimators.{Limits, InLimits, GrownOn}
-use Rattle.verifier.specs.declared.Notion.{Notion}
-use Rattle.verifier.specs.declared.Notion.the-variants.{Weak, Strong}
-use Rattle.verifier.specs.declared.Secret.{Secret}
-use Rattle.verifier.specs.declared.Further.{Further}
+use Rattle.opacity.specs.declared.Notion.{Notion}
+use Rattle.opacity.specs.declared.Notion.the-variants.{Weak, Strong}
+use Rattle.opacity.specs.declared.Secret.{Secret}
+use Rattle.opacity.specs.declared.Further.{Further}
 use Rattle.verifier.specs.declared.Estimator.{Estimator}
 use Rattle.verifier.specs.declared.Answer.{Answer}
 use Rattle.verifier.specs.declared.Answer.the-variants as answer
 use Rattle.verifier.specs.declared.AnswerBy.{AnswerBy}
 use Rattle.verifier.specs.declared.AnswerBy.the-variants as by
-use Rattle.verifier.specs.declared.Verdict.{Verdict}
-use Rattle.verifier.specs.declared.Verdict.the-variants.{NoLeak}
-use Rattle.verifier.specs.declared.Verdicts as declared
+use Rattle.opacity.specs.declared.Verdict.{Verdict}
+use Rattle.opacity.specs.declared.Verdict.the-variants.{NoLeak}
+use Rattle.opacity.specs.declared.Verdicts as declared
 use Rattle.verifier.specs.declared.SecretVerdicts.{SecretVerdicts}
 use Rattle.verifier.specs.declared.VerdictsBy.{VerdictsBy}
 
@@ -77,11 +77,6 @@ Others f (answer.Accepted j) = OthersNoLeak f (j .verdicts)
 abbrev pub Bounded : ℕ → Steps → Type 0
 Bounded K none = Unit {0}
 Bounded K (leak l) = l ≤ K
-
--- a number of states, 1 to 64
-pub record SizeWithin (size : ℕ) : Type 0 where
-  pub some : 1 ≤ size
-  pub most : size ≤ 64
 
 -- the verdicts after a trace, two for each secret by its own K, how many states are possible, and the estimator that has grown by it. Some run is
 -- compatible with the trace: else a leak would say nothing

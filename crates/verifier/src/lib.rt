@@ -1,5 +1,10 @@
 use automaton::Header;
 use automaton::Reach;
+use opacity::Further;
+use opacity::Notion;
+use opacity::Secret;
+use opacity::Verdict;
+use opacity::Verdicts;
 use refusal::Refusal;
 use relation::StateSets;
 ghost use mathlib.Core.Path.{_≡_};
@@ -11,44 +16,13 @@ ghost use Rattle.stateset.specs.Set.{In, Is, Decided, complement};
 ghost use Rattle.automaton.specs.Run.{Automaton, automatonOf, Possible, Sound};
 ghost use Rattle.automaton.specs.Reaching.{Enters, Arrives, Showing, Known, Gained, Closed, Entered};
 ghost use Rattle.relation.specs.Relation.{Sub, setAt};
-ghost use Rattle.verifier.specs.declared.Notion.the-variants as notion;
-ghost use Rattle.verifier.specs.declared.Verdict.the-variants as verdict;
-ghost use Rattle.verifier.specs.Secrets.{own, furtherOf, secretsOf, secretAt, lookBackOf, clearedOf, noFurther, Allowed};
+ghost use Rattle.opacity.specs.declared.Notion.the-variants as notion;
+ghost use Rattle.opacity.specs.declared.Verdict.the-variants as verdict;
+ghost use Rattle.opacity.specs.Secrets.{own, secretsOf, secretAt, lookBackOf, Allowed};
 ghost use Rattle.verifier.specs.Estimators.{Limits, InLimits, Grown, GrownOn};
 ghost use Rattle.verifier.specs.declared.Answer.the-variants as answer;
 ghost use Rattle.verifier.specs.Replies.{said, saidBy, chosen, chosenEach, Others, OthersBy, Unusable, Opening, Accepting, AcceptingBy};
 ghost use Rattle.verifier.specs.Inner.{Inside, Pushed, Estimated, Next, Sampled, UnobservableReach, Prepared, Explored, Found, Delayed, verdictAt, WithStep, StrongGiven, StrongEach, Asks, askFor, chosenAnswer, Judged, JudgedAt, JudgedAll, Opened, AcceptingAsked};
-
-// 01's "none", or "leak" with its steps.
-pub enum Verdict {
-    NoLeak,
-    Leak(u8),
-}
-
-pub enum Notion {
-    Weak,
-    Strong,
-}
-
-pub struct Verdicts {
-    pub weak: Verdict,
-    pub strong: Verdict,
-}
-
-// A secret (02: recipe): a set of states, and its own look-back K.
-pub struct Secret {
-    pub states: u64,
-    pub k: u8,
-}
-
-// Up to three further secrets: three places, each a set of states and its K, and how many are given. A place past the count counts for nothing. (Two
-// arrays, and not three secrets side by side: an estimator is copied at each event, and whole words are copied faster than words with single bytes
-// between them.)
-pub struct Further {
-    pub states: [u64; 3],
-    pub k: [u8; 3],
-    pub count: u8,
-}
 
 // The two verdicts of each secret: the automaton's own, number 0, and the further ones, 1 to 3. Those of a place that is not given are NoLeak.
 pub struct SecretVerdicts {
@@ -134,82 +108,6 @@ fn smaller(a: u8, b: u8) -> u8
         return a;
     }
     b
-}
-
-// No further secret. (That is not one further secret without states.)
-pub fn no_further() -> Further
-    ensures { λ r. ⌜ r ≡ noFurther ⌝ }
-{
-    Further {
-        states: [0u64; 3],
-        k: [0u8; 3],
-        count: 0,
-    }
-}
-
-// The further secret at a place, of those that are given; else no state, K 0.
-fn further_at(further: Further, place: u8) -> Secret
-    ensures { λ r. ⌜ r ≡ secretAt (furtherOf further) place ⌝ }
-{
-    if place < further.count {
-        if place < 3 {
-            let states = further.states;
-            let k = further.k;
-            let at = place as usize;
-            return Secret {
-                states: states[at],
-                k: k[at],
-            };
-        }
-    }
-    Secret { states: 0, k: 0 }
-}
-
-// The secret with a number, of those that are given: the automaton's own, and the further ones; else no state, K 0.
-pub fn secret_at(header: Header, further: Further, i: u8) -> Secret
-    ensures { λ r. ⌜ r ≡ secretAt (secretsOf header further) i ⌝ }
-{
-    if i == 0 {
-        return Secret {
-            states: header.secret,
-            k: header.k,
-        };
-    }
-    further_at(further, i - 1)
-}
-
-// As a state keeps them: a place past the count is emptied, so that what a caller left there counts for nothing.
-fn clear(further: Further) -> Further
-    ensures { λ r. ⌜ r ≡ clearedOf further ⌝ }
-{
-    let first = further_at(further, 0);
-    let second = further_at(further, 1);
-    let third = further_at(further, 2);
-    Further {
-        states: [first.states, second.states, third.states],
-        k: [first.k, second.k, third.k],
-        count: further.count,
-    }
-}
-
-// The largest K of the secrets that are given, the automaton's own among them.
-pub fn look_back(header: Header, further: Further) -> u8
-    ensures { λ r. ⌜ r ≡ lookBackOf header further ⌝ }
-{
-    let n = further.count;
-    if n == 0 {
-        return header.k;
-    }
-    let k = further.k;
-    let one = automaton::larger(header.k, k[0]);
-    if n == 1 {
-        return one;
-    }
-    let two = automaton::larger(one, k[1]);
-    if n == 2 {
-        return two;
-    }
-    automaton::larger(two, k[2])
 }
 
 // The first `n` of the new symbol and the old ones.
@@ -498,7 +396,7 @@ fn outside_secret(header: Header, further: Further, states: u64, i: u8) -> u64
     if further.count < i {
         return 0;
     }
-    let secret = secret_at(header, further, i);
+    let secret = opacity::secret_at(header, further, i);
     states & !secret.states
 }
 
@@ -783,7 +681,7 @@ impl Estimator {
     fn none() -> Estimator
         ensures { λ r. ⌜ Unusable r ⌝ }
     {
-        let further = no_further();
+        let further = opacity::no_further();
         Estimator {
             count: 255,
             symbols: [0u8; 15],
@@ -803,7 +701,7 @@ impl Estimator {
             return false;
         }
         let further = self.further;
-        let k = look_back(header, further);
+        let k = opacity::look_back(header, further);
         if 15 < k {
             return false;
         }
@@ -859,7 +757,7 @@ impl Estimator {
             };
         }
         let further = self.further;
-        let secret = secret_at(header, further, i);
+        let secret = opacity::secret_at(header, further, i);
         judge(self, table, header, past, secret, found, asked)
     }
 
@@ -1021,11 +919,11 @@ impl Estimator {
         if 3 < further.count {
             return Estimator::turned_down(Refusal::TooManySecrets);
         }
-        let k = look_back(header, further);
+        let k = opacity::look_back(header, further);
         if 15 < k {
             return Estimator::turned_down(Refusal::LookBackTooLarge);
         }
-        let given = clear(further);
+        let given = opacity::clear(further);
         let estimator = Estimator::initial(header.initial, given);
         let asked = Asked {
             weak: true,
@@ -1071,7 +969,7 @@ impl Estimator {
             return self.refused(Refusal::Incompatible);
         };
         let further = self.further;
-        let k = look_back(header, further);
+        let k = opacity::look_back(header, further);
         let after = self.push(k, symbol, estimate.entry);
         let mut back = [0u64; 64];
         let judgement = after.assess(table, header, &sets, &silent, &mut back, estimate, asked);

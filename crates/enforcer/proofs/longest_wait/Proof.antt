@@ -6,12 +6,12 @@ use native.Mathlib.Omega.{arith}
 use borrow.Author.Needs.{needs}
 use lib.ListN.{length, getD}
 use Rattle.automaton.specs.declared.Header.{Header}
-use Rattle.verifier.specs.declared.Further.{Further}
+use Rattle.opacity.specs.declared.Further.{Further}
 use Rattle.verifier.specs.declared.VerdictsBy.{VerdictsBy}
-use Rattle.verifier.specs.Secrets.{secretsOf, Allowed}
-use Rattle.verifier.specs.Verdicts.{Steps, none, stepsOf}
+use Rattle.opacity.specs.Secrets.{secretsOf, Allowed}
+use Rattle.opacity.specs.Verdicts.{Steps, none, stepsOf}
 use Rattle.verifier.specs.Replies.{numberedBy}
-use Rattle.verifier.proofs.Numbering.{how-many-most}
+use Rattle.opacity.proofs.Numbering.{how-many-most}
 use Rattle.verifier.specs.Replies.{stepsEach}
 use Rattle.enforcer.specs.Inner.{WaitAt, LargestWait}
 use Rattle.enforcer.proofs.ForAll.{no-wait, largest-of-four, largest-given}

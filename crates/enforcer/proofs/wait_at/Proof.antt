@@ -4,10 +4,10 @@ use Prim.Native.Nat.{_<_}
 use native.Mathlib.Omega.{arith}
 use borrow.Author.Needs.{needs}
 use lib.ListN.{length}
-use Rattle.verifier.specs.declared.Secret.{Secret}
-use Rattle.verifier.specs.Secrets.{secretsOf}
-use Rattle.verifier.specs.Verdicts.{stepsOf}
-use Rattle.verifier.proofs.Numbering.{how-many, how-many-most, secret-back, look-back-small}
+use Rattle.opacity.specs.declared.Secret.{Secret}
+use Rattle.opacity.specs.Secrets.{secretsOf}
+use Rattle.opacity.specs.Verdicts.{stepsOf}
+use Rattle.opacity.proofs.Numbering.{how-many, how-many-most, secret-back, look-back-small}
 use Rattle.enforcer.specs.Inner.{waitOf}
 use Rattle.enforcer.proofs.ForAll.{no-wait}
 use Rattle.enforcer.proofs.wait_at.Statement.{statement}

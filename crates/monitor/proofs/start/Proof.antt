@@ -1,10 +1,10 @@
 -- `monitor::start` meets its contract: a start and a fresh verifier with no further secret.
 use mathlib.Core.Path.{subst}
 use Rattle.refusal.specs.Refusals.{numberOf}
-use Rattle.verifier.specs.declared.Notion.the-variants.{Weak}
-use Rattle.verifier.specs.declared.Further.{Further}
+use Rattle.opacity.specs.declared.Notion.the-variants.{Weak}
+use Rattle.opacity.specs.declared.Further.{Further}
 use Rattle.verifier.specs.declared.Answer.{Answer}
-use Rattle.verifier.specs.Secrets.{noFurther}
+use Rattle.opacity.specs.Secrets.{noFurther}
 use Rattle.verifier.specs.Replies as verifier
 use Rattle.enforcer.specs.declared.StartAnswer.{StartAnswer}
 use Rattle.enforcer.specs.Offerings.{begun, Starting}

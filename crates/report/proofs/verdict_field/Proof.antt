@@ -3,7 +3,7 @@ use Prim.Native.Nat.{ℕ}
 use native.Mathlib.Omega.{arith}
 use mathlib.Core.Path.{sym, ap, _∙_}
 use mathlib.Core.List.{_∷_}
-use Rattle.verifier.specs.declared.Verdict.{Verdict}
+use Rattle.opacity.specs.declared.Verdict.{Verdict}
 use Rattle.report.specs.Text.{decimal, steps}
 use Rattle.report.proofs.Laws.{same}
 use Rattle.report.proofs.verdict_field.Statement.{statement}

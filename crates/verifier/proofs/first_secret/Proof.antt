@@ -9,10 +9,11 @@ use lib.Count.{trailingZeros}
 use lib.ListN.{length, getD}
 use Rattle.stateset.proofs.Bits.{Taken, taken, in-test}
 use Rattle.automaton.specs.Notion.{ClearAt}
-use Rattle.verifier.specs.declared.Notion.the-variants.{Weak}
-use Rattle.verifier.specs.Verdicts.{NoLeakBelow}
+use Rattle.opacity.specs.declared.Notion.the-variants.{Weak}
+use Rattle.opacity.specs.Verdicts.{NoLeakBelow}
 use Rattle.verifier.proofs.Passing.{Passed, pass-start, pass-turn, pass-end, digit-in}
-use Rattle.verifier.proofs.LookBack.{remembers-part, ForPast, past-by, below-start, below-step, below-leak, below-last, decided-sure, decided-clear}
+use Rattle.verifier.proofs.LookBack.{remembers-part, ForPast, past-by, decided-sure, decided-clear}
+use Rattle.opacity.proofs.Exactness.{below-start, below-step, below-leak, below-last}
 use Rattle.verifier.proofs.first_secret.Statement.{statement}
 use Rattle.verifier.proofs.first_secret.Tie as tie
 

@@ -2,7 +2,7 @@
 use mathlib.Core.Logic.{⊎-elim}
 use native.Mathlib.Omega.{arith}
 use borrow.Author.Needs.{needs}
-use Rattle.verifier.specs.declared.Notion.the-variants.{Strong}
+use Rattle.opacity.specs.declared.Notion.the-variants.{Strong}
 use Rattle.verifier.proofs.Judging.{not-both, judged-both, found-last}
 use Rattle.verifier.proofs.judge.Statement.{statement}
 use Rattle.verifier.proofs.judge.Tie as tie

@@ -4,8 +4,8 @@ use mathlib.Core.Path.{_≡_, refl}
 use mathlib.Core.Logic.{⊎-elim}
 use Prim.Native.Nat.{min}
 use native.Mathlib.Omega.{arith}
-use Rattle.verifier.specs.Secrets.{own}
-use Rattle.verifier.proofs.Numbering.{back-none}
+use Rattle.opacity.specs.Secrets.{own}
+use Rattle.opacity.proofs.Numbering.{back-none}
 use Rattle.verifier.proofs.Judging.{not-both, judged-both, found-last}
 use Rattle.verifier.proofs.judge_alone.Statement.{statement}
 use Rattle.verifier.proofs.judge_alone.Tie as tie

@@ -5,7 +5,7 @@ use native.Mathlib.Omega.{arith}
 use borrow.Author.Needs.{needs}
 use lib.Bits.{bitAnd}
 use Rattle.stateset.specs.Set.{complement}
-use Rattle.verifier.specs.declared.Secret.{Secret}
+use Rattle.opacity.specs.declared.Secret.{Secret}
 use Rattle.verifier.proofs.outside_secret.Statement.{statement}
 use Rattle.verifier.proofs.outside_secret.Tie as tie
 

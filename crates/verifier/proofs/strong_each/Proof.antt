@@ -7,7 +7,7 @@ use lib.Bits.{bitAnd}
 use Rattle.stateset.specs.Set.{complement}
 use Rattle.relation.specs.Relation.{setAt}
 use Rattle.relation.specs.declared.StateSets.{StateSets}
-use Rattle.verifier.specs.Secrets.{secretsOf, secretAt}
+use Rattle.opacity.specs.Secrets.{secretsOf, secretAt}
 use Rattle.verifier.proofs.Judging.{not-both}
 use Rattle.relation.proofs.FourSets.{four}
 use Rattle.verifier.proofs.strong_each.Statement.{statement}

@@ -14,12 +14,13 @@ use Rattle.automaton.specs.Run.{Automaton, automatonOf}
 use Rattle.relation.specs.Relation.{setAt}
 use Rattle.automaton.specs.Reaching.{Leaves, Showing}
 use Rattle.relation.proofs.FourSets.{four}
-use Rattle.verifier.specs.declared.Notion.the-variants.{Strong}
-use Rattle.verifier.specs.declared.Verdict.{Verdict}
-use Rattle.verifier.specs.Verdicts.{stepsOf}
+use Rattle.opacity.specs.declared.Notion.the-variants.{Strong}
+use Rattle.opacity.specs.declared.Verdict.{Verdict}
+use Rattle.opacity.specs.Verdicts.{stepsOf}
 use Rattle.verifier.specs.Replies.{Bounded}
 use Rattle.verifier.specs.Inner.{Looks, verdictAt}
-use Rattle.verifier.proofs.LookBack.{ForTraces, Searched, searched-step, searched-end, searched-bounded, below-start, Follows, follows-start, follows-step, prepared-few, remembers-inside, strong-sure, strong-clear}
+use Rattle.verifier.proofs.LookBack.{ForTraces, Searched, searched-step, searched-end, searched-bounded, Follows, follows-start, follows-step, prepared-few, remembers-inside, strong-sure, strong-clear}
+use Rattle.opacity.proofs.Exactness.{below-start}
 use Rattle.verifier.proofs.strong_verdicts.Statement.{statement}
 use Rattle.verifier.proofs.strong_verdicts.Tie as tie
 

@@ -4,10 +4,10 @@ use Prim.Native.Nat.{ℕ, _≤_, _<_}
 use native.Mathlib.Omega.{arith}
 use borrow.Author.Needs.{needs}
 use Rattle.automaton.specs.Run.{Automaton}
-use Rattle.verifier.specs.declared.Notion.{Notion}
+use Rattle.opacity.specs.declared.Notion.{Notion}
 use Rattle.verifier.specs.declared.Estimator.{Estimator}
-use Rattle.verifier.specs.declared.Verdict.{Verdict}
-use Rattle.verifier.specs.declared.Verdict.the-variants.{NoLeak, Leak}
+use Rattle.opacity.specs.declared.Verdict.{Verdict}
+use Rattle.opacity.specs.declared.Verdict.the-variants.{NoLeak, Leak}
 use Rattle.verifier.specs.Inner.{Found}
 use Rattle.verifier.proofs.up_to.Statement.{statement}
 use Rattle.verifier.proofs.up_to.Tie as tie

@@ -22,11 +22,12 @@ use Rattle.stateset.proofs.Bits.{Taken, taken, in-test}
 use Rattle.automaton.specs.Run.{Automaton}
 use Rattle.automaton.specs.Notion.{ClearAt}
 use Rattle.automaton.specs.Reaching.{DelayedEstimate, Showing}
-use Rattle.verifier.specs.declared.Notion.the-variants.{Weak}
-use Rattle.verifier.specs.Verdicts.{NoLeakBelow}
+use Rattle.opacity.specs.declared.Notion.the-variants.{Weak}
+use Rattle.opacity.specs.Verdicts.{NoLeakBelow}
 use Rattle.verifier.specs.Inner.{Looks, DecidedBy}
 use Rattle.verifier.proofs.Passing.{Passed, pass-start, pass-turn, pass-end, digit-in}
-use Rattle.verifier.proofs.LookBack.{ForTracesWith, below-start, below-step, below-leak, below-last, Follows, follows-start, follows-step, prepared-few, remembers-inside, delayed-is, delayed-by, estimate-by, decided-sure, decided-clear}
+use Rattle.verifier.proofs.LookBack.{ForTracesWith, Follows, follows-start, follows-step, prepared-few, remembers-inside, delayed-is, delayed-by, estimate-by, decided-sure, decided-clear}
+use Rattle.opacity.proofs.Exactness.{below-start, below-step, below-leak, below-last}
 use Rattle.verifier.proofs.weak_verdict.Statement.{statement}
 use Rattle.verifier.proofs.weak_verdict.Tie as tie
 

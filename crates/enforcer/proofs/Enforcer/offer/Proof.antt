@@ -5,11 +5,11 @@ use native.Mathlib.Omega.{arith}
 use denote.Ref.{now}
 use lib.ListN.{getD}
 use Rattle.verifier.specs.declared.AnswerBy.{AnswerBy}
-use Rattle.verifier.specs.Secrets.{ForEach, lookBackOf}
-use Rattle.verifier.specs.Verdicts.{none}
+use Rattle.opacity.specs.Secrets.{ForEach, lookBackOf}
+use Rattle.opacity.specs.Verdicts.{none}
 use Rattle.verifier.specs.Replies.{saidBy, AcceptingBy, Moved, TellsBy}
 use Rattle.verifier.proofs.Judging.{refused-of, accepted-of}
-use Rattle.verifier.proofs.Numbering.{look-back-small}
+use Rattle.opacity.proofs.Numbering.{look-back-small}
 use Rattle.enforcer.specs.Enforcers.{secretsIn}
 use Rattle.verifier.specs.Replies.{stepsEach}
 use Rattle.enforcer.specs.Inner.{PendingWithin, Took}

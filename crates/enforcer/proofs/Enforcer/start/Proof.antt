@@ -4,7 +4,7 @@ use denote.Ref.{now}
 use Rattle.verifier.specs.declared.Answer.{Answer}
 use Rattle.verifier.specs.declared.VerdictsBy.{VerdictsBy}
 use Rattle.refusal.specs.Refusals.{numberOf}
-use Rattle.verifier.specs.Secrets.{secretsOf}
+use Rattle.opacity.specs.Secrets.{secretsOf}
 use Rattle.verifier.specs.Replies as verifier
 use Rattle.verifier.specs.Replies.{Opening, toldEach}
 use Rattle.verifier.specs.Replies.{chosenEach, stepsEach}

@@ -14,7 +14,7 @@ use Rattle.automaton.proofs.SymbolSets.{some-observable, none-observable, obser
 use Rattle.automaton.proofs.Entering.{known-none}
 use Rattle.verifier.specs.Estimators.{Limits, InLimits}
 use Rattle.verifier.specs.Replies.{Accepting, not-observable, incompatible, Moved}
-use Rattle.verifier.proofs.Numbering.{look-back-small}
+use Rattle.opacity.proofs.Numbering.{look-back-small}
 use Rattle.verifier.proofs.Judging.{grown-entry, limits-as, moved-by, judged-by, refused-asked}
 use Rattle.verifier.proofs.Estimating.{some-left, none-left, reach-as, gained-part}
 use Rattle.verifier.proofs.Estimator.accept_asked.Statement.{statement}

@@ -3,10 +3,10 @@ use mathlib.Core.Path.{refl, sym, subst}
 use native.Mathlib.Omega.{arith}
 use borrow.Author.Needs.{needs}
 use denote.Ref.{now}
-use Rattle.verifier.specs.declared.Secret.{Secret}
+use Rattle.opacity.specs.declared.Secret.{Secret}
 use Rattle.verifier.specs.Inner.{StrongGiven}
 use Rattle.verifier.proofs.Judging.{judged-of}
-use Rattle.verifier.proofs.Numbering.{how-many, how-many-most}
+use Rattle.opacity.proofs.Numbering.{how-many, how-many-most}
 use Rattle.verifier.proofs.Estimator.judge_at.Statement.{statement}
 use Rattle.verifier.proofs.Estimator.judge_at.Tie as tie
 

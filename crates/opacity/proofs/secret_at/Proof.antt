@@ -1,11 +1,11 @@
--- `verifier::secret_at` meets its contract: the automaton's own secret, and the further one at the place before its number.
+-- `opacity::secret_at` meets its contract: the automaton's own secret, and the further one at the place before its number.
 use mathlib.Core.Path.{_≡_, refl, ap, _∙_}
 use Prim.Native.Nat.{suc, _-_}
 use native.Mathlib.Omega.{arith}
-use Rattle.verifier.specs.Secrets.{secretsOf, secretAt}
+use Rattle.opacity.specs.Secrets.{secretsOf, secretAt}
 use borrow.Author.Needs.{needs}
-use Rattle.verifier.proofs.secret_at.Statement.{statement}
-use Rattle.verifier.proofs.secret_at.Tie as tie
+use Rattle.opacity.proofs.secret_at.Statement.{statement}
+use Rattle.opacity.proofs.secret_at.Tie as tie
 
 returns : tie.Need-returns
 returns c = rw (c .if1 .taken) refl

@@ -8,9 +8,9 @@ use native.Mathlib.Decide.{decLt}
 use lib.ListN.{length, getD, take, length-take, List·getD-eq-default}
 use lib.Seq.{getD-take, length-take-le}
 use Rattle.automaton.specs.declared.Header.{Header}
-use Rattle.verifier.specs.declared.Secret.{Secret}
-use Rattle.verifier.specs.declared.Further.{Further}
-use Rattle.verifier.specs.Secrets.{own, placeOf, placesOf, furtherOf, secretsOf, emptySecret, secretAt, ForEach, largest, lookBackOf, clearedOf, noFurther, Allowed, TooLarge}
+use Rattle.opacity.specs.declared.Secret.{Secret}
+use Rattle.opacity.specs.declared.Further.{Further}
+use Rattle.opacity.specs.Secrets.{own, placeOf, placesOf, furtherOf, secretsOf, emptySecret, secretAt, ForEach, largest, lookBackOf, clearedOf, noFurther, Allowed, TooLarge}
 
 -- the largest K is that of an arbitrary secret at least, no more than a bound of all, and above a number where one of them is
 pub largest-bounds : (cs : List Secret) → ForEach cs (λ i c. c .k ≤ largest cs)

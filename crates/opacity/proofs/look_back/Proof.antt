@@ -1,10 +1,10 @@
--- `verifier::look_back` meets its contract: as many places as are given.
+-- `opacity::look_back` meets its contract: as many places as are given.
 use mathlib.Core.Path.{_∙_}
 use native.Mathlib.Omega.{arith}
 use borrow.Author.Needs.{needs}
-use Rattle.verifier.proofs.Numbering.{back-none, back-one, back-two, back-three}
-use Rattle.verifier.proofs.look_back.Statement.{statement}
-use Rattle.verifier.proofs.look_back.Tie as tie
+use Rattle.opacity.proofs.Numbering.{back-none, back-one, back-two, back-three}
+use Rattle.opacity.proofs.look_back.Statement.{statement}
+use Rattle.opacity.proofs.look_back.Tie as tie
 
 returns : tie.Need-returns
 returns c = back-none (c .before .args .header) (c .before .args .further) (c .if1 .taken)

@@ -1,11 +1,11 @@
--- `verifier::further_at` meets its contract: what stands at the place, where it is given.
+-- `opacity::further_at` meets its contract: what stands at the place, where it is given.
 use mathlib.Core.Path.{sym}
 use mathlib.Core.Logic.{inl, inr}
 use native.Mathlib.Omega.{arith}
 use borrow.Author.Needs.{needs}
-use Rattle.verifier.proofs.Numbering.{placed, not-placed}
-use Rattle.verifier.proofs.further_at.Statement.{statement}
-use Rattle.verifier.proofs.further_at.Tie as tie
+use Rattle.opacity.proofs.Numbering.{placed, not-placed}
+use Rattle.opacity.proofs.further_at.Statement.{statement}
+use Rattle.opacity.proofs.further_at.Tie as tie
 
 mul-t8 : tie.Need-mul-t8
 mul-t8 c = search needs

@@ -1,8 +1,8 @@
--- `verifier::clear` meets its contract: each place by its own call.
+-- `opacity::clear` meets its contract: each place by its own call.
 use mathlib.Core.Path.{refl}
 use borrow.Author.Needs.{needs}
-use Rattle.verifier.proofs.clear.Statement.{statement}
-use Rattle.verifier.proofs.clear.Tie as tie
+use Rattle.opacity.proofs.clear.Statement.{statement}
+use Rattle.opacity.proofs.clear.Tie as tie
 
 further-at-requires : tie.Need-further-at-requires
 further-at-requires c κs = search needs

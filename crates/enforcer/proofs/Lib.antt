@@ -6,7 +6,6 @@ pub mod Queueing
 pub mod TakingIn
 pub mod Outcomes
 pub mod Starts
-pub mod SourceSafe
 pub mod Lists
 pub mod Unique
 pub mod ThirdPoint

@@ -7,20 +7,17 @@ use lib.ListN.{length, take}
 use lib.Seq.{length-take-le}
 use Rattle.automaton.specs.Run.{automatonOf, Sound}
 use Rattle.automaton.specs.declared.Header.{Header}
-use Rattle.automaton.proofs.Traces.{prefix-possible}
 use Rattle.opacity.specs.declared.Notion.{Notion}
 use Rattle.opacity.specs.declared.Secret.{Secret}
 use Rattle.opacity.specs.declared.Further.{Further}
 use Rattle.opacity.specs.Secrets.{secretsOf, lookBackOf, clearedOf}
 use Rattle.automaton.proofs.Estimates.{right-size}
-use Rattle.published.specs.Source.{Enforced}
 use Rattle.enforcer.specs.SafePrefix.{SafeForAll}
 use Rattle.enforcer.specs.Enforcers.{Grown, GrownOn}
 use Rattle.enforcer.specs.Offerings.{Said, refused, started, Starting, Offering}
 use Rattle.enforcer.specs.Offers.{Offer, Offered, Offers, acceptedOf, releasedCount, releasedOf, TurnedBack, Answered, Promise}
 use Rattle.enforcer.specs.declared.Enforcer.{Enforcer}
 use Rattle.enforcer.proofs.ForAll.{kept-secrets, safe-for-all-laws, all-by-runs, some-unsafe}
-use Rattle.enforcer.proofs.SourceSafe.{all-published, only-output, enforced}
 use Rattle.enforcer.proofs.Unique.{grown-unique}
 use Rattle.enforcer.proofs.Lists.{passes-refused, passes-accepted, One, kept}
 
@@ -83,7 +80,6 @@ module _ (notion : Notion) (t : List ℕ) (h : Header) (f : Further) (sound : So
       let k = y .2 in
       let front = take (releasedCount os) (acceptedOf os) in
       let short : length front ≤ length (acceptedOf os) = omega (arith, k .within, length-take-le (releasedCount os) (acceptedOf os) (k .within)) in
-      let observed-trace = prefix-possible p (acceptedOf os) (y .1 .grown .possible) in
       record {
         accepted = y .0;
         prefix = k .prefix;
@@ -92,10 +88,6 @@ module _ (notion : Notion) (t : List ℕ) (h : Header) (f : Further) (sound : So
         longest = k .longest;
         unsafe = λ r more within.
             some-unsafe notion p cs (take r (acceptedOf os)) (length (acceptedOf os)) (omega (arith, length-take-le r (acceptedOf os) within)) (k .longest r more within);
-        published = rw (k .prefix) (all-published notion p cs (acceptedOf os) front short (observed-trace (releasedCount os) (k .within)) .0 (k .safe));
-        published-longest = λ r more within out.
-            k .longest r more within (all-published notion p cs (acceptedOf os) (take r (acceptedOf os)) (omega (arith, length-take-le r (acceptedOf os) within))
-            (observed-trace r within) .1 out);
         in-time = k .in-time;
         balance = k .balance;
         same = y .1 .same;
@@ -108,14 +100,6 @@ pub third-point : (notion : Notion) (t : List ℕ) (h : Header) (f : Further) (s
 third-point notion t h f s os e start offers =
     let x = started-after notion t h f s start in
     promise notion t h f (x .0) s os e (x .1) offers
-
--- source 000's Definition 13, which has one secret: with no further one, of the accepted events the enforcer has released what it should
-pub definition-13 : (notion : Notion) (t : List ℕ) (h : Header) (f : Further) (s : Enforcer) (os : List Offer) (e : Enforcer) → f .count ≡ 0
-    → Starting t h f notion started s → Offers t h s os e → Enforced notion (automatonOf t h) (h .secret) (h .k) (acceptedOf os) (releasedOf os)
-definition-13 notion t h f s os e alone start offers =
-    let x = third-point notion t h f s os e start offers in
-    enforced notion (automatonOf t h) (h .secret) (h .k) (acceptedOf os) (releasedOf os) (releasedCount os) (omega (arith, x .balance)) (x .prefix) (x .published .each 0 (omega arith))
-    (λ r more within out. x .published-longest r more within (only-output notion (automatonOf t h) h f (acceptedOf os) (take r (acceptedOf os)) alone out))
 
 -- enforcers started under one notion with the same further secrets (whatever stands past their count) that have accepted the same events are equal,
 -- whatever was refused between them

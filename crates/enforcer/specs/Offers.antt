@@ -9,7 +9,6 @@ use Rattle.opacity.specs.declared.Notion.{Notion}
 use Rattle.opacity.specs.declared.Further.{Further}
 use Rattle.opacity.specs.Secrets.{secretsOf, lookBackOf, clearedOf}
 use Rattle.automaton.specs.Reaching.{RightSize}
-use Rattle.published.specs.Source.{SafeToOutputForAll}
 use Rattle.enforcer.specs.SafePrefix.{SafeForAll, SafeForAllByRuns, UnsafeForSome}
 use Rattle.enforcer.specs.Enforcers.{GrownOn}
 use Rattle.enforcer.specs.Offerings.{Said, refused, released, Offering}
@@ -95,10 +94,6 @@ pub record Promise (notion : Notion) (t : List ℕ) (h : Header) (f : Further) (
       → SafeForAll notion (automatonOf t h) (secretsOf h f) (take r (acceptedOf os)) (length (acceptedOf os)) → ⊥
   pub unsafe : (r : ℕ) → releasedCount os < r → r ≤ length (acceptedOf os)
       → UnsafeForSome notion (automatonOf t h) (secretsOf h f) (take r (acceptedOf os)) (length (acceptedOf os))
-  -- the same by source 000's Definition 12: the released symbols are safe to output for every secret, and no longer prefix is
-  pub published : SafeToOutputForAll notion (automatonOf t h) (secretsOf h f) (acceptedOf os) (releasedOf os)
-  pub published-longest : (r : ℕ) → releasedCount os < r → r ≤ length (acceptedOf os)
-      → SafeToOutputForAll notion (automatonOf t h) (secretsOf h f) (acceptedOf os) (take r (acceptedOf os)) → ⊥
   -- each accepted symbol is released by the time the largest K plus one more are accepted
   pub in-time : (i : ℕ) → suc i + (lookBackOf h f + 1) ≤ length (acceptedOf os) → i < releasedCount os
   -- accepted = released + pending

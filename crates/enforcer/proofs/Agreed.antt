@@ -21,33 +21,33 @@ use Rattle.enforcer.specs.Queues.{Longest, Queue}
 use Rattle.enforcer.specs.Enforcers.{Grown}
 use Rattle.enforcer.specs.declared.Enforcer.{Enforcer}
 
-module _ (p q : Automaton) (a b : List ℕ) (g : Agree p q a b) (secret K n : ℕ) where
-  excused-agree : Excused p secret K a n → Excused q secret K b n
+module _ (p q : Automaton) (a b : List ℕ) (g : Agree p q a b) (secret : Secret) (n : ℕ) where
+  excused-agree : Excused p secret a n → Excused q secret b n
   excused-agree x =
       record {
         run = x .run;
         compatible = g .to (x .run) (x .compatible);
-        outside = λ m near i. x .outside m (omega (arith, g .counts (x .run) m)) (subst (λ (s : ℕ). In s secret) (sym (g .states (x .run) m)) i);
+        outside = λ m near i. x .outside m (omega (arith, g .counts (x .run) m)) (subst (λ (s : ℕ). In s (secret .states)) (sym (g .states (x .run) m)) i);
       }
 
-  pub safe-agree : (notion : Notion) → Safe notion p secret K a n → Safe notion q secret K b n
-  safe-agree Weak x = λ j h near sure. x j (omega (arith, g .sizes)) near (sureAt-agree q p b a (agree-back p q a b g) secret j sure)
+  pub safe-agree : (notion : Notion) → Safe notion p secret a n → Safe notion q secret b n
+  safe-agree Weak x = λ j h near sure. x j (omega (arith, g .sizes)) near (sureAt-agree q p b a (agree-back p q a b g) (secret .states) j sure)
   safe-agree Strong (inl far) = inl (omega (arith, g .sizes))
   safe-agree Strong (inr x) = inr (excused-agree x)
 
 -- two automata that tell the same observable events apart have the same safe prefixes, over traces with the same events behind them
-pub alike-safe : (p q : Automaton) → Alike p q → (a b : List ℕ) → SameEvents p q a b → (secret K n : ℕ) (notion : Notion)
-    → Safe notion p secret K a n ↔ Safe notion q secret K b n
-alike-safe p q like a b x secret K n notion =
+pub alike-safe : (p q : Automaton) → Alike p q → (a b : List ℕ) → SameEvents p q a b → (secret : Secret) (n : ℕ) (notion : Notion)
+    → Safe notion p secret a n ↔ Safe notion q secret b n
+alike-safe p q like a b x secret n notion =
     let g = alike-agree p q like a b x in
-    (safe-agree p q a b g secret K n notion, safe-agree q p b a (agree-back p q a b g) secret K n notion)
+    (safe-agree p q a b g secret n notion, safe-agree q p b a (agree-back p q a b g) secret n notion)
 
 -- for every secret, each by its own K
 pub alike-safe-all : (p q : Automaton) → Alike p q → (a b : List ℕ) → SameEvents p q a b → (cs : List Secret) (n : ℕ) (notion : Notion)
     → SafeForAll notion p cs a n ↔ SafeForAll notion q cs b n
 alike-safe-all p q like a b x cs n notion = (
-  λ safe. record { each = λ i given. alike-safe p q like a b x _ _ n notion .0 (safe .each i given) },
-  λ safe. record { each = λ i given. alike-safe p q like a b x _ _ n notion .1 (safe .each i given) },
+  λ safe. record { each = λ i given. alike-safe p q like a b x _ n notion .0 (safe .each i given) },
+  λ safe. record { each = λ i given. alike-safe p q like a b x _ n notion .1 (safe .each i given) },
 )
 
 -- so where no two observable events share a symbol, the symbols of events are safe to release exactly where these events are without symbols
@@ -70,15 +70,15 @@ alike-longest p q like a b x cs notion r l =
 
 -- an unobservable event's symbol counts for nothing: the enforcer of a trace is the same
 module _ (p q : Automaton) (same : SameSymbols p q) where
-  pub same-safe : (trace : List ℕ) (secret K n : ℕ) (notion : Notion) → Safe notion p secret K trace n ↔ Safe notion q secret K trace n
-  same-safe trace secret K n notion =
+  pub same-safe : (trace : List ℕ) (secret : Secret) (n : ℕ) (notion : Notion) → Safe notion p secret trace n ↔ Safe notion q secret trace n
+  same-safe trace secret n notion =
       let g = same-agree p q same trace in
-      (safe-agree p q trace trace g secret K n notion, safe-agree q p trace trace (agree-back p q trace trace g) secret K n notion)
+      (safe-agree p q trace trace g secret n notion, safe-agree q p trace trace (agree-back p q trace trace g) secret n notion)
 
   pub same-safe-all : (trace : List ℕ) (cs : List Secret) (n : ℕ) (notion : Notion) → SafeForAll notion p cs trace n ↔ SafeForAll notion q cs trace n
   same-safe-all trace cs n notion = (
-    λ safe. record { each = λ i given. same-safe trace _ _ n notion .0 (safe .each i given) },
-    λ safe. record { each = λ i given. same-safe trace _ _ n notion .1 (safe .each i given) },
+    λ safe. record { each = λ i given. same-safe trace _ n notion .0 (safe .each i given) },
+    λ safe. record { each = λ i given. same-safe trace _ n notion .1 (safe .each i given) },
   )
 
   grown-to : (notion : Notion) (cs : List Secret) (trace : List ℕ) (s : Enforcer) → Grown notion p cs trace s → Grown notion q cs trace s

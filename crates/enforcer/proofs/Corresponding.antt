@@ -226,7 +226,7 @@ alike-offers notion t h h′ f like secret k s s′ os os′ e e′ start start�
 -- their look-backs, and the verdicts of the empty trace
 module _ (p : Automaton) (cs : List Secret) (f : Further) (notion : Notion) (r : Begun) where
   abbrev Opens : Type 0
-  Opens = (OpensAsLeak notion p cs × (r ≡ not-started 8)) ⊎ (ForEach cs (λ i c. Tells notion p (c .states) (c .k) [] none) × (r ≡ started))
+  Opens = (OpensAsLeak notion p cs × (r ≡ not-started 8)) ⊎ (ForEach cs (λ i c. Tells notion p c [] none) × (r ≡ started))
 
   abbrev Backs : Type 0
   Backs = (TooLarge f × (r ≡ not-started 14)) ⊎ (Allowed f × Opens)
@@ -253,22 +253,22 @@ first-alike r r′ n (inr x) (inl y) here there rest = absurd (there x (y .0))
 first-alike r r′ n (inr x) (inr y) here there rest = rest x y
 
 -- a verdict of the empty trace is one only
-apart : (notion : Notion) (p : Automaton) (secret K : ℕ) → Tells notion p secret K [] none → Tells notion p secret K [] (leak 0) → ⊥
-apart notion p secret K a b =
-    let e : none ≡ leak 0 = exactly notion p secret K [] none a (leak 0) .1 (in-words notion p secret K [] (leak 0) b) in
+apart : (notion : Notion) (p : Automaton) (secret : Secret) → Tells notion p secret [] none → Tells notion p secret [] (leak 0) → ⊥
+apart notion p secret a b =
+    let e : none ≡ leak 0 = exactly notion p secret [] none a (leak 0) .1 (in-words notion p secret [] (leak 0) b) in
     let z : _≡_ {A = ℕ} 0 1 = cc in
     omega arith
 
 module _ (p q : Automaton) (like : Alike p q) (f : Further) (cs : List Secret) (notion : Notion) (r r′ : Begun) where
   -- the verdict of the empty trace is the same
-  same-empty : (secret K : ℕ) (v : Steps) → Tells notion p secret K [] v ↔ Tells notion q secret K [] v
-  same-empty secret K v = alike-tells p q like [] [] (no-events p q) secret K notion v
+  same-empty : (secret : Secret) (v : Steps) → Tells notion p secret [] v ↔ Tells notion q secret [] v
+  same-empty secret v = alike-tells p q like [] [] (no-events p q) secret notion v
 
   opens-alike : Opens p cs f notion r → Opens q cs f notion r′ → r ≡ r′
   opens-alike x y =
       first-alike r r′ (not-started 8) x y
-      (λ l z. apart notion q _ _ (z .0 (l .number) (l .given)) (same-empty _ _ (leak 0) .0 (l .tells)))
-      (λ z l. apart notion q _ _ (same-empty _ _ none .0 (z .0 (l .number) (l .given))) (l .tells))
+      (λ l z. apart notion q _ (z .0 (l .number) (l .given)) (same-empty _ (leak 0) .0 (l .tells)))
+      (λ z l. apart notion q _ (same-empty _ none .0 (z .0 (l .number) (l .given))) (l .tells))
       (λ a b. a .1 ∙ sym (b .1))
 
   backs-alike : Backs p cs f notion r → Backs q cs f notion r′ → r ≡ r′
@@ -333,9 +333,9 @@ module _ (t : List ℕ) (h : Header) (symbols : List ℕ) (g : SameSymbols (auto
   starting-to f notion r s (Starting.look-back-too-large so few large out) = Starting.look-back-too-large (sound-to so) few large out
   starting-to f notion r s (Starting.initial-leak so allowed l out) =
       Starting.initial-leak (sound-to so) allowed
-      (record { number = l .number; given = l .given; tells = same-tells _ _ g [] _ _ notion (leak 0) .0 (l .tells) }) out
+      (record { number = l .number; given = l .given; tells = same-tells _ _ g [] _ notion (leak 0) .0 (l .tells) }) out
   starting-to f notion r s (Starting.ready so allowed each-none same x) =
-      Starting.ready (sound-to so) allowed (λ i given. same-tells _ _ g [] _ _ notion none .0 (each-none i given)) same
+      Starting.ready (sound-to so) allowed (λ i given. same-tells _ _ g [] _ notion none .0 (each-none i given)) same
       (same-grown _ _ g notion (secretsIn h s) [] s .0 x)
 
   offering-to : (self : Enforcer) (byte : ℕ) (output : List ℕ) (r : Said) (after : Enforcer) (left : List ℕ) → Offering t h self byte output r after left

@@ -36,12 +36,12 @@ only h f alone P x (suc i) given = absurd (omega (arith, given, how-many-most h 
 
 -- and the longest prefix that is safe for all is the longest that is safe
 pub only-longest : (notion : Notion) (p : Automaton) (h : Header) (f : Further) (trace : List ℕ) (r : ℕ) → f .count ≡ 0
-    → Longest (SafeForAll notion p (secretsOf h f)) trace r → Longest (Safe notion p (h .secret) (h .k)) trace r
+    → Longest (SafeForAll notion p (secretsOf h f)) trace r → Longest (Safe notion p (own h)) trace r
 only-longest notion p h f trace r alone l = record {
   within = l .within;
   safe = l .safe .each 0 (omega arith);
   longest = λ s more within safe.
-      l .longest s more within (record { each = only h f alone (λ i c. Safe notion p (c .states) (c .k) (take s trace) (length trace)) safe });
+      l .longest s more within (record { each = only h f alone (λ i c. Safe notion p c (take s trace) (length trace)) safe });
 }
 
 pub safe-for-all-laws : (notion : Notion) (p : Automaton) (cs : List Secret) → Laws (largest cs) (SafeForAll notion p cs)
@@ -51,8 +51,8 @@ safe-for-all-laws notion p cs = record {
   old = λ first n h. record { each = λ i g. one i .old first n (omega (arith, h, largest-bounds cs i g)) };
 }
   where
-    one : (i : ℕ) → Laws (secretAt cs i .k) (Safe notion p (secretAt cs i .states) (secretAt cs i .k))
-    one i = safe-laws notion p (secretAt cs i .states) (secretAt cs i .k)
+    one : (i : ℕ) → Laws (secretAt cs i .k) (Safe notion p (secretAt cs i))
+    one i = safe-laws notion p (secretAt cs i)
 
 -- of finitely many numbers, all are at most m, or one is above it
 pub all-or-some : (w : ℕ → ℕ) (m n : ℕ) → ((i : ℕ) → i < n → w i ≤ m) ⊎ ((i : ℕ) × (i < n) × (m < w i))
@@ -120,25 +120,25 @@ chosen-told Strong f v i = sym (chosen-at (stepsBy Strong) (suc (f .count)) (map
 
 -- where each secret has its verdict of a trace, it is safe for all once the largest of the waits is over, and not before
 pub wait-for-all : (notion : Notion) (p : Automaton) (cs : List Secret) (first : List ℕ) (vs : List Steps)
-    → ForEach cs (λ i c. Tells notion p (c .states) (c .k) first (getD vs i none)) → (w : ℕ) → LargestWait cs vs w
+    → ForEach cs (λ i c. Tells notion p c first (getD vs i none)) → (w : ℕ) → LargestWait cs vs w
     → (n : ℕ) → length first ≤ n → SafeForAll notion p cs first n ↔ (w ≤ n - length first)
 wait-for-all notion p cs first vs tells w most n h = (
-  λ safe. most (n - length first) .0 (λ i g. wait-safe notion p _ _ first (getD vs i none) (tells i g) n h (safe .each i g)),
-  λ low. record { each = λ i g. safe-wait notion p _ _ first (getD vs i none) (tells i g) n h (most (n - length first) .1 low i g) },
+  λ safe. most (n - length first) .0 (λ i g. wait-safe notion p _ first (getD vs i none) (tells i g) n h (safe .each i g)),
+  λ low. record { each = λ i g. safe-wait notion p _ first (getD vs i none) (tells i g) n h (most (n - length first) .1 low i g) },
 )
 
 -- where somebody is sure of one of them, the prefix is not safe for all
 pub some-not-all : (notion : Notion) (p : Automaton) (cs : List Secret) (first : List ℕ) (n : ℕ) → UnsafeForSome notion p cs first n → SafeForAll notion p cs first n → ⊥
-some-not-all notion p cs first n u safe = unsafe-not-safe notion p _ _ first n (u .unsafe) (safe .each (u .number) (u .given))
+some-not-all notion p cs first n u safe = unsafe-not-safe notion p _ first n (u .unsafe) (safe .each (u .number) (u .given))
 
 module _ (notion : Notion) (p : Automaton) (cs : List Secret) (first : List ℕ) where
   -- each secret has its verdict of every trace
-  verdictOf : (i : ℕ) → (v : Steps) × Tells notion p (secretAt cs i .states) (secretAt cs i .k) first v
-  verdictOf i = every-verdict notion p (secretAt cs i .states) first (secretAt cs i .k)
+  verdictOf : (i : ℕ) → (v : Steps) × Tells notion p (secretAt cs i) first v
+  verdictOf i = every-verdict notion p (secretAt cs i) first
 
   -- so safe is shown by runs, and not safe is a secret of which somebody is sure
   pub all-by-runs : (n : ℕ) → length first ≤ n → SafeForAll notion p cs first n → SafeForAllByRuns notion p cs first n
-  all-by-runs n h safe = record { each = λ i g. safe-by-runs notion p _ _ first (verdictOf i .0) (verdictOf i .1) n h (safe .each i g) }
+  all-by-runs n h safe = record { each = λ i g. safe-by-runs notion p _ first (verdictOf i .0) (verdictOf i .1) n h (safe .each i g) }
 
   pub some-unsafe : (n : ℕ) → length first ≤ n → (SafeForAll notion p cs first n → ⊥) → UnsafeForSome notion p cs first n
   some-unsafe n h bad = go (all-or-some waits (n - length first) (length cs))
@@ -147,8 +147,8 @@ module _ (notion : Notion) (p : Automaton) (cs : List Secret) (first : List ℕ)
       waits i = waitOf (secretAt cs i .k) (verdictOf i .0)
 
       go : ((i : ℕ) → i < length cs → waits i ≤ n - length first) ⊎ ((i : ℕ) × (i < length cs) × (n - length first < waits i)) → UnsafeForSome notion p cs first n
-      go (inl all) = absurd (bad (record { each = λ i g. safe-wait notion p _ _ first (verdictOf i .0) (verdictOf i .1) n h (all i g) }))
-      go (inr x) = record { number = x .0; given = x .1; unsafe = wait-unsafe notion p _ _ first (verdictOf (x .0) .0) (verdictOf (x .0) .1) n h (x .2) }
+      go (inl all) = absurd (bad (record { each = λ i g. safe-wait notion p _ first (verdictOf i .0) (verdictOf i .1) n h (all i g) }))
+      go (inr x) = record { number = x .0; given = x .1; unsafe = wait-unsafe notion p _ first (verdictOf (x .0) .0) (verdictOf (x .0) .1) n h (x .2) }
 
   -- somebody is sure of one of them exactly where the prefix is not safe for all
   pub unsafe-exactly : (n : ℕ) → length first ≤ n → UnsafeForSome notion p cs first n ↔ (SafeForAll notion p cs first n → ⊥)

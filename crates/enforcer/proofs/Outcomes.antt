@@ -61,8 +61,8 @@ taken-outcome t h self byte output vs w size s (offer.Released r) after left so 
     (took .shifted .rest) (subst SizeWithin (sym is) (moved .size-within))
     (λ notion trace g.
     let n = moved .grown trace (g .estimator) in
-    let tells : ForEach (secretsIn h self) (λ i c. Tells notion (automatonOf t h) (c .states) (c .k) (trace ++ byte ∷ []) (getD vs i none)) =
-    subst (λ (x : Notion). ForEach (secretsIn h self) (λ i c. Tells x (automatonOf t h) (c .states) (c .k) (trace ++ byte ∷ []) (getD vs i none))) (g .under)
+    let tells : ForEach (secretsIn h self) (λ i c. Tells notion (automatonOf t h) c (trace ++ byte ∷ []) (getD vs i none)) =
+    subst (λ (x : Notion). ForEach (secretsIn h self) (λ i c. Tells x (automatonOf t h) c (trace ++ byte ∷ []) (getD vs i none))) (g .under)
     (λ i given. told i given .tells trace (g .estimator)) in
     record {
       possible = n .possible;

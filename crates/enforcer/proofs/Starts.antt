@@ -41,12 +41,12 @@ start-refused t h f notion n e s (Opening.too-many-secrets so many out) c = Star
 start-refused t h f notion n e s (Opening.look-back-too-large so few large out) c = Starting.look-back-too-large so few large (unusable s c)
 
 -- of the empty trace: a verdict whose wait is not over is leak 0, and one whose wait is over is none
-module _ (notion : Notion) (p : Automaton) (secret K : ℕ) where
-  opens-leak : (u : Steps) → Tells notion p secret K [] u → 0 < waitOf K u → Tells notion p secret K [] (leak 0)
+module _ (notion : Notion) (p : Automaton) (secret : Secret) where
+  opens-leak : (u : Steps) → Tells notion p secret [] u → 0 < waitOf (secret .k) u → Tells notion p secret [] (leak 0)
   opens-leak none t h = absurd (omega arith)
-  opens-leak (leak l) t h = let z : l ≡ 0 = omega (arith, t .reached) in subst (λ (k : ℕ). Tells notion p secret K [] (leak k)) z t
+  opens-leak (leak l) t h = let z : l ≡ 0 = omega (arith, t .reached) in subst (λ (k : ℕ). Tells notion p secret [] (leak k)) z t
 
-  opens-none : (u : Steps) → Tells notion p secret K [] u → waitOf K u ≤ 0 → Tells notion p secret K [] none
+  opens-none : (u : Steps) → Tells notion p secret [] u → waitOf (secret .k) u ≤ 0 → Tells notion p secret [] none
   opens-none none t h = t
   opens-none (leak l) t h = absurd (omega (arith, t .within))
 
@@ -64,8 +64,8 @@ module _ (t : List ℕ) (h : Header) (f : Further) (notion : Notion) (v : Secret
   at i = secretAt (secretsOf h f) i
 
   -- the verdicts by the notion
-  chosen-tells : verifier.Exact t h (secretsOf h f) [] (toldEach f v) size e → ForEach (secretsOf h f) (λ i c. Tells notion (automatonOf t h) (c .states) (c .k) [] (says i))
-  chosen-tells x i given = subst (Tells notion (automatonOf t h) (at i .states) (at i .k) []) (chosen-told notion f v i) (x .tells notion i given)
+  chosen-tells : verifier.Exact t h (secretsOf h f) [] (toldEach f v) size e → ForEach (secretsOf h f) (λ i c. Tells notion (automatonOf t h) c [] (says i))
+  chosen-tells x i given = subst (Tells notion (automatonOf t h) (at i) []) (chosen-told notion f v i) (x .tells notion i given)
 
   pub start-open : (s : Enforcer) → Opening t h f (verifier.verdicts (toldEach f v) size) e → (w ≡ 0 → ⊥) → s .count ≡ 255 → Starting t h f notion (not-started 8) s
   start-open s (Opening.opened so allowed same li many within x) some c =
@@ -77,11 +77,11 @@ module _ (t : List ℕ) (h : Header) (f : Further) (notion : Notion) (v : Secret
       go (inr y) = record {
         number = y .0;
         given = y .1;
-        tells = opens-leak notion (automatonOf t h) (at (y .0) .states) (at (y .0) .k) (says (y .0)) (chosen-tells x (y .0) (y .1)) (y .2);
+        tells = opens-leak notion (automatonOf t h) (at (y .0)) (says (y .0)) (chosen-tells x (y .0) (y .1)) (y .2);
       }
 
   fresh-grown : (cs : List Secret) (pending waits : List ℕ) → Padded 16 0 pending → Padded 16 0 waits → estimators.Limits (largest cs) e
-      → estimators.Grown (automatonOf t h) (largest cs) [] e → ForEach cs (λ i c. Tells notion (automatonOf t h) (c .states) (c .k) [] none)
+      → estimators.Grown (automatonOf t h) (largest cs) [] e → ForEach cs (λ i c. Tells notion (automatonOf t h) c [] none)
       → Grown notion (automatonOf t h) cs [] (record { estimator = e; notion = notion; count = 0; pending = pending; waits = waits })
   fresh-grown cs pending waits padded padded′ li g tells =
       record {
@@ -92,17 +92,17 @@ module _ (t : List ℕ) (h : Header) (f : Further) (notion : Notion) (v : Secret
         estimator = g;
         under = refl;
         queue = queue-start (SafeForAll notion (automatonOf t h) cs) pending waits
-            (record { each = λ i given. safe-wait notion (automatonOf t h) _ _ [] none (tells i given) 0 (omega arith) (omega arith) });
+            (record { each = λ i given. safe-wait notion (automatonOf t h) _ [] none (tells i given) 0 (omega arith) (omega arith) });
       }
 
   pub start-ready : (pending waits : List ℕ) → Padded 16 0 pending → Padded 16 0 waits → Opening t h f (verifier.verdicts (toldEach f v) size) e → w ≡ 0
       → Starting t h f notion started (record { estimator = e; notion = notion; count = 0; pending = pending; waits = waits })
   start-ready pending waits padded padded′ (Opening.opened so allowed same li many within x) over =
       Starting.ready so allowed each-none same (fresh-grown (secretsOf h (e .further)) pending waits padded padded′ li (x .grown)
-      (subst (λ (cs : List Secret). ForEach cs (λ i c. Tells notion (automatonOf t h) (c .states) (c .k) [] none)) (sym (kept-secrets h f (e .further) same)) each-none))
+      (subst (λ (cs : List Secret). ForEach cs (λ i c. Tells notion (automatonOf t h) c [] none)) (sym (kept-secrets h f (e .further) same)) each-none))
     where
-      each-none : ForEach (secretsOf h f) (λ i c. Tells notion (automatonOf t h) (c .states) (c .k) [] none)
-      each-none i given = opens-none notion (automatonOf t h) (at i .states) (at i .k) (says i) (chosen-tells x i given) (most 0 .1 (omega arith) i given)
+      each-none : ForEach (secretsOf h f) (λ i c. Tells notion (automatonOf t h) c [] none)
+      each-none i given = opens-none notion (automatonOf t h) (at i) (says i) (chosen-tells x i given) (most 0 .1 (omega arith) i given)
 
 outside : {t : List ℕ} {h : Header} {f : Further} {notion : Notion} {n : ℕ} {s : Enforcer} → Starting t h f notion (not-started n) s → Unusable s
 outside (Starting.malformed bad u) = u
@@ -123,9 +123,9 @@ refused-start t h f notion n s x t′ h′ byte output r m left (Offering.incomp
 refused-start t h f notion n s x t′ h′ byte output r m left (Offering.accepted so li wide ob same after bal front rest within exact) = absurd (never s t′ h′ (outside x) so li)
 
 -- where each secret opens as none, none opens as leak 0
-pub never-opens : (notion : Notion) (p : Automaton) (cs : List Secret) → ForEach cs (λ i c. Tells notion p (c .states) (c .k) [] none) → OpensAsLeak notion p cs → ⊥
+pub never-opens : (notion : Notion) (p : Automaton) (cs : List Secret) → ForEach cs (λ i c. Tells notion p c [] none) → OpensAsLeak notion p cs → ⊥
 never-opens notion p cs tells x =
-    clear-unsure notion p (secretAt cs (x .number) .states) [] 0 (tells (x .number) (x .given) 0 (omega arith) (omega arith)) (x .tells .sure)
+    clear-unsure notion p (secretAt cs (x .number)) [] 0 (tells (x .number) (x .given) 0 (omega arith) (omega arith)) (x .tells .sure)
 
 -- a place past the count of further secrets counts for nothing: two that differ there alone are answered alike
 pub past-starting : (t : List ℕ) (h : Header) (f g : Further) → clearedOf f ≡ clearedOf g → (notion : Notion) (r : Begun) (s : Enforcer)
@@ -138,7 +138,7 @@ past-starting t h f g same notion r s (Starting.initial-leak so allowed leaks ou
     Starting.initial-leak so (past-allowed f g same allowed) (subst (OpensAsLeak notion (automatonOf t h)) (past-secrets f g same h) leaks) out
 past-starting t h f g same notion r s (Starting.ready so allowed tells is grown) =
     Starting.ready so (past-allowed f g same allowed)
-    (subst (λ (cs : List Secret). ForEach cs (λ i c. Tells notion (automatonOf t h) (c .states) (c .k) [] none)) (past-secrets f g same h) tells) (is ∙ same) grown
+    (subst (λ (cs : List Secret). ForEach cs (λ i c. Tells notion (automatonOf t h) c [] none)) (past-secrets f g same h) tells) (is ∙ same) grown
 
 -- and a saved enforcer that differs there alone is within its limits alike, and has grown by the same traces
 abbrev keepsFurther : Enforcer → Further → Enforcer

@@ -91,7 +91,7 @@ took-in K self estimator w byte output f symbols soon pending waits left l16 l17
 
 module _ (notion : Notion) (p : Automaton) (cs : List Secret) (acc : List ℕ) (self : Enforcer) (estimator : Estimator) (vs : List Steps) (w byte : ℕ)
     (output : List ℕ) (f : ℕ) (after : Enforcer) (left : List ℕ) (g : Grown notion p cs acc self)
-    (tells : ForEach cs (λ i c. Tells notion p (c .states) (c .k) (acc ++ byte ∷ []) (getD vs i none))) (most : LargestWait cs vs w)
+    (tells : ForEach cs (λ i c. Tells notion p c (acc ++ byte ∷ []) (getD vs i none))) (most : LargestWait cs vs w)
     (took : TookIn (largest cs) self estimator w byte output f after left) where
   pub grown-next : Possible p (acc ++ byte ∷ []) → estimators.Grown p (largest cs) (acc ++ byte ∷ []) estimator → Limits (largest cs) after
       → Grown notion p cs (acc ++ byte ∷ []) after

@@ -13,6 +13,7 @@ use Rattle.automaton.specs.Run.{Automaton, Step, endOf, shown, Compatible, Posi
 use Rattle.automaton.specs.Notion.{Crossed}
 use Rattle.opacity.specs.declared.Notion.{Notion}
 use Rattle.opacity.specs.declared.Notion.the-variants.{Weak, Strong}
+use Rattle.opacity.specs.declared.Secret.{Secret}
 use Rattle.opacity.specs.Verdicts.{Steps, none, leak, Sure, Clear, NoLeakBelow, Tells}
 use Rattle.opacity.proofs.Exactness.{below-start, below-step}
 use Rattle.opacity.proofs.Deciding.{clear-at?, clear-from?}
@@ -62,42 +63,42 @@ crossed? p secret j run = go (find Late (λ s. both (decLe j (length (shown p s)
     go (inl f) = inl (record { position = f .position; late = f .holds .0; inside = f .holds .1 })
     go (inr missing) = inr (λ m late bad. missing m (late, bad))
 
-clear? : (notion : Notion) (p : Automaton) (secret : ℕ) (trace : List ℕ) (j : ℕ) → j ≤ length trace → Dec (Clear notion p secret trace j)
-clear? Weak p secret trace j h = clear-at? p secret trace j h
-clear? Strong p secret trace j h = clear-from? p secret trace j
+clear? : (notion : Notion) (p : Automaton) (secret : Secret) (trace : List ℕ) (j : ℕ) → j ≤ length trace → Dec (Clear notion p secret trace j)
+clear? Weak p secret trace j h = clear-at? p (secret .states) trace j h
+clear? Strong p secret trace j h = clear-from? p (secret .states) trace j
 
 -- where no run excuses the system, the reader is sure
-unclear-sure : (notion : Notion) (p : Automaton) (secret : ℕ) (trace : List ℕ) (j : ℕ) → (Clear notion p secret trace j → ⊥) → Sure notion p secret trace j
-unclear-sure Weak p secret trace j never = λ run f m c. elim (in? (stateAt p m) secret) [
+unclear-sure : (notion : Notion) (p : Automaton) (secret : Secret) (trace : List ℕ) (j : ℕ) → (Clear notion p secret trace j → ⊥) → Sure notion p secret trace j
+unclear-sure Weak p secret trace j never = λ run f m c. elim (in? (stateAt p m) (secret .states)) [
   | yes bad ↦ bad
   | no good ↦ absurd (never (record { run = run; compatible = f; position = m; here = c; outside = good }))
 ]
-unclear-sure Strong p secret trace j never = λ run f. go run f (crossed? p secret j run)
+unclear-sure Strong p secret trace j never = λ run f. go run f (crossed? p (secret .states) j run)
   where
-    go : (run : List Step) → Compatible p trace run → Crossed p secret run j ⊎ ((m : Position run) → j ≤ count p m → In (stateAt p m) secret → ⊥) → Crossed p secret run j
+    go : (run : List Step) → Compatible p trace run → Crossed p (secret .states) run j ⊎ ((m : Position run) → j ≤ count p m → In (stateAt p m) (secret .states) → ⊥) → Crossed p (secret .states) run j
     go run f (inl x) = x
     go run f (inr out) = absurd (never (record { run = run; compatible = f; outside = out }))
 
-module _ (notion : Notion) (p : Automaton) (secret : ℕ) (trace : List ℕ) where
+module _ (notion : Notion) (p : Automaton) (secret : Secret) (trace : List ℕ) where
   -- the steps from 0 upward: a leak among the first k, or none of them is one
-  search-back : (K k : ℕ) → k ≤ suc K → k ≤ suc (length trace) → ((l : ℕ) × Tells notion p secret K trace (leak l)) ⊎ NoLeakBelow notion p secret trace k
-  search-back K zero low near = inr (below-start notion p secret trace)
-  search-back K (suc k) low near = go (search-back K k (omega arith) (omega arith))
+  search-back : (k : ℕ) → k ≤ suc (secret .k) → k ≤ suc (length trace) → ((l : ℕ) × Tells notion p secret trace (leak l)) ⊎ NoLeakBelow notion p secret trace k
+  search-back zero low near = inr (below-start notion p secret trace)
+  search-back (suc k) low near = go (search-back k (omega arith) (omega arith))
     where
       take-up : NoLeakBelow notion p secret trace k → Dec (Clear notion p secret trace (length trace - k))
-          → ((l : ℕ) × Tells notion p secret K trace (leak l)) ⊎ NoLeakBelow notion p secret trace (suc k)
+          → ((l : ℕ) × Tells notion p secret trace (leak l)) ⊎ NoLeakBelow notion p secret trace (suc k)
       take-up x (yes c) = inr (λ m less. below-step notion p secret trace k x c m (omega arith))
       take-up x (no never) = inl (k, record { within = omega arith; reached = omega arith; sure = unclear-sure notion p secret trace (length trace - k) never; least = x })
 
-      go : ((l : ℕ) × Tells notion p secret K trace (leak l)) ⊎ NoLeakBelow notion p secret trace k
-          → ((l : ℕ) × Tells notion p secret K trace (leak l)) ⊎ NoLeakBelow notion p secret trace (suc k)
+      go : ((l : ℕ) × Tells notion p secret trace (leak l)) ⊎ NoLeakBelow notion p secret trace k
+          → ((l : ℕ) × Tells notion p secret trace (leak l)) ⊎ NoLeakBelow notion p secret trace (suc k)
       go (inl x) = inl x
       go (inr x) = take-up x (clear? notion p secret trace (length trace - k) (omega arith))
 
   -- each trace has a verdict
-  pub every-verdict : (K : ℕ) → (v : Steps) × Tells notion p secret K trace v
-  every-verdict K = go (search-back K (suc (min K (length trace))) (omega arith) (omega arith))
+  pub every-verdict : (v : Steps) × Tells notion p secret trace v
+  every-verdict = go (search-back (suc (min (secret .k) (length trace))) (omega arith) (omega arith))
     where
-      go : ((l : ℕ) × Tells notion p secret K trace (leak l)) ⊎ NoLeakBelow notion p secret trace (suc (min K (length trace))) → (v : Steps) × Tells notion p secret K trace v
+      go : ((l : ℕ) × Tells notion p secret trace (leak l)) ⊎ NoLeakBelow notion p secret trace (suc (min (secret .k) (length trace))) → (v : Steps) × Tells notion p secret trace v
       go (inl (l, x)) = (leak l, x)
       go (inr x) = (none, λ l low short. x l (omega arith))

@@ -6,13 +6,17 @@ use Rattle.automaton.specs.declared.Header.{Header}
 use Rattle.opacity.specs.declared.Secret.{Secret}
 use Rattle.opacity.specs.declared.Further.{Further}
 
+-- a set of states, and its own K
+abbrev pub secretOf : (states k : ℕ) → Secret
+secretOf states k = record { states = states; k = k }
+
 -- the automaton's own, number 0
 abbrev pub own : Header → Secret
-own h = record { states = h .secret; k = h .k }
+own h = secretOf (h .secret) (h .k)
 
 -- the three places for further ones
 abbrev pub placeOf : Further → ℕ → Secret
-placeOf f j = record { states = getD (f .states) j 0; k = getD (f .k) j 0 }
+placeOf f j = secretOf (getD (f .states) j 0) (getD (f .k) j 0)
 
 abbrev pub placesOf : Further → List Secret
 placesOf f = placeOf f 0 ∷ placeOf f 1 ∷ placeOf f 2 ∷ []
@@ -27,7 +31,7 @@ secretsOf h f = own h ∷ furtherOf f
 
 -- the secret with a number; past the last one: no state, K 0
 abbrev pub emptySecret : Secret
-emptySecret = record { states = 0; k = 0 }
+emptySecret = secretOf 0 0
 
 abbrev pub secretAt : List Secret → ℕ → Secret
 secretAt cs i = getD cs i emptySecret

@@ -14,17 +14,18 @@ use Rattle.verifier.specs.declared.Estimator.{Estimator}
 use Rattle.verifier.specs.Estimators.{Grown}
 use Rattle.opacity.specs.declared.Notion.{Notion}
 use Rattle.opacity.specs.declared.Notion.the-variants.{Weak, Strong}
+use Rattle.opacity.specs.declared.Secret.{Secret}
 use Rattle.opacity.specs.Verdicts.{Steps, none, leak, Sure, Clear, Tells, LeakAt, Words}
 use Rattle.automaton.specs.Reaching.{RightSize}
 
-module _ (p q : Automaton) (a b : List ℕ) (g : Agree p q a b) (secret : ℕ) where
+module _ (p q : Automaton) (a b : List ℕ) (g : Agree p q a b) (secret : Secret) where
   pub sure-agree : (notion : Notion) (j : ℕ) → Sure notion p secret a j → Sure notion q secret b j
-  sure-agree Weak j x = sureAt-agree p q a b g secret j x
-  sure-agree Strong j x = sureFrom-agree p q a b g secret j x
+  sure-agree Weak j x = sureAt-agree p q a b g (secret .states) j x
+  sure-agree Strong j x = sureFrom-agree p q a b g (secret .states) j x
 
   pub clear-agree : (notion : Notion) (j : ℕ) → Clear notion p secret a j → Clear notion q secret b j
-  clear-agree Weak j x = clearAt-agree p q a b g secret j x
-  clear-agree Strong j x = clearFrom-agree p q a b g secret j x
+  clear-agree Weak j x = clearAt-agree p q a b g (secret .states) j x
+  clear-agree Strong j x = clearFrom-agree p q a b g (secret .states) j x
 
   -- the same l steps back
   clear-back : (notion : Notion) (l : ℕ) → Clear notion p secret a (length a - l) → Clear notion q secret b (length b - l)
@@ -33,9 +34,9 @@ module _ (p q : Automaton) (a b : List ℕ) (g : Agree p q a b) (secret : ℕ) w
   sure-back : (notion : Notion) (l : ℕ) → Sure notion p secret a (length a - l) → Sure notion q secret b (length b - l)
   sure-back notion l x = subst (λ (n : ℕ). Sure notion q secret b (n - l)) (g .sizes) (sure-agree notion (length a - l) x)
 
-  pub tells-agree : (notion : Notion) (K : ℕ) (v : Steps) → Tells notion p secret K a v → Tells notion q secret K b v
-  tells-agree notion K none x = λ l h r. clear-back notion l (x l h (omega (arith, g .sizes)))
-  tells-agree notion K (leak l) x =
+  pub tells-agree : (notion : Notion) (v : Steps) → Tells notion p secret a v → Tells notion q secret b v
+  tells-agree notion none x = λ l h r. clear-back notion l (x l h (omega (arith, g .sizes)))
+  tells-agree notion (leak l) x =
       record {
         within = x .within;
         reached = omega (arith, x .reached, g .sizes);
@@ -43,15 +44,15 @@ module _ (p q : Automaton) (a b : List ℕ) (g : Agree p q a b) (secret : ℕ) w
         least = λ m h. clear-back notion m (x .least m h);
       }
 
-  leak-agree : (notion : Notion) (K l : ℕ) → LeakAt notion p secret K a l → LeakAt notion q secret K b l
-  leak-agree notion K l x = record { within = x .within; reached = omega (arith, x .reached, g .sizes); sure = sure-back notion l (x .sure) }
+  leak-agree : (notion : Notion) (l : ℕ) → LeakAt notion p secret a l → LeakAt notion q secret b l
+  leak-agree notion l x = record { within = x .within; reached = omega (arith, x .reached, g .sizes); sure = sure-back notion l (x .sure) }
 
-pub words-agree : (p q : Automaton) (a b : List ℕ) → Agree p q a b → (secret : ℕ) (notion : Notion) (K : ℕ) (v : Steps)
-    → Words notion p secret K a v → Words notion q secret K b v
-words-agree p q a b g secret notion K none x = λ l y. x l (leak-agree q p b a (agree-back p q a b g) secret notion K l y)
-words-agree p q a b g secret notion K (leak l) x = (
-  leak-agree p q a b g secret notion K l (x .0),
-  λ m h y. x .1 m h (leak-agree q p b a (agree-back p q a b g) secret notion K m y),
+pub words-agree : (p q : Automaton) (a b : List ℕ) → Agree p q a b → (secret : Secret) (notion : Notion) (v : Steps)
+    → Words notion p secret a v → Words notion q secret b v
+words-agree p q a b g secret notion none x = λ l y. x l (leak-agree q p b a (agree-back p q a b g) secret notion l y)
+words-agree p q a b g secret notion (leak l) x = (
+  leak-agree p q a b g secret notion l (x .0),
+  λ m h y. x .1 m h (leak-agree q p b a (agree-back p q a b g) secret notion m y),
 )
 
 -- and the numbers of possible states
@@ -59,32 +60,32 @@ pub sizes-agree : (p q : Automaton) (a b : List ℕ) → Agree p q a b → (m n 
 sizes-agree p q a b g m n x y = sym (y .exactly m .1 (size-agree p q a b g m (x .exactly m .0 refl)))
 
 -- two automata that tell the same observable events apart give traces with the same events behind them the same verdicts
-module _ (p q : Automaton) (like : Alike p q) (a b : List ℕ) (x : SameEvents p q a b) (secret K : ℕ) (notion : Notion) (v : Steps) where
-  pub alike-tells : Tells notion p secret K a v ↔ Tells notion q secret K b v
+module _ (p q : Automaton) (like : Alike p q) (a b : List ℕ) (x : SameEvents p q a b) (secret : Secret) (notion : Notion) (v : Steps) where
+  pub alike-tells : Tells notion p secret a v ↔ Tells notion q secret b v
   alike-tells =
       let g = alike-agree p q like a b x in
-      (tells-agree p q a b g secret notion K v, tells-agree q p b a (agree-back p q a b g) secret notion K v)
+      (tells-agree p q a b g secret notion v, tells-agree q p b a (agree-back p q a b g) secret notion v)
 
-  pub alike-words : Words notion p secret K a v ↔ Words notion q secret K b v
+  pub alike-words : Words notion p secret a v ↔ Words notion q secret b v
   alike-words =
       let g = alike-agree p q like a b x in
-      (words-agree p q a b g secret notion K v, words-agree q p b a (agree-back p q a b g) secret notion K v)
+      (words-agree p q a b g secret notion v, words-agree q p b a (agree-back p q a b g) secret notion v)
 
 -- so where no two observable events share a symbol, each verdict on the symbols of events is the one on these events without symbols
-module _ (p q : Automaton) (d : Distinct p) (w : WithoutSymbols q) (s : SameButSymbols p q) (es : List ℕ) (each : Events p es) (secret K : ℕ) (notion : Notion)
+module _ (p q : Automaton) (d : Distinct p) (w : WithoutSymbols q) (s : SameButSymbols p q) (es : List ℕ) (each : Events p es) (secret : Secret) (notion : Notion)
     (v : Steps) where
-  pub distinct-tells : Tells notion p secret K (symbolsOf p es) v ↔ Tells notion q secret K es v
-  distinct-tells = alike-tells p q (distinct-alike p q d w s) (symbolsOf p es) es (events-spelled p q d w s es each) secret K notion v
+  pub distinct-tells : Tells notion p secret (symbolsOf p es) v ↔ Tells notion q secret es v
+  distinct-tells = alike-tells p q (distinct-alike p q d w s) (symbolsOf p es) es (events-spelled p q d w s es each) secret notion v
 
-  pub distinct-words : Words notion p secret K (symbolsOf p es) v ↔ Words notion q secret K es v
-  distinct-words = alike-words p q (distinct-alike p q d w s) (symbolsOf p es) es (events-spelled p q d w s es each) secret K notion v
+  pub distinct-words : Words notion p secret (symbolsOf p es) v ↔ Words notion q secret es v
+  distinct-words = alike-words p q (distinct-alike p q d w s) (symbolsOf p es) es (events-spelled p q d w s es each) secret notion v
 
 -- an unobservable event's symbol counts for nothing: every trace has the same verdicts and the same estimator
 module _ (p q : Automaton) (same : SameSymbols p q) (trace : List ℕ) where
-  pub same-tells : (secret K : ℕ) (notion : Notion) (v : Steps) → Tells notion p secret K trace v ↔ Tells notion q secret K trace v
-  same-tells secret K notion v =
+  pub same-tells : (secret : Secret) (notion : Notion) (v : Steps) → Tells notion p secret trace v ↔ Tells notion q secret trace v
+  same-tells secret notion v =
       let g = same-agree p q same trace in
-      (tells-agree p q trace trace g secret notion K v, tells-agree q p trace trace (agree-back p q trace trace g) secret notion K v)
+      (tells-agree p q trace trace g secret notion v, tells-agree q p trace trace (agree-back p q trace trace g) secret notion v)
 
   grown-to : (K : ℕ) (s : Estimator) → Grown p K trace s → Grown q K trace s
   grown-to K s g =

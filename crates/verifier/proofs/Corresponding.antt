@@ -78,17 +78,17 @@ module _ (t : List ℕ) (h h′ : Header) (like : Alike (automatonOf t h) (autom
   secrets = ap₂ (λ (s n : ℕ). record { states = s; k = n } ∷ furtherOf given) secret k
 
   -- verdicts of one secret by definition are equal over the same events
-  exactly-alike : (notion : Notion) (c : Secret) (a b : List ℕ) (v v′ : Steps) → Same a b → Exactly notion (automatonOf t h) (c .states) (c .k) a v
-      → Exactly notion (automatonOf t h′) (c .states) (c .k) b v′ → v ≡ v′
-  exactly-alike notion c a b v v′ x y z = sym (z v .1 (alike-words _ _ like a b x (c .states) (c .k) notion v .0 (y v .0 refl)))
+  exactly-alike : (notion : Notion) (c : Secret) (a b : List ℕ) (v v′ : Steps) → Same a b → Exactly notion (automatonOf t h) c a v
+      → Exactly notion (automatonOf t h′) c b v′ → v ≡ v′
+  exactly-alike notion c a b v v′ x y z = sym (z v .1 (alike-words _ _ like a b x c notion v .0 (y v .0 refl)))
 
   right-alike : (a b : List ℕ) (vs : List Told) (n : ℕ) (vs′ : List Told) (n′ : ℕ) → Same a b → Right t h given a vs n → Right t h′ given b vs′ n′
       → verdicts vs n ≡ verdicts vs′ n′
   right-alike a b vs n vs′ n′ x y z =
       let size = sizes-agree _ _ a b (alike-agree _ _ like a b x) n n′ (y .size) (z .size) in
       let many : length vs ≡ length vs′ = y .as-many ∙ ap length secrets ∙ sym (z .as-many) in
-      let others : (notion : Notion) → ForEach (secretsOf h given) (λ i c. Exactly notion (automatonOf t h′) (c .states) (c .k) b (toldAt notion vs′ i)) =
-      λ notion. subst (λ (cs : List Secret). ForEach cs (λ i c. Exactly notion (automatonOf t h′) (c .states) (c .k) b (toldAt notion vs′ i))) (sym secrets) (z .each notion) in
+      let others : (notion : Notion) → ForEach (secretsOf h given) (λ i c. Exactly notion (automatonOf t h′) c b (toldAt notion vs′ i)) =
+      λ notion. subst (λ (cs : List Secret). ForEach cs (λ i c. Exactly notion (automatonOf t h′) c b (toldAt notion vs′ i))) (sym secrets) (z .each notion) in
       let each = same-told vs vs′ many (λ notion i less.
       let g : i < length (secretsOf h given) = omega (arith, y .as-many) in
       exactly-alike notion (secretAt (secretsOf h given) i) a b _ _ x (y .each notion i g) (others notion i g)) in
@@ -206,7 +206,7 @@ module _ (t : List ℕ) (h : Header) (symbols : List ℕ) (g : SameSymbols (auto
       record {
         possible = possible-agree _ _ trace trace (same-agree _ _ g trace) (x .possible);
         size = size-agree _ _ trace trace (same-agree _ _ g trace) n (x .size);
-        tells = λ notion i given. same-tells _ _ g trace (secretAt cs i .states) (secretAt cs i .k) notion (toldAt notion vs i) .0 (x .tells notion i given);
+        tells = λ notion i given. same-tells _ _ g trace (secretAt cs i) notion (toldAt notion vs i) .0 (x .tells notion i given);
         grown = grown-to trace s .0 (x .grown);
       }
     where
@@ -254,7 +254,7 @@ module _ (t : List ℕ) (h : Header) (symbols : List ℕ) (g : SameSymbols (auto
       let c = secretAt (secretsOf h (self .further)) i in
       record {
         bounded = v .bounded;
-        tells = λ trace x. same-tells _ _ g (trace ++ byte ∷ []) (c .states) (c .k) notion (getD vs i none) .0 (v .tells trace (grown-back trace self x));
+        tells = λ trace x. same-tells _ _ g (trace ++ byte ∷ []) c notion (getD vs i none) .0 (v .tells trace (grown-back trace self x));
       })
 
 module _ (t : List ℕ) (h h′ : Header) (g : SameSymbols (automatonOf t h) (automatonOf t h′)) (secret : h .secret ≡ h′ .secret) (k : h .k ≡ h′ .k) where

@@ -28,14 +28,15 @@ use Rattle.verifier.specs.declared.Judgement.{Judgement}
 use Rattle.verifier.specs.declared.Estimate.{Estimate}
 use Rattle.verifier.specs.declared.Estimator.{Estimator}
 use Rattle.opacity.specs.Verdicts.{Steps, none, leak, stepsOf, Tells}
-use Rattle.opacity.specs.Secrets.{own, secretsOf, secretAt, ForEach, lookBackOf, clearedOf, Allowed}
+use Rattle.opacity.specs.Secrets.{secretOf, own, secretsOf, secretAt, ForEach, lookBackOf, clearedOf, Allowed}
 use Rattle.verifier.specs.Estimators.{Limits, InLimits, Grown, GrownOn}
 use Rattle.verifier.specs.Replies.{toldOf, noneTold, noLeaks, stepsBy, toldAt, numbered, toldEach, refused, said, OthersNoLeak, Others, refused-by, verdicts-by, saidBy, OthersBy, chosen, Bounded, Opening, opened, Accepting, accepted, Moved, TellsBy, AcceptingBy, turned-back, accepted-by}
-use Rattle.verifier.specs.Inner.{Estimated, Stepped, Found, Asks, askFor, chosenAnswer, Given, Judged, JudgedAt, JudgedAll, Opened, AcceptingAsked}
+use Rattle.verifier.specs.Inner.{Estimated, Stepped, Found, upTo, Asks, askFor, chosenAnswer, Given, Judged, JudgedAt, JudgedAll, Opened, AcceptingAsked}
 use Rattle.verifier.specs.declared.Reply.{Reply}
 use Rattle.verifier.specs.declared.Asked.{Asked}
 use Rattle.verifier.specs.declared.Answer.{Answer}
 use Rattle.verifier.specs.declared.Answer.the-variants as answer
+use Rattle.opacity.proofs.Exactness.{sure-any, clear-any}
 use Rattle.opacity.proofs.Numbering.{getD-map, secret-back, how-many, how-many-most, same-secrets}
 use Rattle.verifier.proofs.Growing.{grown-remembers, grown-limits}
 use Rattle.verifier.proofs.Estimating.{estimated-size}
@@ -50,16 +51,22 @@ pub bounded-up : (last K : ℕ) (v : Steps) → last ≤ K → Bounded last v �
 bounded-up last K none h b = tt
 bounded-up last K (leak l) h b = omega arith
 
-tells-up : (notion : Notion) (p : Automaton) (secret last K : ℕ) (trace : List ℕ) (v : Steps) → last ≡ min K (length trace) → Tells notion p secret last trace v → Tells notion p secret K trace v
-tells-up notion p secret last K trace none e x = λ l h r. x l (omega arith) r
-tells-up notion p secret last K trace (leak l) e x = record { within = omega (arith, x .within); reached = x .reached; sure = x .sure; least = x .least }
+tells-up : (notion : Notion) (p : Automaton) (secret : Secret) (last : ℕ) (trace : List ℕ) (v : Steps) → last ≡ min (secret .k) (length trace)
+    → Tells notion p (secretOf (secret .states) last) trace v → Tells notion p secret trace v
+tells-up notion p secret last trace none e x = λ l h r. clear-any notion p (secret .states) last (secret .k) trace _ (x l (omega arith) r)
+tells-up notion p secret last trace (leak l) e x = record {
+  within = omega (arith, x .within);
+  reached = x .reached;
+  sure = sure-any notion p (secret .states) last (secret .k) trace _ (x .sure);
+  least = λ i h. clear-any notion p (secret .states) last (secret .k) trace _ (x .least i h);
+}
 
 -- the verdict of one secret by one notion, of a grown estimator: it remembers as much as the secret's own K asks for
-found-tells : (notion : Notion) (p : Automaton) (secret k K : ℕ) (trace : List ℕ) (s : Estimator) (v : Verdict) → k ≤ K → Grown p K trace s
-    → Found notion p secret (min k (s .count)) (s .count) s v → Tells notion p secret k trace (stepsOf v)
-found-tells notion p secret k K trace s v low g f =
+found-tells : (notion : Notion) (p : Automaton) (secret : Secret) (K : ℕ) (trace : List ℕ) (s : Estimator) (v : Verdict) → secret .k ≤ K → Grown p K trace s
+    → Found notion p (upTo (s .count) secret) (s .count) s v → Tells notion p secret trace (stepsOf v)
+found-tells notion p secret K trace s v low g f =
     let c = g .count-is in
-    tells-up notion p secret (min k (s .count)) k trace (stepsOf v) (omega arith) (f .exact trace (grown-remembers p K trace s g (s .count) (omega arith)))
+    tells-up notion p secret (min (secret .k) (s .count)) trace (stepsOf v) (omega arith) (f .exact trace (grown-remembers p K trace s g (s .count) (omega arith)))
 
 pub judged-of : (t : List ℕ) (h : Header) (s : Estimator) (c d : Secret) (a : Asked) (v : Verdicts) → c ≡ d → Judged t h s c a v → Judged t h s d a v
 judged-of t h s c d a v e j = subst (λ (x : Secret). Judged t h s x a v) e j
@@ -70,13 +77,14 @@ not-both b t f = subst T (sym t ∙ f) tt
 
 -- both verdicts of one secret
 pub judged-both : (t : List ℕ) (h : Header) (s : Estimator) (c : Secret) (a : Asked) (weak strong : Verdict)
-    → Given Weak a weak (Found Weak (automatonOf t h) (c .states) (min (c .k) (s .count)) (s .count) s weak)
-    → Given Strong a strong (Found Strong (automatonOf t h) (c .states) (min (c .k) (s .count)) (s .count) s strong) → Judged t h s c a (record { weak = weak; strong = strong })
+    → Given Weak a weak (Found Weak (automatonOf t h) (upTo (s .count) c) (s .count) s weak)
+    → Given Strong a strong (Found Strong (automatonOf t h) (upTo (s .count) c) (s .count) s strong) → Judged t h s c a (record { weak = weak; strong = strong })
 judged-both t h s c a weak strong x y Weak = x
 judged-both t h s c a weak strong x y Strong = y
 
-pub found-last : {notion : Notion} {p : Automaton} {secret last m n : ℕ} {s : Estimator} {v : Verdict} → last ≡ m → Found notion p secret last n s v → Found notion p secret m n s v
-found-last {notion} {p} {secret} {last} {m} {n} {s} {v} e f = subst (λ (x : ℕ). Found notion p secret x n s v) e f
+pub found-last : {notion : Notion} {p : Automaton} {secret last m n : ℕ} {s : Estimator} {v : Verdict} → last ≡ m → Found notion p (secretOf secret last) n s v
+    → Found notion p (secretOf secret m) n s v
+found-last {notion} {p} {secret} {last} {m} {n} {s} {v} e f = subst (λ (x : ℕ). Found notion p (secretOf secret x) n s v) e f
 
 both : (a : Asked) → Asks Weak a → Asks Strong a → (notion : Notion) → Asks notion a
 both a weak strong Weak = weak
@@ -134,11 +142,11 @@ others-no-leak t h s a v j i more = j i .other (omega (arith, how-many-most h (s
 
 -- the verdicts of a grown estimator, where both notions are asked for
 pub judged-tells : (t : List ℕ) (h : Header) (trace : List ℕ) (s : Estimator) (a : Asked) (v : SecretVerdicts) → Asks Weak a → Asks Strong a → GrownOn t h trace s
-    → JudgedAll t h s a v → (notion : Notion) → ForEach (secretsOf h (s .further)) (λ i c. Tells notion (automatonOf t h) (c .states) (c .k) trace (toldAt notion (toldEach (s .further) v) i))
+    → JudgedAll t h s a v → (notion : Notion) → ForEach (secretsOf h (s .further)) (λ i c. Tells notion (automatonOf t h) c trace (toldAt notion (toldEach (s .further) v) i))
 judged-tells t h trace s a v weak strong g j notion i given =
-    subst (Tells notion (automatonOf t h) (secretAt (secretsOf h (s .further)) i .states) (secretAt (secretsOf h (s .further)) i .k) trace)
+    subst (Tells notion (automatonOf t h) (secretAt (secretsOf h (s .further)) i) trace)
     (sym (told-place h (s .further) v notion i given))
-    (found-tells notion _ _ _ _ trace s _ (secret-back h (s .further) i given) g (j i .given given notion .found (both a weak strong notion)))
+    (found-tells notion _ _ _ trace s _ (secret-back h (s .further) i given) g (j i .given given notion .found (both a weak strong notion)))
 
 -- the opening of an estimator with no symbol, from the estimate that was worked out and what was judged
 pub opened-of : (t : List ℕ) (h : Header) (s : Estimator) (a : Asked) (j : Judgement) (from : ℕ) (silent : List ℕ) (e : Estimate) → GrownOn t h [] s
@@ -163,8 +171,8 @@ opening-of t h f s a j so allowed weak strong same g o =
           (record {
             possible = g .possible;
             tells = λ notion.
-                subst (λ (cs : List Secret). ForEach cs (λ i c. Tells notion p (c .states) (c .k) [] (toldAt notion (toldEach f (j .verdicts)) i))) secrets
-                (λ i given. subst (λ (n : ℕ). Tells notion p (secretAt (secretsOf h (s .further)) i .states) (secretAt (secretsOf h (s .further)) i .k) []
+                subst (λ (cs : List Secret). ForEach cs (λ i c. Tells notion p c [] (toldAt notion (toldEach f (j .verdicts)) i))) secrets
+                (λ i given. subst (λ (n : ℕ). Tells notion p (secretAt (secretsOf h (s .further)) i) []
                 (toldAt notion (take (suc n) (map toldOf (numbered (j .verdicts)))) i)) count (tells notion i given));
             size = o .size;
             grown = g;
@@ -209,11 +217,11 @@ moved-by t h self symbol n from k silent e s so li ob x is largest same after pu
 
 -- the verdict of one secret that was found for an estimator, as that of the symbol that led to it
 found-by : (notion : Notion) (t : List ℕ) (h : Header) (self : Estimator) (symbol n : ℕ) (s : Estimator) (c : Secret) (v : Verdict) → c .k ≤ lookBackOf h (s .further)
-    → Moved t h self symbol n s → Found notion (automatonOf t h) (c .states) (min (c .k) (s .count)) (s .count) s v → TellsBy notion t h self symbol c (stepsOf v)
+    → Moved t h self symbol n s → Found notion (automatonOf t h) (upTo (s .count) c) (s .count) s v → TellsBy notion t h self symbol c (stepsOf v)
 found-by notion t h self symbol n s c v low m f =
     record {
       bounded = bounded-up _ _ (stepsOf v) (omega arith) (f .bounded);
-      tells = λ trace g. found-tells notion _ _ _ _ (trace ++ symbol ∷ []) s v low (m .grown trace g) f;
+      tells = λ trace g. found-tells notion _ _ _ (trace ++ symbol ∷ []) s v low (m .grown trace g) f;
     }
 
 pub given-by : {notion : Notion} {a : Asked} {v : Verdict} {P Q : Type 0} → (P → Q) → Given notion a v P → Given notion a v Q
@@ -249,7 +257,7 @@ asked-both t h self symbol a (answer.Accepted j) s weak strong x = (
       record {
         possible = n .possible;
         tells = λ notion i given.
-            subst (Tells notion (automatonOf t h) (secretAt (secretsOf h (self .further)) i .states) (secretAt (secretsOf h (self .further)) i .k) (trace ++ symbol ∷ [])) (sym (place notion i given))
+            subst (Tells notion (automatonOf t h) (secretAt (secretsOf h (self .further)) i) (trace ++ symbol ∷ [])) (sym (place notion i given))
             (by notion i given .tells trace g);
         size = m .size trace g;
         grown = n;

@@ -25,7 +25,7 @@ pub right : (t : List ℕ) (h : Header) (f : Further) (trace : List ℕ) (vs : L
 right t h f trace vs n s as-many within x =
     record {
       as-many = as-many;
-      each = λ notion i given. exactly notion _ _ _ trace _ (x .tells notion i given);
+      each = λ notion i given. exactly notion _ _ trace _ (x .tells notion i given);
       size = right-size (automatonOf t h) trace n within (x .size);
     }
 

@@ -82,7 +82,7 @@ Bounded K (leak l) = l ≤ K
 -- compatible with the trace: else a leak would say nothing
 pub record Exact (t : List ℕ) (h : Header) (cs : List Secret) (trace : List ℕ) (vs : List Told) (n : ℕ) (s : Estimator) : Type 0 where
   pub possible : Possible (automatonOf t h) trace
-  pub tells : (notion : Notion) → ForEach cs (λ i c. Tells notion (automatonOf t h) (c .states) (c .k) trace (toldAt notion vs i))
+  pub tells : (notion : Notion) → ForEach cs (λ i c. Tells notion (automatonOf t h) c trace (toldAt notion vs i))
   pub size : EstimateSize (automatonOf t h) trace n
   pub grown : GrownOn t h trace s
 
@@ -155,7 +155,7 @@ pub record Moved (t : List ℕ) (h : Header) (self : Estimator) (symbol n : ℕ)
 -- and its verdict of one secret by one notion
 pub record TellsBy (notion : Notion) (t : List ℕ) (h : Header) (self : Estimator) (symbol : ℕ) (c : Secret) (v : Steps) : Type 0 where
   pub bounded : Bounded (c .k) v
-  pub tells : (trace : List ℕ) → GrownOn t h trace self → Tells notion (automatonOf t h) (c .states) (c .k) (trace ++ symbol ∷ []) v
+  pub tells : (trace : List ℕ) → GrownOn t h trace self → Tells notion (automatonOf t h) c (trace ++ symbol ∷ []) v
 
 -- a symbol offered to an estimator, with the verdicts by one notion: refusals as above, and an accepted symbol with that verdict of each secret and the
 -- number

@@ -18,7 +18,7 @@ ghost use Rattle.automaton.specs.Reaching.{Enters, Arrives, Showing, Known, Gai
 ghost use Rattle.relation.specs.Relation.{Sub, setAt};
 ghost use Rattle.opacity.specs.declared.Notion.the-variants as notion;
 ghost use Rattle.opacity.specs.declared.Verdict.the-variants as verdict;
-ghost use Rattle.opacity.specs.Secrets.{own, secretsOf, secretAt, lookBackOf, Allowed};
+ghost use Rattle.opacity.specs.Secrets.{own, secretOf, secretsOf, secretAt, lookBackOf, Allowed};
 ghost use Rattle.verifier.specs.Estimators.{Limits, InLimits, Grown, GrownOn};
 ghost use Rattle.verifier.specs.declared.Answer.the-variants as answer;
 ghost use Rattle.verifier.specs.Replies.{said, saidBy, chosen, chosenEach, Others, OthersBy, Unusable, Opening, Accepting, AcceptingBy};
@@ -244,7 +244,7 @@ fn weak_verdict(
 ) -> Verdict
     requires { ⌜ Prepared (now table) header (now sets) estimator (now silent) (now back) states (estimator .count)
         × UnobservableReach (automatonOf (now table) header) (getD (estimator .entries) 0 0) estimate ⌝ }
-    ensures { λ r. ⌜ Found notion.Weak (automatonOf (now (table .entry)) header) secret (estimator .count) (estimator .count) estimator r ⌝ }
+    ensures { λ r. ⌜ Found notion.Weak (automatonOf (now (table .entry)) header) (secretOf secret (estimator .count)) (estimator .count) estimator r ⌝ }
 {
     let symbols = estimator.symbols;
     let entries = estimator.entries;
@@ -288,7 +288,7 @@ fn strong_verdict(
     secret: u64,
 ) -> Verdict
     requires { ⌜ Prepared (now table) header (now sets) estimator (now silent) (now back) states (estimator .count) ⌝ }
-    ensures { λ r. ⌜ Found notion.Strong (automatonOf (now (table .entry)) header) secret (estimator .count) (estimator .count) estimator r ⌝ }
+    ensures { λ r. ⌜ Found notion.Strong (automatonOf (now (table .entry)) header) (secretOf secret (estimator .count)) (estimator .count) estimator r ⌝ }
 {
     let symbols = estimator.symbols;
     let entries = estimator.entries;
@@ -367,7 +367,7 @@ fn strong_verdicts(
 ) -> VerdictsBy
     requires { ⌜ Prepared (now table) header (now sets) estimator (now silent) (now back) states (estimator .count) ⌝ }
     ensures { λ r. ⌜ ((i secret : ℕ) → i < 4 → secret < 2 ^ 64 → setAt clear i ≡ bitAnd states (complement secret)
-        → Found notion.Strong (automatonOf (now (table .entry)) header) secret (estimator .count) (estimator .count) estimator (verdictAt r i)) ⌝ }
+        → Found notion.Strong (automatonOf (now (table .entry)) header) (secretOf secret (estimator .count)) (estimator .count) estimator (verdictAt r i)) ⌝ }
 {
     let symbols = estimator.symbols;
     let entries = estimator.entries;
@@ -430,7 +430,8 @@ fn strong_each(
 // The verdict over fewer steps.
 fn up_to(found: Verdict, last: u8) -> Verdict
     ensures { λ r. ⌜ (found ≡ verdict.NoLeak → r ≡ verdict.NoLeak)
-        × ((notion : Notion) (p : Automaton) (secret n : ℕ) (s : Estimator) → last ≤ n → Found notion p secret n n s found → Found notion p secret last n s r) ⌝ }
+        × ((notion : Notion) (p : Automaton) (secret n : ℕ) (s : Estimator) → last ≤ n → Found notion p (secretOf secret n) n s found
+        → Found notion p (secretOf secret last) n s r) ⌝ }
 {
     match found {
         Verdict::NoLeak => Verdict::NoLeak,
@@ -503,7 +504,7 @@ fn shared_estimates(
 fn first_secret(past: &[u64], secret: u64, last: u8) -> Verdict
     requires { ⌜ (length (now past) ≡ 16) × (last ≤ 15) ⌝ }
     ensures { λ r. ⌜ ((p : Automaton) (s : Estimator) (n : ℕ) → Delayed p (s .symbols) (s .entries) n (now (past .entry)) → last ≤ n
-        → Found notion.Weak p secret last n s r) ⌝ }
+        → Found notion.Weak p (secretOf secret last) n s r) ⌝ }
 {
     let mut l: u8 = 0;
     'steps: loop {

@@ -10,6 +10,7 @@ use lib.ListN.{length, getD}
 use Rattle.stateset.proofs.Bits.{Taken, taken, in-test}
 use Rattle.automaton.specs.Notion.{ClearAt}
 use Rattle.opacity.specs.declared.Notion.the-variants.{Weak}
+use Rattle.opacity.specs.Secrets.{secretOf}
 use Rattle.opacity.specs.Verdicts.{NoLeakBelow}
 use Rattle.verifier.proofs.Passing.{Passed, pass-start, pass-turn, pass-end, digit-in}
 use Rattle.verifier.proofs.LookBack.{remembers-part, ForPast, past-by, decided-sure, decided-clear}
@@ -21,7 +22,7 @@ use Rattle.verifier.proofs.first_secret.Tie as tie
 
 -- 'steps: no step below l is a leak
 abbrev Inv-steps : tie.InvT-steps
-Inv-steps past secret last l₀ l = ForPast past last (λ p trace. NoLeakBelow Weak p secret trace l) × (l ≤ last)
+Inv-steps past secret last l₀ l = ForPast past last (λ p trace. NoLeakBelow Weak p (secretOf secret last) trace l) × (l ≤ last)
 
 abbrev μ-steps : tie.MeasureT-steps
 μ-steps past secret last l₀ l = last - l
@@ -36,7 +37,7 @@ abbrev μ-states : tie.MeasureT-states
 -- Start: step 0, and there is no smaller one
 
 steps-holds : tie.Need-steps-holds Inv-states μ-states Inv-steps μ-steps
-steps-holds c = (λ p symbols entries n trace d few m. below-start Weak p _ trace, omega arith)
+steps-holds c = (λ p symbols entries n trace d few m. below-start Weak p (secretOf (c .args .secret) (c .args .last)) trace, omega arith)
 
 -- One step: the states of m(l) are visited, and the first that is not secret ends the visit
 
@@ -74,9 +75,9 @@ clear c p symbols entries n trace d few m =
 -- so that, with what was known below l, no step below l + 1 is a leak
 below-next : (c : tie.Else2 Inv-states μ-states Inv-steps μ-steps)
     → ForPast (c .before .before .before .before .before .args .past .now) (c .before .before .before .before .before .args .last) (λ p trace.
-    NoLeakBelow Weak p (c .before .before .before .before .before .args .secret) trace (c .before .before .before .before .steps .l + 1))
+    NoLeakBelow Weak p (secretOf (c .before .before .before .before .before .args .secret) (c .before .before .before .before .before .args .last)) trace (c .before .before .before .before .steps .l + 1))
 below-next c p symbols entries n trace d few m =
-    below-step Weak p _ trace _ (c .before .before .before .before .steps .inv .0 p symbols entries n trace d few m) (clear c p symbols entries n trace d few m)
+    below-step Weak p (secretOf (c .before .before .before .before .before .args .secret) (c .before .before .before .before .before .args .last)) trace _ (c .before .before .before .before .steps .inv .0 p symbols entries n trace d few m) (clear c p symbols entries n trace d few m)
 
 -- and the loop takes up step l + 1
 steps-again : tie.Need-steps-again Inv-states μ-states Inv-steps μ-steps
@@ -92,7 +93,7 @@ returns c = λ p s n d few.
       bounded = u .inv .1;
       exact = λ trace whole.
           let m = remembers-part whole (a .last) few in
-          below-leak Weak _ _ trace _ _ (u .inv .1) (m .reached) (u .inv .0 p _ _ n trace d few m)
+          below-leak Weak _ (secretOf (a .secret) (a .last)) trace _ (u .inv .1) (m .reached) (u .inv .0 p _ _ n trace d few m)
           (decided-sure _ _ trace _ _ (past-by _ _ (a .secret) (u .l) (u .inv .1) p _ _ n trace d few m) (λ q i. pass-end _ _ _ (c .if2 .taken) (c .before .before .states .inv) q i));
     }
 
@@ -103,7 +104,7 @@ returns-2 c = λ p s n d few.
     record {
       bounded = tt;
       exact = λ trace whole.
-          below-last Weak _ _ trace _ _ (omega arith)
+          below-last Weak _ (secretOf (c .before .before .before .before .before .before .args .secret) (c .before .before .before .before .before .before .args .last)) trace _ (omega arith)
           (below-next (c .before) p _ _ n trace d few (remembers-part whole (c .before .before .before .before .before .before .args .last) few));
     }
 

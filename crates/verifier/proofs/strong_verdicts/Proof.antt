@@ -16,6 +16,7 @@ use Rattle.automaton.specs.Reaching.{Leaves, Showing}
 use Rattle.relation.proofs.FourSets.{four}
 use Rattle.opacity.specs.declared.Notion.the-variants.{Strong}
 use Rattle.opacity.specs.declared.Verdict.{Verdict}
+use Rattle.opacity.specs.Secrets.{secretOf}
 use Rattle.opacity.specs.Verdicts.{stepsOf}
 use Rattle.verifier.specs.Replies.{Bounded}
 use Rattle.verifier.specs.Inner.{Looks, verdictAt}
@@ -30,7 +31,7 @@ abbrev Inv-steps : tie.InvT-steps
 Inv-steps table sets silent back states clear symbols entries last then₀ found₀ l₀ then found l =
     ((i secret : ℕ) → i < 4 → secret < 2 ^ 64 → setAt clear i ≡ bitAnd states (complement secret)
     → (setAt then i < 2 ^ 64) × ForTraces table sets silent back states last symbols entries (λ p trace.
-    Searched Strong p secret last trace l (verdictAt found i) × Follows p (bitAnd states (complement secret)) trace l (setAt then i)))
+    Searched Strong p (secretOf secret last) trace l (verdictAt found i) × Follows p (bitAnd states (complement secret)) trace l (setAt then i)))
     × ((i : ℕ) → i < 4 → Bounded last (stepsOf (verdictAt found i))) × (l ≤ last) × (last ≤ 15)
 
 abbrev μ-steps : tie.MeasureT-steps
@@ -45,7 +46,7 @@ steps-holds c =
       λ i secret h small e. (
         omega (arith, e, and-le-r (a .args .states) (complement secret)),
         λ p trace g m. (
-          subst (λ (v : Verdict). Searched Strong p secret (a .args .estimator .count) trace 0 v) (sym (c .none-found .ensures i h)) (below-start Strong p _ trace),
+          subst (λ (v : Verdict). Searched Strong p (secretOf secret (a .args .estimator .count)) trace 0 v) (sym (c .none-found .ensures i h)) (below-start Strong p (secretOf secret (a .args .estimator .count)) trace),
           subst (λ (x : ℕ). Follows p (bitAnd (a .args .states) (complement secret)) trace 0 x) (sym e) (follows-start p _ trace),
         ),
       ),
@@ -85,13 +86,13 @@ Each u =
 -- step l is tested for the secret at an arbitrary place
 tested : (c : tie.After-with-steps Inv-steps μ-steps) (i secret : ℕ) → i < 4 → secret < 2 ^ 64
     → setAt (begin (c .before) .args .clear) i ≡ bitAnd (begin (c .before) .args .states) (complement secret) → Each (c .before) (λ p trace.
-    Searched Strong p secret (begin (c .before) .args .estimator .count) trace (c .before .steps .l + 1) (verdictAt (c .with-steps .result) i))
+    Searched Strong p (secretOf secret (begin (c .before) .args .estimator .count)) trace (c .before .steps .l + 1) (verdictAt (c .with-steps .result) i))
 tested c i secret h small e p trace g m =
     let s = c .before .steps in
     let a = begin (c .before) .args in
     let x = s .inv .0 i secret h small e .1 p trace g m in
     let E = m .entries-are (s .l) (s .inv .2) in
-    searched-step Strong p secret _ trace (s .l) _ _ _ _ (c .with-steps .ensures i h) (s .inv .2) (m .reached)
+    searched-step Strong p (secretOf secret (a .estimator .count)) trace (s .l) _ _ _ _ (c .with-steps .ensures i h) (s .inv .2) (m .reached)
     (strong-sure p secret trace _ (s .l) (a .states) _ _ small (s .inv .2) E (x .1) (remembers-inside _ trace _ _ _ _ _ (s .inv .3) (g .near) m) (g .start))
     (strong-clear p secret trace _ (s .l) (a .states) _ _ small (s .inv .2) E (x .1) (s .inv .0 i secret h small e .0)) (x .0)
 
@@ -106,7 +107,7 @@ returns c i secret h small e =
     record {
       bounded = bounded (c .before) i h;
       exact = λ trace m.
-          searched-end Strong (automatonOf (now (a .args .table)) (a .args .header)) secret (a .args .estimator .count) trace (c .before .before .steps .l)
+          searched-end Strong (automatonOf (now (a .args .table)) (a .args .header)) (secretOf secret (a .args .estimator .count)) trace (c .before .before .steps .l)
           (verdictAt (c .before .with-steps .result) i) (omega arith) (tested (c .before) i secret h small e _ trace (a .pre .looks) m);
     }
 

@@ -23,6 +23,8 @@ use Rattle.automaton.specs.Run.{Automaton}
 use Rattle.automaton.specs.Notion.{ClearAt}
 use Rattle.automaton.specs.Reaching.{DelayedEstimate, Showing}
 use Rattle.opacity.specs.declared.Notion.the-variants.{Weak}
+use Rattle.opacity.specs.declared.Secret.{Secret}
+use Rattle.opacity.specs.Secrets.{secretOf}
 use Rattle.opacity.specs.Verdicts.{NoLeakBelow}
 use Rattle.verifier.specs.Inner.{Looks, DecidedBy}
 use Rattle.verifier.proofs.Passing.{Passed, pass-start, pass-turn, pass-end, digit-in}
@@ -36,7 +38,7 @@ use Rattle.verifier.proofs.weak_verdict.Tie as tie
 -- 'steps: no step below l is a leak, `then` has the states that the last l events can follow, and `possible` is a part of m(l) that decides
 abbrev Inv-steps : tie.InvT-steps
 Inv-steps table sets silent back states estimate secret symbols entries last then₀ possible₀ l₀ then possible l =
-    ForTracesWith table sets silent back states estimate last symbols entries (λ p trace. NoLeakBelow Weak p secret trace l)
+    ForTracesWith table sets silent back states estimate last symbols entries (λ p trace. NoLeakBelow Weak p (secretOf secret last) trace l)
     × ForTracesWith table sets silent back states estimate last symbols entries (λ p trace. Follows p states trace l then)
     × ForTracesWith table sets silent back states estimate last symbols entries (λ p trace. DecidedBy secret (DelayedEstimate p trace (length trace - l)) possible)
     × (l ≤ last) × (last ≤ 15) × (possible < 2 ^ 64)
@@ -57,7 +59,7 @@ steps-holds : tie.Need-steps-holds Inv-states μ-states Inv-steps μ-steps
 steps-holds c =
     let a = c .before .before .before .before .before .before in
     let few : a .args .estimator .count ≤ 15 = omega (arith, prepared-few (a .pre .0)) in (
-      λ p trace g m r. below-start Weak p _ trace,
+      λ p trace g m r. below-start Weak p (secretOf (a .args .secret) (a .args .estimator .count)) trace,
       λ p trace g m r. follows-start p _ trace,
       λ p trace g m r. estimate-by p _ trace _ _ _ _ _ _ (g .start) few (g .near) m r,
       omega arith,
@@ -74,6 +76,10 @@ begin u = u .before .before .before .before .before .before .before
 abbrev Good : tie.At-steps Inv-states μ-states Inv-steps μ-steps → Automaton → Type 0
 Good u p =
     Looks p (begin u .args .table .now) (begin u .args .sets .now) (begin u .args .estimator .entries) (begin u .args .silent .now) (begin u .args .back .now) (begin u .args .states) (begin u .args .estimator .count)
+
+-- the secret that is looked for, as far as is remembered
+abbrev sought : tie.At-steps Inv-states μ-states Inv-steps μ-steps → Secret
+sought u = secretOf (begin u .args .secret) (begin u .args .estimator .count)
 
 -- what holds for each of these and each trace that is remembered
 abbrev Each : tie.At-steps Inv-states μ-states Inv-steps μ-steps → (Automaton → List ℕ → Type 0) → Type 0
@@ -111,8 +117,8 @@ clear c p trace g m r =
 
 -- so that, with what was known below l, no step below l + 1 is a leak
 below-next : (c : tie.Else2 Inv-states μ-states Inv-steps μ-steps)
-    → Each (c .before .before .before) (λ p trace. NoLeakBelow Weak p (begin (c .before .before .before) .args .secret) trace (c .before .before .before .steps .l + 1))
-below-next c p trace g m r = below-step Weak p _ trace _ (c .before .before .before .steps .inv .0 p trace g m r) (clear c p trace g m r)
+    → Each (c .before .before .before) (λ p trace. NoLeakBelow Weak p (sought (c .before .before .before)) trace (c .before .before .before .steps .l + 1))
+below-next c p trace g m r = below-step Weak p (sought (c .before .before .before)) trace _ (c .before .before .before .steps .inv .0 p trace g m r) (clear c p trace g m r)
 
 -- the events that show the symbol before
 showing : (c : tie.After-events-with Inv-states μ-states Inv-steps μ-steps) (p : Automaton) → Good (c .before .before .before .before .before) p
@@ -155,7 +161,7 @@ returns c =
     record {
       bounded = s .inv .3;
       exact = λ trace m.
-          below-leak Weak _ _ trace _ _ (s .inv .3) (m .reached) (s .inv .0 _ trace g m r)
+          below-leak Weak _ (sought u) trace _ (s .inv .3) (m .reached) (s .inv .0 _ trace g m r)
           (decided-sure _ _ trace _ _ (s .inv .2 _ trace g m r) (λ q i. pass-end _ _ _ (c .if2 .taken) (c .before .before .states .inv) q i));
     }
 
@@ -167,7 +173,7 @@ returns-2 c =
     let u = c .before .before .before .before in
     record {
       bounded = tt;
-      exact = λ trace m. below-last Weak _ _ trace _ _ (omega arith) (below-next (c .before) _ trace (begin u .pre .0 .looks) m (begin u .pre .1));
+      exact = λ trace m. below-last Weak _ (sought u) trace _ (omega arith) (below-next (c .before) _ trace (begin u .pre .0 .looks) m (begin u .pre .1));
     }
 
 -- What else is asked: numbers that fit, indices, what is called, and that the loops end

@@ -16,10 +16,11 @@ use Rattle.automaton.specs.Notion.{SureAt}
 use Rattle.automaton.specs.Reaching.{Arrives, EstimateSize, DelayedEstimate}
 use Rattle.automaton.proofs.Estimates.{delayed-arrives, arrives-delayed}
 use Rattle.automaton.proofs.Positions.{part-run, estimate-sure, sure-estimate}
+use Rattle.opacity.specs.declared.Secret.{Secret}
 use Rattle.opacity.specs.declared.Notion.the-variants.{Weak}
 use Rattle.opacity.specs.Verdicts.{Steps, none, leak, LeakAt, Tells, Words, Exactly}
 use Rattle.opacity.specs.declared.Further.{Further}
-use Rattle.opacity.specs.Secrets.{secretsOf, secretAt}
+use Rattle.opacity.specs.Secrets.{secretOf, secretsOf, secretAt}
 use Rattle.verifier.specs.Replies.{toldAt, Said}
 use Rattle.opacity.proofs.Exactness.{exactly}
 use Rattle.published.specs.Source.{Prefix, Trace, RightVerdict, SaysAfter}
@@ -168,20 +169,20 @@ module _ (p : Automaton) (K : ℕ) (μ : List ℕ) where
         subst (SureAt p secret μ) e (within-sure k h within)
 
     -- where it is not, it is a leak k steps back
-    within-leak : (k : ℕ) → k ≤ K → k ≤ length μ → Within (estimatorAfter p K μ) k secret → LeakAt Weak p secret K μ k
+    within-leak : (k : ℕ) → k ≤ K → k ≤ length μ → Within (estimatorAfter p K μ) k secret → LeakAt Weak p (secretOf secret K) μ k
     within-leak k h reached within = record { within = h; reached = reached; sure = within-sure k h within }
 
-    none-words : Gamma (estimatorAfter p K μ) secret K none → Words Weak p secret K μ none
+    none-words : Gamma (estimatorAfter p K μ) (secretOf secret K) none → Words Weak p (secretOf secret K) μ none
     none-words never l x = never l (x .within) (sure-within l (x .within) (x .sure))
 
-    words-none : Words Weak p secret K μ none → Gamma (estimatorAfter p K μ) secret K none
+    words-none : Words Weak p (secretOf secret K) μ none → Gamma (estimatorAfter p K μ) (secretOf secret K) none
     words-none never k h within = go (decLe k (length μ))
       where
         go : Dec (k ≤ length μ) → ⊥
         go (yes reached) = never k (within-leak k h reached within)
         go (no far) = never (length μ) (record { within = omega arith; reached = omega arith; sure = within-all k h (omega arith) within })
 
-    leak-words : (l : ℕ) → Gamma (estimatorAfter p K μ) secret K (leak l) → Words Weak p secret K μ (leak l)
+    leak-words : (l : ℕ) → Gamma (estimatorAfter p K μ) (secretOf secret K) (leak l) → Words Weak p (secretOf secret K) μ (leak l)
     leak-words l (h, within, least) = (within-leak l h (reached (decLe l (length μ))) within, λ m less x. least m less (sure-within m (x .within) (x .sure)))
       where
         -- past |μ| step |μ| would be a lesser one
@@ -189,45 +190,45 @@ module _ (p : Automaton) (K : ℕ) (μ : List ℕ) where
         reached (yes d) = d
         reached (no far) = absurd (least (length μ) (omega arith) (sure-within (length μ) (omega arith) (within-all l h (omega arith) within)))
 
-    words-leak : (l : ℕ) → Words Weak p secret K μ (leak l) → Gamma (estimatorAfter p K μ) secret K (leak l)
+    words-leak : (l : ℕ) → Words Weak p (secretOf secret K) μ (leak l) → Gamma (estimatorAfter p K μ) (secretOf secret K) (leak l)
     words-leak l (x, least) =
         let h = x .within in
         let reached = x .reached in
         (h, sure-within l h (x .sure), λ k less within. least k less (within-leak k (omega arith) (omega arith) within))
 
     -- Γ says what 01's words say
-    pub gamma-words : (v : Steps) → Gamma (estimatorAfter p K μ) secret K v ↔ Words Weak p secret K μ v
+    pub gamma-words : (v : Steps) → Gamma (estimatorAfter p K μ) (secretOf secret K) v ↔ Words Weak p (secretOf secret K) μ v
     gamma-words none = (none-words, words-none)
     gamma-words (leak l) = (leak-words l, words-leak l)
 
     -- so a verdict that is exactly 01's is Γ's: leak l exactly where l is the least k up to K with m(k) ∈ 2^S, and none exactly where there is none
-    pub exactly-gamma : (v : Steps) → Exactly Weak p secret K μ v → (w : Steps) → (v ≡ w) ↔ Gamma (estimatorAfter p K μ) secret K w
+    pub exactly-gamma : (v : Steps) → Exactly Weak p (secretOf secret K) μ v → (w : Steps) → (v ≡ w) ↔ Gamma (estimatorAfter p K μ) (secretOf secret K) w
     exactly-gamma v x w =
         let (there, back) = x w in
         ((λ e. gamma-words w .1 (there e)), (λ y. back (gamma-words w .0 y)))
 
     -- and the one that our verifier promises is
-    pub verdict-gamma : (v : Steps) → Tells Weak p secret K μ v → (w : Steps) → (v ≡ w) ↔ Gamma (estimatorAfter p K μ) secret K w
-    verdict-gamma v tells = exactly-gamma v (exactly Weak p secret K μ v tells)
+    pub verdict-gamma : (v : Steps) → Tells Weak p (secretOf secret K) μ v → (w : Steps) → (v ≡ w) ↔ Gamma (estimatorAfter p K μ) (secretOf secret K) w
+    verdict-gamma v tells = exactly-gamma v (exactly Weak p (secretOf secret K) μ v tells)
 
     -- Γ is a function: there is one verdict
-    pub one-gamma : (γ : Steps) × ((w : Steps) → (γ ≡ w) ↔ Gamma (estimatorAfter p K μ) secret K w)
-    one-gamma = let (v, tells) = every-verdict Weak p secret μ K in (v, verdict-gamma v tells)
+    pub one-gamma : (γ : Steps) × ((w : Steps) → (γ ≡ w) ↔ Gamma (estimatorAfter p K μ) (secretOf secret K) w)
+    one-gamma = let (v, tells) = every-verdict Weak p (secretOf secret K) μ in (v, verdict-gamma v tells)
 
     -- Proposition 4: the verifier whose verdict after μ is Γ(δ_D(m_init, μ)) "is sound and complete w.r.t. G, P, S and the K-step weak opacity". (The paper
     -- goes from Proposition 3 to the leak sets; here m(k) is read as our delayed estimate, and 01's verdict, which is known to be right, as Γ's)
-    pub proposition-4 : Trace p μ → (γ : Steps) → Gamma (estimatorAfter p K μ) secret K γ → RightVerdict Weak p secret K μ γ
-    proposition-4 x γ gamma = go (every-verdict Weak p secret μ K)
+    pub proposition-4 : Trace p μ → (γ : Steps) → Gamma (estimatorAfter p K μ) (secretOf secret K) γ → RightVerdict Weak p (secretOf secret K) μ γ
+    proposition-4 x γ gamma = go (every-verdict Weak p (secretOf secret K) μ)
       where
-        go : (v : Steps) × Tells Weak p secret K μ v → RightVerdict Weak p secret K μ γ
+        go : (v : Steps) × Tells Weak p (secretOf secret K) μ v → RightVerdict Weak p (secretOf secret K) μ γ
         go (v, tells) =
             let e : v ≡ γ = verdict-gamma v tells γ .1 gamma in
-            subst (RightVerdict Weak p secret K μ) e (right-verdict Weak p secret K μ v .0 (published p secret μ x Weak K v (exactly Weak p secret K μ v tells)))
+            subst (RightVerdict Weak p (secretOf secret K) μ) e (right-verdict Weak p (secretOf secret K) μ v .0 (published p (secretOf secret K) μ x Weak v (exactly Weak p (secretOf secret K) μ v tells)))
 
 -- a trace has one right verdict
-one-right : (p : Automaton) (secret K : ℕ) (μ : List ℕ) (v w : Steps) → RightVerdict Weak p secret K μ v → RightVerdict Weak p secret K μ w → v ≡ w
-one-right p secret K μ v none x y = x .clear .1 (y .clear .0 refl)
-one-right p secret K μ v (leak l) x y = x .leaks l (y .domain l refl) .1 (y .leaks l (y .domain l refl) .0 refl)
+one-right : (p : Automaton) (secret : Secret) (μ : List ℕ) (v w : Steps) → RightVerdict Weak p secret μ v → RightVerdict Weak p secret μ w → v ≡ w
+one-right p secret μ v none x y = x .clear .1 (y .clear .0 refl)
+one-right p secret μ v (leak l) x y = x .leaks l (y .domain l refl) .1 (y .leaks l (y .domain l refl) .0 refl)
 
 -- our verifier, offered the events of an observed trace one after another, says of each secret by the weak notion what Γ(δ_D(m_init, μ)) is
 pub verifier-gamma : (t : List ℕ) (h : Header) (f : Further) (μ : List ℕ) → Trace (automatonOf t h) μ → (r : Said) → SaysAfter t h f μ r → SaysGamma t h f μ r
@@ -244,7 +245,7 @@ verifier-gamma t h f μ x r says =
           let (γ, only) = one-gamma p (c .k) μ (c .states) in
           let gamma = only γ .0 refl in
           let v = toldAt Weak (right .told) i in
-          let e : γ ≡ v = one-right p (c .states) (c .k) μ γ v (proposition-4 p (c .k) μ (c .states) x γ gamma) (right .each-right Weak i given) in
-          subst (Gamma (estimatorAfter p (c .k) μ) (c .states) (c .k)) e gamma;
+          let e : γ ≡ v = one-right p c μ γ v (proposition-4 p (c .k) μ (c .states) x γ gamma) (right .each-right Weak i given) in
+          subst (Gamma (estimatorAfter p (c .k) μ) c) e gamma;
       current = λ K. size-current p K μ (right .size) .0 (right .size-right);
     }

@@ -9,6 +9,7 @@ use lib.Seq.{take-at, getD-append-seam}
 use Rattle.automaton.specs.declared.Header.{Header}
 use Rattle.automaton.specs.Run.{Automaton, automatonOf, Possible, Observable}
 use Rattle.automaton.proofs.Traces.{trace-observable, prefix-possible}
+use Rattle.opacity.specs.declared.Secret.{Secret}
 use Rattle.opacity.specs.declared.Notion.{Notion}
 use Rattle.opacity.specs.declared.Further.{Further}
 use Rattle.opacity.specs.Secrets.{secretsOf, secretAt}
@@ -20,8 +21,8 @@ use Rattle.published.specs.Source.{Published, RightVerdict, RightVerdict
 use Rattle.published.proofs.SourceLaws.{published}
 
 -- the published verdict is the one of Definition 6
-pub right-verdict : (notion : Notion) (p : Automaton) (secret K : ℕ) (μ : List ℕ) (γ : Steps) → Published notion p secret K μ γ ↔ RightVerdict notion p secret K μ γ
-right-verdict notion p secret K μ γ = (
+pub right-verdict : (notion : Notion) (p : Automaton) (secret : Secret) (μ : List ℕ) (γ : Steps) → Published notion p secret μ γ ↔ RightVerdict notion p secret μ γ
+right-verdict notion p secret μ γ = (
   (λ x. record { domain = λ l e. x .leaks l .0 e .0; leaks = λ l h. ((λ e. x .leaks l .0 e .1), (λ y. x .leaks l .1 (h, y))); clear = x .clear }),
   (λ x. record { leaks = λ l. ((λ e. (x .domain l e, x .leaks l (x .domain l e) .0 e)), (λ y. x .leaks l (y .0) .1 (y .1))); clear = x .clear }),
 )
@@ -39,7 +40,7 @@ module _ (t : List ℕ) (h : Header) (f : Further) where
     each-right = λ notion i given.
         let p = automatonOf t h in
         let c = secretAt (secretsOf h f) i in
-        right-verdict notion p (c .states) (c .k) μ (toldAt notion vs i) .0 (published p (c .states) μ x notion (c .k) (toldAt notion vs i) (right .each notion i given));
+        right-verdict notion p c μ (toldAt notion vs i) .0 (published p c μ x notion (toldAt notion vs i) (right .each notion i given));
     size-right = right .size .exactly n .0 refl;
   }
 

@@ -10,6 +10,7 @@ use lib.Seq.{getD-set-other}
 use Rattle.stateset.specs.Set.{bit, In}
 use Rattle.stateset.proofs.Bits.{empty}
 use Rattle.automaton.specs.Run.{Transition, Step, Takes, endOf}
+use Rattle.opacity.specs.Secrets.{secretOf}
 use Rattle.published.specs.Source.{FreeLike, StronglyOpaque}
 use Rattle.published.specs.ByWords.{wordOf, Marked, projected, StronglyByWords, twoTargets}
 use Rattle.published.proofs.WordLaws.{word-shown, lead-steps}
@@ -54,10 +55,10 @@ two : Takes twoTargets 0 (aside ∷ [])
 unfolding bit
 two = (there 2 (omega arith) refl, tt)
 
-steps-opaque : (K : ℕ) → StronglyOpaque twoTargets 2 K
+steps-opaque : (K : ℕ) → StronglyOpaque twoTargets (secretOf 2 K)
 steps-opaque K t lang = go (short t lang)
   where
-    go : (wordOf t ≡ []) ⊎ (wordOf t ≡ 1 ∷ []) → FreeLike twoTargets 2 K t
+    go : (wordOf t ≡ []) ⊎ (wordOf t ≡ 1 ∷ []) → FreeLike twoTargets (secretOf 2 K) t
     go (inl e) = record {
       s = [];
       takes = tt;
@@ -80,7 +81,7 @@ never-free : (s : List ℕ) → (s ≡ []) ⊎ (s ≡ 1 ∷ []) → projected tw
 never-free s (inl e) like free = absurd (omega (arith, ap length (sym (ap (projected twoTargets) e) ∙ like)))
 never-free s (inr e) like free = free (subst (Marked twoTargets 2) (sym e) word-marked)
 
-words-not : (K : ℕ) → StronglyByWords twoTargets 2 K → ⊥
+words-not : (K : ℕ) → StronglyByWords twoTargets (secretOf 2 K) → ⊥
 unfolding bit
 words-not K opaque =
     let x = opaque (1 ∷ []) (word-marked .0, word-marked .2) in
@@ -89,5 +90,5 @@ words-not K opaque =
     never-free (x .s) word (x .like) (x .free (x .s) (record { rest = []; joins = append-nil (x .s) }) (omega arith))
 
 -- for every K
-pub two-targets : (K : ℕ) → StronglyOpaque twoTargets (2 ^ 1) K × (StronglyByWords twoTargets (2 ^ 1) K → ⊥)
+pub two-targets : (K : ℕ) → StronglyOpaque twoTargets (secretOf (2 ^ 1) K) × (StronglyByWords twoTargets (secretOf (2 ^ 1) K) → ⊥)
 two-targets K = (steps-opaque K, words-not K)

@@ -8,6 +8,8 @@ use lib.ListN.{length}
 use Rattle.stateset.specs.Set.{In}
 use Rattle.automaton.specs.Run.{Automaton, Transition, Step, Takes, endOf, shows, shown}
 use Rattle.automaton.proofs.Runs.{takes-front}
+use Rattle.opacity.specs.declared.Secret.{Secret}
+use Rattle.opacity.specs.Secrets.{secretOf}
 use Rattle.opacity.specs.declared.Notion.{Notion}
 use Rattle.opacity.specs.declared.Notion.the-variants.{Weak, Strong}
 use Rattle.published.specs.Source.{Prefix, Lang, Secretly, WeaklyOpaque, StronglyOpaque, Opaque}
@@ -138,7 +140,7 @@ module _ (p : Automaton) where
           → length (projected p s) - length (projected p s′) ≤ K
       near-words s s′ run front x y near = omega (arith, ap length (shown-word s run x), ap length (shown-word s′ front y))
 
-      weak-words : OneTarget p → WeaklyOpaque p secret K → WeaklyByWords p secret K
+      weak-words : OneTarget p → WeaklyOpaque p (secretOf secret K) → WeaklyByWords p (secretOf secret K)
       weak-words d opaque t lang t′ pre near bad =
           let T = read t lang in
           let T′ = start t (T .run) (T .reading) t′ pre in
@@ -156,7 +158,7 @@ module _ (p : Automaton) where
             free = λ m. x .free (secretly d (wordOf (x .s′)) (x .s′) S′ m);
           }
 
-      words-weak : WeaklyByWords p secret K → WeaklyOpaque p secret K
+      words-weak : WeaklyByWords p (secretOf secret K) → WeaklyOpaque p (secretOf secret K)
       words-weak opaque t lang t′ pre near bad =
           let T = own t lang in
           let T′ = front-read t t′ lang pre in
@@ -174,7 +176,7 @@ module _ (p : Automaton) where
             free = λ b. x .free (marked (x .s′) (S′ .front) (S′ .reading) b);
           }
 
-      strong-words : OneTarget p → StronglyOpaque p secret K → StronglyByWords p secret K
+      strong-words : OneTarget p → StronglyOpaque p (secretOf secret K) → StronglyByWords p (secretOf secret K)
       strong-words d opaque t lang =
           let T = read t lang in
           let x = opaque (T .run) (T .reading .takes) in
@@ -188,7 +190,7 @@ module _ (p : Automaton) where
                 x .free (S′ .front) (S′ .begins) (near-steps (wordOf (x .s)) s′ (x .s) (S′ .front) S (S′ .reading) near) (secretly d s′ (S′ .front) (S′ .reading) m);
           }
 
-      words-strong : StronglyByWords p secret K → StronglyOpaque p secret K
+      words-strong : StronglyByWords p (secretOf secret K) → StronglyOpaque p (secretOf secret K)
       words-strong opaque t lang =
           let x = opaque (wordOf t) (endOf (p .initial) t, leads (wordOf t) t (own t lang)) in
           let S = read (x .s) (x .inside) in
@@ -203,6 +205,6 @@ module _ (p : Automaton) where
           }
 
 -- so with one target for each state and event the two forms of Definitions 3 and 4 are the same
-pub by-words : (notion : Notion) (p : Automaton) (secret K : ℕ) → OneTarget p → Opaque notion p secret K ↔ OpaqueByWords notion p secret K
-by-words Weak p secret K d = (weak-words p secret K d, words-weak p secret K)
-by-words Strong p secret K d = (strong-words p secret K d, words-strong p secret K)
+pub by-words : (notion : Notion) (p : Automaton) (secret : Secret) → OneTarget p → Opaque notion p secret ↔ OpaqueByWords notion p secret
+by-words Weak p secret d = (weak-words p (secret .states) (secret .k) d, words-weak p (secret .states) (secret .k))
+by-words Strong p secret d = (strong-words p (secret .states) (secret .k) d, words-strong p (secret .states) (secret .k))

@@ -7,6 +7,7 @@ use lib.ListN.{length, replicate, set}
 use Rattle.stateset.specs.Set.{bit, In}
 use Rattle.automaton.specs.Run.{Automaton, Transition, Step, showIf, shows}
 use Rattle.automaton.specs.Symbols.{ownNumbers}
+use Rattle.opacity.specs.declared.Secret.{Secret}
 use Rattle.opacity.specs.declared.Notion.{Notion}
 use Rattle.opacity.specs.declared.Notion.the-variants.{Weak, Strong}
 use Rattle.published.specs.Source.{Prefix}
@@ -53,23 +54,23 @@ pub record EquivalentWord (p : Automaton) (secret : ℕ) (t t′ : List ℕ) : T
   pub like′ : projected p s′ ≡ projected p t′
   pub free : Marked p secret s′ → ⊥
 
-abbrev pub WeaklyByWords : Automaton → (secret K : ℕ) → Type 0
-WeaklyByWords p secret K =
-    (t : List ℕ) → WordLang p t → (t′ : List ℕ) → Prefix ℕ t′ t → length (projected p t) - length (projected p t′) ≤ K → Marked p secret t′ → EquivalentWord p secret t t′
+abbrev pub WeaklyByWords : Automaton → Secret → Type 0
+WeaklyByWords p secret =
+    (t : List ℕ) → WordLang p t → (t′ : List ℕ) → Prefix ℕ t′ t → length (projected p t) - length (projected p t′) ≤ secret .k → Marked p (secret .states) t′ → EquivalentWord p (secret .states) t t′
 
 -- Definition 4
-pub record FreeWord (p : Automaton) (secret K : ℕ) (t : List ℕ) : Type 0 where
+pub record FreeWord (p : Automaton) (secret : Secret) (t : List ℕ) : Type 0 where
   pub s : List ℕ
   pub inside : WordLang p s
   pub like : projected p s ≡ projected p t
-  pub free : (s′ : List ℕ) → Prefix ℕ s′ s → length (projected p s) - length (projected p s′) ≤ K → Marked p secret s′ → ⊥
+  pub free : (s′ : List ℕ) → Prefix ℕ s′ s → length (projected p s) - length (projected p s′) ≤ secret .k → Marked p (secret .states) s′ → ⊥
 
-abbrev pub StronglyByWords : Automaton → (secret K : ℕ) → Type 0
-StronglyByWords p secret K = (t : List ℕ) → WordLang p t → FreeWord p secret K t
+abbrev pub StronglyByWords : Automaton → Secret → Type 0
+StronglyByWords p secret = (t : List ℕ) → WordLang p t → FreeWord p secret t
 
-abbrev pub OpaqueByWords : Notion → Automaton → (secret K : ℕ) → Type 0
-OpaqueByWords Weak p secret K = WeaklyByWords p secret K
-OpaqueByWords Strong p secret K = StronglyByWords p secret K
+abbrev pub OpaqueByWords : Notion → Automaton → Secret → Type 0
+OpaqueByWords Weak p secret = WeaklyByWords p secret
+OpaqueByWords Strong p secret = StronglyByWords p secret
 
 -- an automaton of listed transitions, each from, event and to. Of two with one state and event the first counts, so that it has one target
 abbrev pub tabled : List (ℕ × ℕ × ℕ) → List ℕ

@@ -12,6 +12,7 @@ use Rattle.automaton.specs.Reaching.{Arrives}
 use Rattle.opacity.specs.Secrets.{secretsOf, ForEach}
 use Rattle.opacity.specs.Verdicts.{Steps, none, leak}
 use Rattle.verifier.specs.Replies.{Told, toldAt, Said, verdicts}
+use Rattle.opacity.specs.declared.Secret.{Secret}
 use Rattle.opacity.specs.declared.Notion.the-variants.{Weak}
 use Rattle.opacity.specs.declared.Further.{Further}
 use Rattle.published.specs.Source.{Prefix, Still}
@@ -93,9 +94,9 @@ Within m k secret = (q : ℕ) → EstimateAt m k q → In q secret
 
 -- Proposition 4, Γ(m): "noleak if ∀ k ∈ [0, K] : m(k) ∉ 2^S", and "leak_l where l = min {k ∈ [0, K] | m(k) ∈ 2^S} otherwise". As there, k goes up to K also
 -- where μ is shorter
-abbrev pub Gamma : Mapping → (secret K : ℕ) → Steps → Type 0
-Gamma m secret K none = (k : ℕ) → k ≤ K → Within m k secret → ⊥
-Gamma m secret K (leak l) = (l ≤ K) × Within m l secret × ((k : ℕ) → k < l → Within m k secret → ⊥)
+abbrev pub Gamma : Mapping → Secret → Steps → Type 0
+Gamma m secret none = (k : ℕ) → k ≤ secret .k → Within m k (secret .states) → ⊥
+Gamma m secret (leak l) = (l ≤ secret .k) × Within m l (secret .states) × ((k : ℕ) → k < l → Within m k (secret .states) → ⊥)
 
 -- our verifier's answer after the trace: a verdict of each secret by the weak notion, and it is Γ's of the estimator with that secret's K; and how many
 -- states are possible, which is how many m(0) has, whatever K is
@@ -104,5 +105,5 @@ pub record SaysGamma (t : List ℕ) (h : Header) (f : Further) (μ : List ℕ) (
   pub size : ℕ
   pub said-is : r ≡ verdicts told size
   pub as-many : length told ≡ length (secretsOf h f)
-  pub gamma : ForEach (secretsOf h f) (λ i c. Gamma (estimatorAfter (automatonOf t h) (c .k) μ) (c .states) (c .k) (toldAt Weak told i))
+  pub gamma : ForEach (secretsOf h f) (λ i c. Gamma (estimatorAfter (automatonOf t h) (c .k) μ) c (toldAt Weak told i))
   pub current : (K : ℕ) → Counts (EstimateAt (estimatorAfter (automatonOf t h) K μ) 0) size

@@ -21,7 +21,7 @@ use Rattle.opacity.specs.declared.Notion.{Notion}
 use Rattle.opacity.specs.declared.Notion.the-variants.{Weak, Strong}
 use Rattle.opacity.specs.declared.Secret.{Secret}
 use Rattle.opacity.specs.declared.Further.{Further}
-use Rattle.opacity.specs.Secrets.{furtherOf, secretsOf, secretAt, ForEach, noFurther, Allowed}
+use Rattle.opacity.specs.Secrets.{own, furtherOf, secretsOf, secretAt, ForEach, noFurther, Allowed}
 use Rattle.opacity.specs.Verdicts.{Steps, none, leak, Tells, Exactly}
 use Rattle.verifier.specs.Replies.{Told, stepsBy, toldAt, Said, refused, verdicts}
 use Rattle.verifier.specs.Calls.{Call, takenBy, Right, Answered, AllAnswered}
@@ -68,18 +68,18 @@ symbols? h =
 right : (t : List ℕ) (h : Header) (trace : List ℕ) (v : Told) (n : ℕ) → SizeWithin n → VerdictsAre t h trace (v .weak) (v .strong) n → Right t h noFurther trace (v ∷ []) n
 right t h trace v n within told = record {
   as-many = refl;
-  each = λ notion. only h noFurther refl (λ i c. Exactly notion (automatonOf t h) (c .states) (c .k) trace (toldAt notion (v ∷ []) i)) (own notion);
+  each = λ notion. only h noFurther refl (λ i c. Exactly notion (automatonOf t h) c trace (toldAt notion (v ∷ []) i)) (alone notion);
   size = right-size (automatonOf t h) trace n within (told .size);
 }
   where
-    own : (notion : Notion) → Exactly notion (automatonOf t h) (h .secret) (h .k) trace (stepsBy notion v)
-    own Weak = exactly Weak (automatonOf t h) (h .secret) (h .k) trace (v .weak) (told .weak)
-    own Strong = exactly Strong (automatonOf t h) (h .secret) (h .k) trace (v .strong) (told .strong)
+    alone : (notion : Notion) → Exactly notion (automatonOf t h) (own h) trace (stepsBy notion v)
+    alone Weak = exactly Weak (automatonOf t h) (own h) trace (v .weak) (told .weak)
+    alone Strong = exactly Strong (automatonOf t h) (own h) trace (v .strong) (told .strong)
 
 -- for every secret, by both notions
 right-for-all : (t : List ℕ) (h : Header) (f : Further) (trace : List ℕ) (vs : List Told) (n : ℕ) → length vs ≡ length (secretsOf h f) → SizeWithin n
-    → ForEach (secretsOf h f) (λ i c. Tells Weak (automatonOf t h) (c .states) (c .k) trace (toldAt Weak vs i))
-    → ForEach (secretsOf h f) (λ i c. Tells Strong (automatonOf t h) (c .states) (c .k) trace (toldAt Strong vs i)) → EstimateSize (automatonOf t h) trace n
+    → ForEach (secretsOf h f) (λ i c. Tells Weak (automatonOf t h) c trace (toldAt Weak vs i))
+    → ForEach (secretsOf h f) (λ i c. Tells Strong (automatonOf t h) c trace (toldAt Strong vs i)) → EstimateSize (automatonOf t h) trace n
     → Right t h f trace vs n
 right-for-all t h f trace vs n as-many within weak strong size = record {
   as-many = as-many;
@@ -87,9 +87,9 @@ right-for-all t h f trace vs n as-many within weak strong size = record {
   size = right-size (automatonOf t h) trace n within size;
 }
   where
-    each : (notion : Notion) → ForEach (secretsOf h f) (λ i c. Exactly notion (automatonOf t h) (c .states) (c .k) trace (toldAt notion vs i))
-    each Weak i given = exactly Weak (automatonOf t h) _ _ trace _ (weak i given)
-    each Strong i given = exactly Strong (automatonOf t h) _ _ trace _ (strong i given)
+    each : (notion : Notion) → ForEach (secretsOf h f) (λ i c. Exactly notion (automatonOf t h) c trace (toldAt notion vs i))
+    each Weak i given = exactly Weak (automatonOf t h) _ trace _ (weak i given)
+    each Strong i given = exactly Strong (automatonOf t h) _ trace _ (strong i given)
 
 abbrev allowed? : (f : Further) → Check (Allowed f)
 allowed? f =
@@ -100,8 +100,8 @@ abbrev within? : (n : ℕ) → Check (SizeWithin n)
 within? n = map (λ f. record { some = f .0; most = f .1 }) (both (le? 1 n) (le? n 64))
 
 module _ (ts : List Transition) (h : Header) (range : T (every inRange ts)) where
-  abbrev told? : (notion : Notion) (trace : List ℕ) (v : Steps) → Check (For ts (λ t. Tells notion (automatonOf t h) (h .secret) (h .k) trace v))
-  told? notion trace v = tells? ts h range (h .secret) (h .k) notion trace v
+  abbrev told? : (notion : Notion) (trace : List ℕ) (v : Steps) → Check (For ts (λ t. Tells notion (automatonOf t h) (own h) trace v))
+  told? notion trace v = tells? ts h range (own h) notion trace v
 
   abbrev verdicts? : (trace : List ℕ) (v w : Steps) (n : ℕ) → Check (For ts (λ t. VerdictsAre t h trace v w n))
   verdicts? trace v w n =
@@ -137,7 +137,7 @@ module _ (ts : List Transition) (h : Header) (range : T (every inRange ts)) wher
       map (λ f x. record { possible = f .0 x; prefix = f .1 .0; longest = f .1 .1 x })
       (both (possible? ts h range trace)
       (both (by (sameList out (take (length out) trace)) (same-list out (take (length out) trace)))
-      (longest? ts h range (h .secret) (h .k) notion trace (length out))))
+      (longest? ts h range (own h) notion trace (length out))))
 
   abbrev each-releases? : (Released : (t accepted out : List ℕ) → Type 0) → ((accepted out : List ℕ) → Check (For ts (λ t. Released t accepted out)))
       → (rest : List ℕ) (events : List (List ℕ)) (accepted out : List ℕ) → Check (For ts (λ t. EachReleases h (Released t) accepted out rest events))

@@ -31,8 +31,8 @@ use Rattle.examples.proofs.NotionLaws as laws
 use Rattle.examples.proofs.NotionLaws.{nowhere, endsAt, endsOutside, outAt, inFrom}
 
 -- a run that excuses the system from count n - K on
-pub excused : (p : Automaton) (secret K : ℕ) (first : List ℕ) (n : ℕ) → ClearFrom p secret first (n - K) → Excused p secret K first n
-excused p secret K first n c = record { run = c .run; compatible = c .compatible; outside = λ m near bad. c .outside m (omega arith) bad }
+pub excused : (p : Automaton) (secret : Secret) (first : List ℕ) (n : ℕ) → ClearFrom p (secret .states) first (n - secret .k) → Excused p secret first n
+excused p secret first n c = record { run = c .run; compatible = c .compatible; outside = λ m near bad. c .outside m (omega arith) bad }
 
 -- for every table that holds the transitions. A check is computed from their list alone, so that one serves all tables
 abbrev pub For : List Transition → (List ℕ → Type 0) → Type 0
@@ -73,79 +73,72 @@ module _ (ts : List Transition) (h : Header) (range : T (every inRange ts)) wher
       (both (eq? (length states) n) (both (all-below (λ i. some? (endsAt (getD states i 0) (length trace)) true trace) n)
       (both (none? (endsOutside states (length trace)) true trace) (different? states n))))
 
-  module _ (secret : ℕ) where
+  module _ (secret : Secret) where
     abbrev sure? : (notion : Notion) (trace : List ℕ) (j : ℕ) → Check (For ts (λ t. Sure notion (automatonOf t h) secret trace j))
-    sure? Weak trace j = map (λ r x. laws.sure-at (M x) trace secret j (r x)) (none? (outAt secret j) true trace)
-    sure? Strong trace j = map (λ r x. laws.sure-from (M x) trace secret j (r x)) (none? (inFrom secret j) false trace)
+    sure? Weak trace j = map (λ r x. laws.sure-at (M x) trace (secret .states) j (r x)) (none? (outAt (secret .states) j) true trace)
+    sure? Strong trace j = map (λ r x. laws.sure-from (M x) trace (secret .states) j (r x)) (none? (inFrom (secret .states) j) false trace)
 
     abbrev clear? : (notion : Notion) (trace : List ℕ) (j : ℕ) → Check (For ts (λ t. Clear notion (automatonOf t h) secret trace j))
-    clear? Weak trace j = map (λ r x. laws.clear-at (M x) trace secret j (r x)) (some? (outAt secret j) true trace)
-    clear? Strong trace j = map (λ r x. laws.clear-from (M x) trace secret j (r x)) (some? (inFrom secret j) false trace)
+    clear? Weak trace j = map (λ r x. laws.clear-at (M x) trace (secret .states) j (r x)) (some? (outAt (secret .states) j) true trace)
+    clear? Strong trace j = map (λ r x. laws.clear-from (M x) trace (secret .states) j (r x)) (some? (inFrom (secret .states) j) false trace)
 
-    module _ (K : ℕ) where
-      abbrev pub tells? : (notion : Notion) (trace : List ℕ) (v : Steps) → Check (For ts (λ t. Tells notion (automatonOf t h) secret K trace v))
-      tells? notion trace none =
-          map (λ f x l low short. f l (omega arith) short x) (all-below (λ l. where-le l (length trace) (clear? notion trace (length trace - l))) (suc K))
-      tells? notion trace (leak l) =
-          map (λ f x. record { within = f .0; reached = f .1 .0; sure = f .1 .1 .0 x; least = λ m less. f .1 .1 .1 m less x })
-          (both (le? l K) (both (le? l (length trace)) (both (sure? notion trace (length trace - l)) (all-below (λ m. clear? notion trace (length trace - m)) l))))
+    abbrev pub tells? : (notion : Notion) (trace : List ℕ) (v : Steps) → Check (For ts (λ t. Tells notion (automatonOf t h) secret trace v))
+    tells? notion trace none =
+        map (λ f x l low short. f l (omega arith) short x) (all-below (λ l. where-le l (length trace) (clear? notion trace (length trace - l))) (suc (secret .k)))
+    tells? notion trace (leak l) =
+        map (λ f x. record { within = f .0; reached = f .1 .0; sure = f .1 .1 .0 x; least = λ m less. f .1 .1 .1 m less x })
+        (both (le? l (secret .k)) (both (le? l (length trace)) (both (sure? notion trace (length trace - l)) (all-below (λ m. clear? notion trace (length trace - m)) l))))
 
-      abbrev by-runs? : (notion : Notion) (first : List ℕ) (n : ℕ) → Check (For ts (λ t. SafeByRuns notion (automatonOf t h) secret K first n))
-      by-runs? Weak first n =
-          map (λ f x j low near. f j (omega arith) near x) (all-below (λ j. where-le n (j + K) (clear? Weak first j)) (suc (length first)))
-      by-runs? Strong first n =
-          map (λ f x. ⊎-elim (λ old. inl old) (λ c. inr (excused (M x) secret K first n (c x))) f)
-          (either (le? (suc (length first + K)) n) (clear? Strong first (n - K)))
+    abbrev by-runs? : (notion : Notion) (first : List ℕ) (n : ℕ) → Check (For ts (λ t. SafeByRuns notion (automatonOf t h) secret first n))
+    by-runs? Weak first n =
+        map (λ f x j low near. f j (omega arith) near x) (all-below (λ j. where-le n (j + secret .k) (clear? Weak first j)) (suc (length first)))
+    by-runs? Strong first n =
+        map (λ f x. ⊎-elim (λ old. inl old) (λ c. inr (excused (M x) secret first n (c x))) f)
+        (either (le? (suc (length first + secret .k)) n) (clear? Strong first (n - secret .k)))
 
-      pub unsafe-weak : (first : List ℕ) (n : ℕ) → Below (λ j. (n ≤ j + K) × For ts (λ t. SureAt (automatonOf t h) secret first j)) (suc (length first))
-          → For ts (λ t. Unsafe Weak (automatonOf t h) secret K first n)
-      unsafe-weak first n b x = let s = b .small in record { at = b .at; reached = omega arith; near = b .holds .0; sure = b .holds .1 x }
+    pub unsafe-weak : (first : List ℕ) (n : ℕ) → Below (λ j. (n ≤ j + secret .k) × For ts (λ t. SureAt (automatonOf t h) (secret .states) first j)) (suc (length first))
+        → For ts (λ t. Unsafe Weak (automatonOf t h) secret first n)
+    unsafe-weak first n b x = let s = b .small in record { at = b .at; reached = omega arith; near = b .holds .0; sure = b .holds .1 x }
 
-      abbrev unsafe? : (notion : Notion) (first : List ℕ) (n : ℕ) → Check (For ts (λ t. Unsafe notion (automatonOf t h) secret K first n))
-      unsafe? Weak first n = map (unsafe-weak first n) (some-below (λ j. both (le? n (j + K)) (sure? Weak first j)) (suc (length first)))
-      unsafe? Strong first n = map (λ f x. record { near = f .0; sure = f .1 x }) (both (le? n (length first + K)) (sure? Strong first (n - K)))
+    abbrev unsafe? : (notion : Notion) (first : List ℕ) (n : ℕ) → Check (For ts (λ t. Unsafe notion (automatonOf t h) secret first n))
+    unsafe? Weak first n = map (unsafe-weak first n) (some-below (λ j. both (le? n (j + secret .k)) (sure? Weak first j)) (suc (length first)))
+    unsafe? Strong first n = map (λ f x. record { near = f .0; sure = f .1 x }) (both (le? n (length first + secret .k)) (sure? Strong first (n - secret .k)))
 
-      abbrev pub longest? : (notion : Notion) (trace : List ℕ) (r : ℕ) → Check (For ts (λ t. Longest (Safe notion (automatonOf t h) secret K) trace r))
-      longest? notion trace r =
-          map (λ f x. record {
-            within = f .0;
-            safe = by-runs-safe notion (M x) secret K (take r trace) (length trace) (f .1 .0 x);
-            longest = λ s above short. unsafe-not-safe notion (M x) secret K (take s trace) (length trace) (f .1 .1 s (omega arith) above x);
-          })
-          (both (le? r (length trace)) (both (by-runs? notion (take r trace) (length trace))
-          (all-below (λ s. where-le (suc r) s (unsafe? notion (take s trace) (length trace))) (suc (length trace)))))
+    abbrev pub longest? : (notion : Notion) (trace : List ℕ) (r : ℕ) → Check (For ts (λ t. Longest (Safe notion (automatonOf t h) secret) trace r))
+    longest? notion trace r =
+        map (λ f x. record {
+          within = f .0;
+          safe = by-runs-safe notion (M x) secret (take r trace) (length trace) (f .1 .0 x);
+          longest = λ s above short. unsafe-not-safe notion (M x) secret (take s trace) (length trace) (f .1 .1 s (omega arith) above x);
+        })
+        (both (le? r (length trace)) (both (by-runs? notion (take r trace) (length trace))
+        (all-below (λ s. where-le (suc r) s (unsafe? notion (take s trace) (length trace))) (suc (length trace)))))
 
   -- of several secrets, each by its own K
   module _ (cs : List Secret) where
-    abbrev statesOf : ℕ → ℕ
-    statesOf i = secretAt cs i .states
-
-    abbrev backOf : ℕ → ℕ
-    backOf i = secretAt cs i .k
-
     abbrev pub tells-each? : (notion : Notion) (trace : List ℕ) (v : ℕ → Steps)
-        → Check (For ts (λ t. ForEach cs (λ i c. Tells notion (automatonOf t h) (c .states) (c .k) trace (v i))))
+        → Check (For ts (λ t. ForEach cs (λ i c. Tells notion (automatonOf t h) c trace (v i))))
     tells-each? notion trace v =
         map (λ f x i given. f i given x)
-        (all-below {A = λ i. For ts (λ t. Tells notion (automatonOf t h) (statesOf i) (backOf i) trace (v i))} (λ i. tells? (statesOf i) (backOf i) notion trace (v i)) (length cs))
+        (all-below {A = λ i. For ts (λ t. Tells notion (automatonOf t h) (secretAt cs i) trace (v i))} (λ i. tells? (secretAt cs i) notion trace (v i)) (length cs))
 
     abbrev pub opens-as-leak? : (notion : Notion) → Check (For ts (λ t. OpensAsLeak notion (automatonOf t h) cs))
     opens-as-leak? notion =
         map (λ b x. record { number = b .at; given = b .small; tells = b .holds x })
-        (some-below {A = λ i. For ts (λ t. Tells notion (automatonOf t h) (statesOf i) (backOf i) [] (leak 0))} (λ i. tells? (statesOf i) (backOf i) notion [] (leak 0)) (length cs))
+        (some-below {A = λ i. For ts (λ t. Tells notion (automatonOf t h) (secretAt cs i) [] (leak 0))} (λ i. tells? (secretAt cs i) notion [] (leak 0)) (length cs))
 
     -- no longer prefix is safe for all: one of them is unsafe
     abbrev pub longest-for-all? : (notion : Notion) (trace : List ℕ) (r : ℕ) → Check (For ts (λ t. Longest (SafeForAll notion (automatonOf t h) cs) trace r))
     longest-for-all? notion trace r =
         map (λ f x. record {
           within = f .0;
-          safe = record { each = λ i given. by-runs-safe notion (M x) (statesOf i) (backOf i) (take r trace) (length trace) (f .1 .0 i given x) };
+          safe = record { each = λ i given. by-runs-safe notion (M x) (secretAt cs i) (take r trace) (length trace) (f .1 .0 i given x) };
           longest = λ s above short safe.
               let b = f .1 .1 s (omega arith) above in
-              unsafe-not-safe notion (M x) (statesOf (b .at)) (backOf (b .at)) (take s trace) (length trace) (b .holds x) (safe .each (b .at) (b .small));
+              unsafe-not-safe notion (M x) (secretAt cs (b .at)) (take s trace) (length trace) (b .holds x) (safe .each (b .at) (b .small));
         })
         (both (le? r (length trace))
-        (both (all-below {A = λ i. For ts (λ t. SafeByRuns notion (automatonOf t h) (statesOf i) (backOf i) (take r trace) (length trace))}
-        (λ i. by-runs? (statesOf i) (backOf i) notion (take r trace) (length trace)) (length cs))
-        (all-below (λ s. where-le (suc r) s (some-below {A = λ i. For ts (λ t. Unsafe notion (automatonOf t h) (statesOf i) (backOf i) (take s trace) (length trace))}
-        (λ i. unsafe? (statesOf i) (backOf i) notion (take s trace) (length trace)) (length cs))) (suc (length trace)))))
+        (both (all-below {A = λ i. For ts (λ t. SafeByRuns notion (automatonOf t h) (secretAt cs i) (take r trace) (length trace))}
+        (λ i. by-runs? (secretAt cs i) notion (take r trace) (length trace)) (length cs))
+        (all-below (λ s. where-le (suc r) s (some-below {A = λ i. For ts (λ t. Unsafe notion (automatonOf t h) (secretAt cs i) (take s trace) (length trace))}
+        (λ i. unsafe? (secretAt cs i) notion (take s trace) (length trace)) (length cs))) (suc (length trace)))))

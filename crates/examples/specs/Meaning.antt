@@ -16,7 +16,7 @@ use Rattle.bitfields.specs.Parser.{Parsed, done, refused}
 use Rattle.opacity.specs.declared.Notion.{Notion}
 use Rattle.opacity.specs.declared.Notion.the-variants.{Weak, Strong}
 use Rattle.opacity.specs.declared.Further.{Further}
-use Rattle.opacity.specs.Secrets.{secretsOf, ForEach, noFurther, Allowed}
+use Rattle.opacity.specs.Secrets.{own, secretsOf, ForEach, noFurther, Allowed}
 use Rattle.opacity.specs.Verdicts.{Steps, none, leak, Tells}
 use Rattle.verifier.specs.Replies.{Told}
 use Rattle.verifier.specs.Calls.{Call, Right, AllAnswered}
@@ -47,8 +47,8 @@ pub data Question : Type 0 where
 -- statement
 pub record VerdictsAre (t : List ℕ) (h : Header) (trace : List ℕ) (v w : Steps) (n : ℕ) : Type 0 where
   pub possible : Possible (automatonOf t h) trace
-  pub weak : Tells Weak (automatonOf t h) (h .secret) (h .k) trace v
-  pub strong : Tells Strong (automatonOf t h) (h .secret) (h .k) trace w
+  pub weak : Tells Weak (automatonOf t h) (own h) trace v
+  pub strong : Tells Strong (automatonOf t h) (own h) trace w
   pub size : EstimateSize (automatonOf t h) trace n
 
 -- each byte gets the answer that the verifier owes it after the bytes accepted before it; a refused byte is not one of these
@@ -58,8 +58,8 @@ pub record AnswersAre (t : List ℕ) (h : Header) (trace : List ℕ) (calls : Li
 
 -- a start is refused with 8 where the empty trace has leak 0, and gives an enforcer where it has none
 abbrev pub Opened : List ℕ → Header → Notion → Begun → Type 0
-Opened t h notion started = Tells notion (automatonOf t h) (h .secret) (h .k) [] none
-Opened t h notion (not-started n) = (n ≡ 8) × Tells notion (automatonOf t h) (h .secret) (h .k) [] (leak 0)
+Opened t h notion started = Tells notion (automatonOf t h) (own h) [] none
+Opened t h notion (not-started n) = (n ≡ 8) × Tells notion (automatonOf t h) (own h) [] (leak 0)
 
 pub record StartIs (t : List ℕ) (h : Header) (notion : Notion) (answer : Begun) : Type 0 where
   pub possible : Possible (automatonOf t h) []
@@ -69,7 +69,7 @@ pub record StartIs (t : List ℕ) (h : Header) (notion : Notion) (answer : Begun
 pub record ReleasedIs (t : List ℕ) (h : Header) (notion : Notion) (trace out : List ℕ) : Type 0 where
   pub possible : Possible (automatonOf t h) trace
   pub prefix : out ≡ take (length out) trace
-  pub longest : Longest (Safe notion (automatonOf t h) (h .secret) (h .k)) trace (length out)
+  pub longest : Longest (Safe notion (automatonOf t h) (own h)) trace (length out)
 
 -- after the accepted symbols, of which `out` are released, each symbol of the rest is accepted in turn and releases what stands at its place. `Released`
 -- says which symbols of the accepted ones are released
@@ -91,7 +91,7 @@ pub record VerdictsOfAll (t : List ℕ) (h : Header) (f : Further) (trace : List
 
 -- a start is refused with 8 where some secret opens as leak 0, and gives an enforcer where none leaks
 abbrev pub OpenedForAll : List ℕ → Header → Further → Notion → Begun → Type 0
-OpenedForAll t h f notion started = ForEach (secretsOf h f) (λ i c. Tells notion (automatonOf t h) (c .states) (c .k) [] none)
+OpenedForAll t h f notion started = ForEach (secretsOf h f) (λ i c. Tells notion (automatonOf t h) c [] none)
 OpenedForAll t h f notion (not-started n) = (n ≡ 8) × OpensAsLeak notion (automatonOf t h) (secretsOf h f)
 
 pub record StartForAll (t : List ℕ) (h : Header) (f : Further) (notion : Notion) (answer : Begun) : Type 0 where

@@ -9,6 +9,7 @@ use Rattle.automaton.specs.declared.Header.{Header}
 use Rattle.encoding.specs.Decoding.{Decoding, accept}
 use Rattle.encoding.proofs.Listing.{decoded-sound}
 use Rattle.opacity.specs.declared.Notion.{Notion}
+use Rattle.opacity.specs.declared.Secret.{Secret}
 use Rattle.opacity.specs.declared.Further.{Further}
 use Rattle.verifier.specs.declared.Estimator.{Estimator}
 use Rattle.opacity.specs.Secrets.{secretsOf, secretAt, clearedOf, Allowed}
@@ -73,9 +74,9 @@ saved-start encoding table before t header notion further enforcer answer s x kn
 saved-start encoding table before t header notion further enforcer answer s x known f e (Start.refused _ (Starting.initial-leak so allowed leaks out)) = ByStart.initial-leak allowed leaks
 saved-start encoding table before t header notion further enforcer answer s x known f e (Start.started _ (Starting.ready so allowed tells same grown) saved) = ByStart.started allowed (never-opens (notionAt notion) _ _ tells)
 
-bounded : (notion : Notion) (p : Automaton) (secret K : ℕ) (trace : List ℕ) (v : Steps) → Tells notion p secret K trace v → Bounded K v
-bounded notion p secret K trace none x = tt
-bounded notion p secret K trace (leak l) x = x .within
+bounded : (notion : Notion) (p : Automaton) (secret : Secret) (trace : List ℕ) (v : Steps) → Tells notion p secret trace v → Bounded (secret .k) v
+bounded notion p secret trace none x = tt
+bounded notion p secret trace (leak l) x = x .within
 
 -- a promise about the verdicts that were written is one about those that are read
 told-promise : (t : List ℕ) (h : Header) (f : Further) (vs : List Told) (n : ℕ) (told : List ℕ) (cs : List verifier.Call) (e : Estimator)
@@ -97,7 +98,7 @@ saved-second-point t header further before lent s told cs e (Fresh.accepted size
     let reads = told-back vs n (f .count) few (many ∙ how-many h f few) (λ notion i less.
     let given : i < length (secretsOf h f) = omega (arith, many) in
     let c = secretAt (secretsOf h f) i in
-    bounded-up (c .k) 15 (toldAt notion vs i) (omega (arith, secret-back h f i given, small)) (bounded notion (automatonOf t h) (c .states) (c .k) [] (toldAt notion vs i) (exact .tells notion i given))) in
+    bounded-up (c .k) 15 (toldAt notion vs i) (omega (arith, secret-back h f i given, small)) (bounded notion (automatonOf t h) c [] (toldAt notion vs i) (exact .tells notion i given))) in
     let listed = accept-calls t header (sizes .verifier .header-size) (clearedOf f) s cs e (saved .size) (ap (λ (y : Estimator). y .further) (saved .back) ∙ same) calls in
     told-promise t h f vs n told (callsOf (f .count) cs) (estimatorAt e) reads
     (second-point t h f vs n x (callsOf (f .count) cs) (estimatorAt e) (Opening.opened so allowed same li many within exact)

@@ -13,6 +13,7 @@ use Rattle.opacity.specs.declared.Notion.{Notion}
 use Rattle.opacity.specs.declared.Notion.the-variants.{Weak, Strong}
 use Rattle.opacity.specs.declared.Verdict.{Verdict}
 use Rattle.opacity.specs.declared.Verdict.the-variants.{NoLeak, Leak}
+use Rattle.opacity.specs.Secrets.{own}
 use Rattle.opacity.specs.Verdicts.{none, leak, stepsOf, LeakAt, Words}
 use Rattle.opacity.proofs.Exactness.{words-exactly}
 use Rattle.encoding.proofs.Refusing.{decoding-never}
@@ -24,22 +25,22 @@ use Rattle.monitor.proofs.OneOutput.{one-automaton, not-both}
 
 module _ (t : List ℕ) (h : Header) (notion : Notion) where
   -- there is no event to look back to, so that every leak is leak 0
-  at-zero : (l : ℕ) → LeakAt notion (automatonOf t h) (h .secret) (h .k) [] l → l ≡ 0
+  at-zero : (l : ℕ) → LeakAt notion (automatonOf t h) (own h) [] l → l ≡ 0
   at-zero l x = omega (arith, x .reached)
 
-  none-words : (OpeningLeak notion t h → ⊥) → Words notion (automatonOf t h) (h .secret) (h .k) [] none
-  none-words never l x = never (subst (LeakAt notion (automatonOf t h) (h .secret) (h .k) []) (at-zero l x) x)
+  none-words : (OpeningLeak notion t h → ⊥) → Words notion (automatonOf t h) (own h) [] none
+  none-words never l x = never (subst (LeakAt notion (automatonOf t h) (own h) []) (at-zero l x) x)
 
-  leak-words : OpeningLeak notion t h → Words notion (automatonOf t h) (h .secret) (h .k) [] (leak 0)
+  leak-words : OpeningLeak notion t h → Words notion (automatonOf t h) (own h) [] (leak 0)
   leak-words x = (x, λ m below y. omega arith)
 
   -- the verdict of the opening: none, or leak 0
-  opening-verdict : (v : Verdict) → Words notion (automatonOf t h) (h .secret) (h .k) [] (stepsOf v)
+  opening-verdict : (v : Verdict) → Words notion (automatonOf t h) (own h) [] (stepsOf v)
       → ((v ≡ NoLeak) × (OpeningLeak notion t h → ⊥)) ⊎ ((v ≡ Leak 0) × OpeningLeak notion t h)
   opening-verdict NoLeak w = inl (refl, w 0)
   opening-verdict (Leak l) w =
       let first = at-zero l (w .0) in
-      inr (ap Leak first, subst (LeakAt notion (automatonOf t h) (h .secret) (h .k) []) first (w .0))
+      inr (ap Leak first, subst (LeakAt notion (automatonOf t h) (own h) []) first (w .0))
 
 -- what an idle log that is not refused prints: `0 - - - n -` or `0 - - 0 n -`, by whether the opening leaks under strong, where n states are possible
 -- before any event, and `end 0 0 0`
@@ -72,13 +73,13 @@ opening-size {input} {t} {h} n m size =
 
 text-idle : {input t text : List ℕ} {h : Header} → Monitored input t h → length input ≡ frontSize input → Idle t h text → Output input text
 text-idle {t = t} {h = h} m e (clear {n = n} size never) = idle (record { weak = NoLeak; strong = NoLeak }) n m e record {
-  weak = words-exactly Weak _ _ _ [] none (none-words t h Weak (m .closed));
-  strong = words-exactly Strong _ _ _ [] none (none-words t h Strong never);
+  weak = words-exactly Weak _ _ [] none (none-words t h Weak (m .closed));
+  strong = words-exactly Strong _ _ [] none (none-words t h Strong never);
   size = opening-size n m size;
 }
 text-idle {t = t} {h = h} m e (leaks {n = n} size x) = idle (record { weak = NoLeak; strong = Leak 0 }) n m e record {
-  weak = words-exactly Weak _ _ _ [] none (none-words t h Weak (m .closed));
-  strong = words-exactly Strong _ _ _ [] (leak 0) (leak-words t h Strong x);
+  weak = words-exactly Weak _ _ [] none (none-words t h Weak (m .closed));
+  strong = words-exactly Strong _ _ [] (leak 0) (leak-words t h Strong x);
   size = opening-size n m size;
 }
 

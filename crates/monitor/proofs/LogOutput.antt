@@ -12,7 +12,7 @@ use Rattle.automaton.specs.Run.{automatonOf, Sound}
 use Rattle.automaton.specs.declared.Header.{Header}
 use Rattle.encoding.specs.Decoding.{Outcome, Decoding}
 use Rattle.opacity.specs.declared.Notion.the-variants.{Weak}
-use Rattle.opacity.specs.Secrets.{noFurther, secretsOf, secretAt}
+use Rattle.opacity.specs.Secrets.{own, noFurther, secretsOf, secretAt}
 use Rattle.opacity.specs.Verdicts.{leak, Tells}
 use Rattle.verifier.proofs.Growing.{grown-limits}
 use Rattle.enforcer.specs.declared.Enforcer.{Enforcer}
@@ -188,16 +188,16 @@ fresh-within t h m so f = record {
 
 no-secret : (t : List ℕ) (h : Header) (s : Enforcer) → enforcers.GrownOn Weak t h [] s → OpeningLeak Weak t h → ⊥
 no-secret t h s g opens =
-    let safe : Safe Weak (automatonOf t h) (h .secret) (h .k) [] 0 =
-    subst (λ (l : List ℕ). Safe Weak (automatonOf t h) (h .secret) (h .k) l 0) (take-nil {A = ℕ} (0 - s .count)) (g .queue .longest .safe .each 0 (omega arith)) in
+    let safe : Safe Weak (automatonOf t h) (own h) [] 0 =
+    subst (λ (l : List ℕ). Safe Weak (automatonOf t h) (own h) l 0) (take-nil {A = ℕ} (0 - s .count)) (g .queue .longest .safe .each 0 (omega arith)) in
     safe 0 (omega arith) (omega arith) (opens .sure)
 
 -- where a start with no further secret is refused by 8, it is the automaton's own that opens as leak 0
 secret-open : (t : List ℕ) (h : Header) (s : Enforcer) → Starting t h noFurther Weak (not-started 8) s → OpeningLeak Weak t h
 secret-open t h s (Starting.initial-leak so allowed opens out) =
-    let own : opens .number ≡ 0 = omega (arith, opens .given) in
-    let tells : Tells Weak (automatonOf t h) (h .secret) (h .k) [] (leak 0) =
-    subst (λ (i : ℕ). Tells Weak (automatonOf t h) (secretAt (secretsOf h noFurther) i .states) (secretAt (secretsOf h noFurther) i .k) [] (leak 0)) own (opens .tells) in
+    let first : opens .number ≡ 0 = omega (arith, opens .given) in
+    let tells : Tells Weak (automatonOf t h) (own h) [] (leak 0) =
+    subst (λ (i : ℕ). Tells Weak (automatonOf t h) (secretAt (secretsOf h noFurther) i) [] (leak 0)) first (opens .tells) in
     record { within = tells .within; reached = tells .reached; sure = tells .sure }
 
 refuses : {input t : List ℕ} {h : Header} {m : Monitor} {n : ℕ} → Opening input (opening.refused n) t h m → Refused input n

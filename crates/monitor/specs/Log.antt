@@ -12,6 +12,7 @@ use Rattle.encoding.specs.Decoding.{accept, refuse}
 use Rattle.opacity.specs.declared.Notion.{Notion}
 use Rattle.opacity.specs.declared.Notion.the-variants.{Weak}
 use Rattle.opacity.specs.declared.Verdicts.{Verdicts}
+use Rattle.opacity.specs.Secrets.{own}
 use Rattle.opacity.specs.Verdicts.{LeakAt}
 use Rattle.report.specs.Text.{idleLine, refusedLog, endLine}
 use Rattle.monitor.specs.Opening.{frontSize, RightOwn, Decodes}
@@ -23,7 +24,7 @@ eventsOf input = take 4294967295 (drop (frontSize input) input)
 
 -- the empty list gives leak 0, under a notion; under weak it is 01's Open secret
 abbrev pub OpeningLeak : Notion → List ℕ → Header → Type 0
-OpeningLeak notion t h = LeakAt notion (automatonOf t h) (h .secret) (h .k) [] 0
+OpeningLeak notion t h = LeakAt notion (automatonOf t h) (own h) [] 0
 
 -- a log that is refused, in this order: 1, those of the encoding (01: description), 8. (01's 11 is given no more: 02, S-4)
 pub data Refused (input : List ℕ) : ℕ → Type 0 where

@@ -8,6 +8,7 @@ use Rattle.automaton.specs.declared.Header.{Header}
 use Rattle.refusal.specs.declared.Refusal.the-variants.{NotObservable, Incompatible}
 use Rattle.opacity.specs.declared.Notion.the-variants.{Weak}
 use Rattle.opacity.specs.declared.Verdicts.{Verdicts}
+use Rattle.opacity.specs.Secrets.{own}
 use Rattle.enforcer.specs.SafePrefix.{Safe}
 use Rattle.enforcer.specs.Queues.{Longest}
 use Rattle.report.specs.Text.{acceptedLine, refusedLine}
@@ -16,7 +17,7 @@ use Rattle.monitor.specs.declared.Monitor.{Monitor}
 
 -- the first r events of the trace are its longest safe prefix (01: safe under weak)
 abbrev pub Released : List ℕ → Header → List ℕ → ℕ → Type 0
-Released t h trace r = Longest (Safe Weak (automatonOf t h) (h .secret) (h .k)) trace r
+Released t h trace r = Longest (Safe Weak (automatonOf t h) (own h)) trace r
 
 -- from the events accepted so far and how many of them are released: for each event byte its line, and in the end the events accepted and how many are released
 pub data Prints (t : List ℕ) (h : Header) : (trace : List ℕ) (released : ℕ) (bytes text after : List ℕ) (released′ : ℕ) → Type 0 where

@@ -9,7 +9,7 @@ use Rattle.automaton.specs.declared.Header.{Header}
 use Rattle.opacity.specs.declared.Notion.the-variants.{Weak, Strong}
 use Rattle.opacity.specs.declared.Verdicts.{Verdicts}
 use Rattle.verifier.specs.declared.Judgement.{Judgement}
-use Rattle.opacity.specs.Secrets.{noFurther}
+use Rattle.opacity.specs.Secrets.{own, noFurther}
 use Rattle.opacity.specs.Verdicts.{stepsOf, Exactly}
 use Rattle.verifier.specs.Replies as verifier
 use Rattle.verifier.specs.Replies.{noLeaks, OthersNoLeak}
@@ -42,8 +42,8 @@ encodingOf log = take (frontSize log - 2) (drop 2 log)
 
 -- the verdicts of a trace for the automaton's own secret, the one secret of a log (02, S-6), and the number of possible states, are those of the definition
 pub record RightOwn (t : List ℕ) (h : Header) (trace : List ℕ) (v : Verdicts) (n : ℕ) : Type 0 where
-  pub weak : Exactly Weak (automatonOf t h) (h .secret) (h .k) trace (stepsOf (v .weak))
-  pub strong : Exactly Strong (automatonOf t h) (h .secret) (h .k) trace (stepsOf (v .strong))
+  pub weak : Exactly Weak (automatonOf t h) (own h) trace (stepsOf (v .weak))
+  pub strong : Exactly Strong (automatonOf t h) (own h) trace (stepsOf (v .strong))
   pub size : RightSize (automatonOf t h) trace n
 
 -- a fresh monitor: the verdicts of the empty trace, with no leak in the places of further secrets, and its number of possible states; a fresh estimator and

@@ -47,6 +47,7 @@ use Rattle.opacity.proofs.Numbering.{allowed-not-large}
 use Rattle.opacity.proofs.Exactness.{in-words, exactly}
 use Rattle.verifier.proofs.Agreed.{alike-tells, sizes-agree, same-tells}
 use Rattle.enforcer.specs.SafePrefix.{SafeForAll}
+use Rattle.lists.specs.Calls.{done, next}
 use Rattle.enforcer.specs.Queues.{Longest}
 use Rattle.enforcer.specs.Enforcers.{secretsIn}
 use Rattle.enforcer.specs.Offerings.{Begun, Said, refused, released, not-started, started, OpensAsLeak, Starting, Offering}
@@ -54,8 +55,6 @@ use Rattle.enforcer.specs.Offers.{
   Offer,
   Offered,
   Offers,
-  done,
-  next,
   takenBy,
   countBy,
   TurnedBack,
@@ -132,9 +131,9 @@ module _ (t : List ℕ) (h h′ : Header) (like : Alike (automatonOf t h) (autom
           taken = no-events _ _;
           says = λ c. ap refused (one-number t h′ b (o′ .byte) (o′ .output) m n (turned-too m (offered .bytes) y) z);
         }
-    judged-alike (refused m) (released f i) y z = absurd (not-both t h′ b (o′ .byte) (o′ .output) m (turned-too m (offered .bytes) y) (z .0))
-    judged-alike (released f i) (refused n) y z = absurd (not-both t h′ b (o′ .byte) (o′ .output) n z (through-too (offered .bytes) (y .0)))
-    judged-alike (released f i) (released g j) y z = record { taken = taken; says = λ c. ap₂ released c sizes }
+    judged-alike (refused m) (released f) y z = absurd (not-both t h′ b (o′ .byte) (o′ .output) m (turned-too m (offered .bytes) y) (z .0))
+    judged-alike (released f) (refused n) y z = absurd (not-both t h′ b (o′ .byte) (o′ .output) n z (through-too (offered .bytes) (y .0)))
+    judged-alike (released f) (released g) y z = record { taken = taken; says = λ c. ap₂ (λ (m n : ℕ). released (record { count = m; size = n })) c sizes }
       where
         one : SameByte t h h′ (o .byte) (o′ .byte) → Same (o .byte ∷ []) (o′ .byte ∷ [])
         one (of-event e) = one-event _ _ (o .byte) (o′ .byte) e
@@ -143,8 +142,8 @@ module _ (t : List ℕ) (h h′ : Header) (like : Alike (automatonOf t h) (autom
         taken : Same (o .byte ∷ []) (o′ .byte ∷ [])
         taken = one (offered .bytes)
 
-        sizes : i ≡ j
-        sizes = sizes-agree _ _ _ _ (alike-agree _ _ like _ _ (join-events _ _ a b _ _ x taken)) i j (y .1) (z .1)
+        sizes : f .size ≡ g .size
+        sizes = sizes-agree _ _ _ _ (alike-agree _ _ like _ _ (join-events _ _ a b _ _ x taken)) (f .size) (g .size) (y .1) (z .1)
 
   module _ (notion : Notion) (f : Further) (secret : h .secret ≡ h′ .secret) (k : h .k ≡ h′ .k) where
     -- enforcers of traces with the same events behind them have released as many
@@ -347,12 +346,12 @@ module _ (t : List ℕ) (h : Header) (symbols : List ℕ) (g : SameSymbols (auto
   offering-to self byte output r after left (Offering.incompatible so li wide ob nobody) =
       Offering.incompatible (sound-to so) li wide (same-observable t h other g byte .0 ob) (λ notion trace x.
       impossible-agree _ _ _ _ (same-agree _ _ g (trace ++ byte ∷ [])) (nobody notion trace (same-grown _ _ g notion (secretsIn h self) trace self .1 x)))
-  offering-to self byte output r after left (Offering.accepted {size = n} so li wide ob same la bal front rest within exact) =
+  offering-to self byte output r after left (Offering.accepted {r = released-now} so li wide ob same la bal front rest within exact) =
       Offering.accepted (sound-to so) li wide (same-observable t h other g byte .0 ob) same la bal front rest within (λ notion trace x.
       let y = exact notion trace (same-grown _ _ g notion (secretsIn h self) trace self .1 x) in
       record {
         possible = possible-agree _ _ _ _ (same-agree _ _ g (trace ++ byte ∷ [])) (y .possible);
-        size = size-agree _ _ _ _ (same-agree _ _ g (trace ++ byte ∷ [])) n (y .size);
+        size = size-agree _ _ _ _ (same-agree _ _ g (trace ++ byte ∷ [])) (released-now .size) (y .size);
         grown = same-grown _ _ g notion (secretsIn h after) (trace ++ byte ∷ []) after .0 (y .grown);
       })
 

@@ -10,13 +10,13 @@ use Rattle.automaton.specs.declared.Header.{Header}
 use Rattle.opacity.specs.declared.Notion.{Notion}
 use Rattle.opacity.specs.declared.Secret.{Secret}
 use Rattle.opacity.specs.declared.Further.{Further}
-use Rattle.verifier.specs.declared.SecretVerdicts.{SecretVerdicts}
+use Rattle.verifier.specs.declared.Judgement.{Judgement}
 use Rattle.verifier.specs.declared.Estimator.{Estimator}
 use Rattle.opacity.specs.Secrets.{secretsOf, secretAt, ForEach, largest, clearedOf, Allowed}
 use Rattle.opacity.specs.Verdicts.{Steps, none, leak, Tells}
 use Rattle.verifier.specs.Estimators as estimators
 use Rattle.verifier.specs.Replies as verifier
-use Rattle.verifier.specs.Replies.{Opening, toldEach, chosenEach, stepsEach}
+use Rattle.verifier.specs.Replies.{Opening, findings, chosenEach, stepsEach}
 use Rattle.opacity.proofs.Numbering.{look-back-small}
 use Rattle.opacity.proofs.Exactness.{clear-unsure}
 use Rattle.verifier.proofs.PastCount.{past-count, past-secrets, past-allowed, past-large, withFurther, past-limits, past-grown}
@@ -51,23 +51,23 @@ module _ (notion : Notion) (p : Automaton) (secret : Secret) where
   opens-none (leak l) t h = absurd (omega (arith, t .within))
 
 -- what was given may be given
-pub opened-given : (t : List ℕ) (h : Header) (f : Further) (v : SecretVerdicts) (size : ℕ) (e : Estimator) → Opening t h f (verifier.verdicts (toldEach f v) size) e
+pub opened-given : (t : List ℕ) (h : Header) (f : Further) (j : Judgement) (e : Estimator) → Opening t h f (verifier.verdicts (findings f j)) e
     → (h .k ≤ 15) × Allowed f
-opened-given t h f v size e (Opening.opened so allowed same li many within x) = (so .back, allowed)
+opened-given t h f j e (Opening.opened so allowed same li many within x) = (so .back, allowed)
 
-module _ (t : List ℕ) (h : Header) (f : Further) (notion : Notion) (v : SecretVerdicts) (size : ℕ) (e : Estimator) (w : ℕ)
-    (most : LargestWait (secretsOf h f) (stepsEach f (chosenEach notion v)) w) where
+module _ (t : List ℕ) (h : Header) (f : Further) (notion : Notion) (j : Judgement) (e : Estimator) (w : ℕ)
+    (most : LargestWait (secretsOf h f) (stepsEach f (chosenEach notion (j .verdicts))) w) where
   abbrev says : ℕ → Steps
-  says i = getD (stepsEach f (chosenEach notion v)) i none
+  says i = getD (stepsEach f (chosenEach notion (j .verdicts))) i none
 
   abbrev at : ℕ → Secret
   at i = secretAt (secretsOf h f) i
 
   -- the verdicts by the notion
-  chosen-tells : verifier.Exact t h (secretsOf h f) [] (toldEach f v) size e → ForEach (secretsOf h f) (λ i c. Tells notion (automatonOf t h) c [] (says i))
-  chosen-tells x i given = subst (Tells notion (automatonOf t h) (at i) []) (chosen-told notion f v i) (x .tells notion i given)
+  chosen-tells : verifier.Exact t h (secretsOf h f) [] (findings f j) e → ForEach (secretsOf h f) (λ i c. Tells notion (automatonOf t h) c [] (says i))
+  chosen-tells x i given = subst (Tells notion (automatonOf t h) (at i) []) (chosen-told notion f (j .verdicts) i) (x .tells notion i given)
 
-  pub start-open : (s : Enforcer) → Opening t h f (verifier.verdicts (toldEach f v) size) e → (w ≡ 0 → ⊥) → s .count ≡ 255 → Starting t h f notion (not-started 8) s
+  pub start-open : (s : Enforcer) → Opening t h f (verifier.verdicts (findings f j)) e → (w ≡ 0 → ⊥) → s .count ≡ 255 → Starting t h f notion (not-started 8) s
   start-open s (Opening.opened so allowed same li many within x) some c =
       Starting.initial-leak so allowed (go (all-or-some (λ i. waitOf (at i .k) (says i)) 0 (length (secretsOf h f)))) (unusable s c)
     where
@@ -95,7 +95,7 @@ module _ (t : List ℕ) (h : Header) (f : Further) (notion : Notion) (v : Secret
             (record { each = λ i given. safe-wait notion (automatonOf t h) _ [] none (tells i given) 0 (omega arith) (omega arith) });
       }
 
-  pub start-ready : (pending waits : List ℕ) → Padded 16 0 pending → Padded 16 0 waits → Opening t h f (verifier.verdicts (toldEach f v) size) e → w ≡ 0
+  pub start-ready : (pending waits : List ℕ) → Padded 16 0 pending → Padded 16 0 waits → Opening t h f (verifier.verdicts (findings f j)) e → w ≡ 0
       → Starting t h f notion started (record { estimator = e; notion = notion; count = 0; pending = pending; waits = waits })
   start-ready pending waits padded padded′ (Opening.opened so allowed same li many within x) over =
       Starting.ready so allowed each-none same (fresh-grown (secretsOf h (e .further)) pending waits padded padded′ li (x .grown)

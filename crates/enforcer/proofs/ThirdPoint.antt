@@ -62,12 +62,12 @@ module _ (notion : Notion) (t : List ℕ) (h : Header) (f : Further) (sound : So
   one trace s b output r m left g (Offering.not-observable so li wide never) = turned trace s b output left 6 g (TurnedBack.not-observable wide never)
   one trace s b output r m left g (Offering.incompatible so li wide ob none) =
       turned trace s b output left 7 g (TurnedBack.incompatible wide ob (none notion trace (held notion t h f trace s g)))
-  one trace s b output r m left g (Offering.accepted {f = c} {size = n} so li wide ob same after bal front rest within exact) =
+  one trace s b output r m left g (Offering.accepted {r = c} so li wide ob same after bal front rest within exact) =
       let x = exact notion trace (held notion t h f trace s g) in
       record {
-        judged = (record { room = wide; observable = ob; possible = x .possible }, right-size (automatonOf t h) _ n within (x .size));
+        judged = (record { room = wide; observable = ob; possible = x .possible }, right-size (automatonOf t h) _ (c .size) within (x .size));
         after = after-held notion t h f (trace ++ b ∷ []) m (same ∙ g .same) (x .grown);
-        passes = passes-accepted (SafeForAll notion (automatonOf t h) (secretsOf h f)) trace (s .count) (s .pending) (s .waits) b c n output left (m .count)
+        passes = passes-accepted (SafeForAll notion (automatonOf t h) (secretsOf h f)) trace (s .count) (s .pending) (s .waits) b c output left (m .count)
             (g .grown .queue) bal front;
       }
 

@@ -3,6 +3,7 @@ use mathlib.Core.Path.{_≡_}
 use mathlib.Core.List.{List, [], _∷_, _++_}
 use Prim.Native.Nat.{ℕ, suc, _+_, _≤_, _<_}
 use lib.ListN.{length, take}
+use Rattle.lists.specs.Calls.{Chain, joined, total, Each}
 use Rattle.automaton.specs.Run.{automatonOf, Possible, Impossible, Observable}
 use Rattle.automaton.specs.declared.Header.{Header}
 use Rattle.opacity.specs.declared.Notion.{Notion}
@@ -21,12 +22,7 @@ pub record Offer : Type 0 where
   pub says : Said
   pub left : List ℕ
 
--- calls, one after another, each on the state that the one before it handed back
-pub data Chain {State : Type 0} (Step : State → Offer → State → Type 0) : State → List Offer → State → Type 0 where
-  done : {s : State} → Chain Step s [] s
-  next : {s m e : State} {o : Offer} {os : List Offer} → Step s o m → Chain Step m os e → Chain Step s (o ∷ os) e
-
--- the offers to an enforcer, by the contract of `offer`
+-- one offer, by the contract of `offer`; and offers, one after another, each to the enforcer that the one before it handed back
 abbrev pub Offered : List ℕ → Header → Enforcer → Offer → Enforcer → Type 0
 Offered t h s o m = Offering t h s (o .byte) (o .output) (o .says) m (o .left)
 
@@ -35,26 +31,32 @@ Offers t h s os e = Chain (Offered t h) s os e
 
 abbrev pub takenBy : Said → ℕ → List ℕ
 takenBy (refused n) b = []
-takenBy (released f size) b = b ∷ []
+takenBy (released r) b = b ∷ []
+
+abbrev pub takenOf : Offer → List ℕ
+takenOf o = takenBy (o .says) (o .byte)
 
 -- the bytes whose offers were not refused
 abbrev pub acceptedOf : List Offer → List ℕ
-acceptedOf [] = []
-acceptedOf (o ∷ os) = takenBy (o .says) (o .byte) ++ acceptedOf os
+acceptedOf os = joined takenOf os
 
 abbrev pub countBy : Said → ℕ
 countBy (refused n) = 0
-countBy (released f size) = f
+countBy (released r) = r .count
+
+abbrev pub countOf : Offer → ℕ
+countOf o = countBy (o .says)
 
 -- the sum of the released counts
 abbrev pub releasedCount : List Offer → ℕ
-releasedCount [] = 0
-releasedCount (o ∷ os) = countBy (o .says) + releasedCount os
+releasedCount os = total countOf os
 
 -- the symbols released: the front of each accepting offer's output, joined
+abbrev pub releasedBy : Offer → List ℕ
+releasedBy o = take (countOf o) (o .left)
+
 abbrev pub releasedOf : List Offer → List ℕ
-releasedOf [] = []
-releasedOf (o ∷ os) = take (countBy (o .says)) (o .left) ++ releasedOf os
+releasedOf os = joined releasedBy os
 
 -- the refusal table turns a byte back, with this number, after these accepted symbols
 pub data TurnedBack (t : List ℕ) (h : Header) (trace : List ℕ) (byte : ℕ) (output : List ℕ) : ℕ → Type 0 where
@@ -72,18 +74,17 @@ pub record LetThrough (t : List ℕ) (h : Header) (trace : List ℕ) (byte : ℕ
 -- possible states is the one of the definition, after all accepted symbols
 abbrev pub Answered : List ℕ → Header → List ℕ → Offer → Said → Type 0
 Answered t h trace o (refused n) = TurnedBack t h trace (o .byte) (o .output) n
-Answered t h trace o (released f size) = LetThrough t h trace (o .byte) (o .output) × RightSize (automatonOf t h) (trace ++ o .byte ∷ []) size
+Answered t h trace o (released r) = LetThrough t h trace (o .byte) (o .output) × RightSize (automatonOf t h) (trace ++ o .byte ∷ []) (r .size)
 
 -- each offer of the list, judged with the bytes accepted before it
-pub data Each (Judged : List ℕ → Offer → Type 0) : List ℕ → List Offer → Type 0 where
-  end : {trace : List ℕ} → Each Judged trace []
-  more : {trace : List ℕ} {o : Offer} {os : List Offer} → Judged trace o → Each Judged (trace ++ takenBy (o .says) (o .byte)) os → Each Judged trace (o ∷ os)
+abbrev pub AllAnswered : List ℕ → Header → List ℕ → List Offer → Type 0
+AllAnswered t h trace os = Each takenOf (λ trace o. Answered t h trace o (o .says)) trace os
 
 -- the mission's third point, after the offers to an enforcer that was started with these further secrets (02, S-6)
 pub record Promise (notion : Notion) (t : List ℕ) (h : Header) (f : Further) (os : List Offer) (e : Enforcer) : Type 0 where
   -- the accepted symbols (01: events) are exactly the offered bytes that the refusal table does not turn back; the others got the number that the table
   -- gives. Each accepting answer says how many states are then possible (02, S-5)
-  pub accepted : Each (λ trace o. Answered t h trace o (o .says)) [] os
+  pub accepted : AllAnswered t h [] os
   -- the symbols released so far are a prefix of the accepted ones, in their order
   pub prefix : releasedOf os ≡ take (releasedCount os) (acceptedOf os)
   -- nobody who reads only the released symbols can be sure of any secret, each by its own K: in 01's words, and by runs in hand

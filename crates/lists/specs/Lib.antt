@@ -1,1 +1,2 @@
--- No contract cites a definition of `lists`.
+-- What the crates above cite of lists.
+pub mod Calls

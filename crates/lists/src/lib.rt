@@ -1,1 +1,1 @@
-// No code: laws of plain lists, which know no automaton.
+// No code: lists of calls over any state (specs/Calls), and laws of plain lists, which know no automaton.

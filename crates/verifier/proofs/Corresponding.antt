@@ -6,6 +6,7 @@ use mathlib.Core.Logic.{inl, inr, _↔_}
 use Prim.Native.Nat.{ℕ, suc, _<_, _^_}
 use native.Mathlib.Omega.{arith}
 use lib.ListN.{length, getD}
+use Rattle.lists.specs.Calls.{done, end, more}
 use Rattle.automaton.specs.Run.{automatonOf, Sound}
 use Rattle.automaton.specs.Symbols.{
   WithoutSymbols,
@@ -36,6 +37,7 @@ use Rattle.opacity.specs.Verdicts.{Steps, none, Exactly}
 use Rattle.verifier.specs.Estimators.{GrownOn}
 use Rattle.verifier.specs.Replies.{
   Told,
+  Findings,
   toldAt,
   Said,
   refused,
@@ -52,7 +54,7 @@ use Rattle.verifier.specs.Replies.{
   turned-back,
   accepted-by,
 }
-use Rattle.verifier.specs.Calls.{Call, Calls, done, takenBy, Right, Answered, AllAnswered, end, more}
+use Rattle.verifier.specs.Calls.{Call, Calls, takenBy, Right, Answered, AllAnswered}
 use Rattle.verifier.specs.Paired.{SameCalled, Corresponds, CallsFollow}
 use Rattle.verifier.proofs.Agreed.{alike-words, sizes-agree, same-tells, same-grown}
 use Rattle.opacity.proofs.Numbering.{allowed-not-large}
@@ -82,17 +84,17 @@ module _ (t : List ℕ) (h h′ : Header) (like : Alike (automatonOf t h) (autom
       → Exactly notion (automatonOf t h′) c b v′ → v ≡ v′
   exactly-alike notion c a b v v′ x y z = sym (z v .1 (alike-words _ _ like a b x c notion v .0 (y v .0 refl)))
 
-  right-alike : (a b : List ℕ) (vs : List Told) (n : ℕ) (vs′ : List Told) (n′ : ℕ) → Same a b → Right t h given a vs n → Right t h′ given b vs′ n′
-      → verdicts vs n ≡ verdicts vs′ n′
-  right-alike a b vs n vs′ n′ x y z =
-      let size = sizes-agree _ _ a b (alike-agree _ _ like a b x) n n′ (y .size) (z .size) in
-      let many : length vs ≡ length vs′ = y .as-many ∙ ap length secrets ∙ sym (z .as-many) in
-      let others : (notion : Notion) → ForEach (secretsOf h given) (λ i c. Exactly notion (automatonOf t h′) c b (toldAt notion vs′ i)) =
-      λ notion. subst (λ (cs : List Secret). ForEach cs (λ i c. Exactly notion (automatonOf t h′) c b (toldAt notion vs′ i))) (sym secrets) (z .each notion) in
-      let each = same-told vs vs′ many (λ notion i less.
+  right-alike : (a b : List ℕ) (j : Findings) (j′ : Findings) → Same a b → Right t h given a j → Right t h′ given b j′
+      → verdicts j ≡ verdicts j′
+  right-alike a b j j′ x y z =
+      let size = sizes-agree _ _ a b (alike-agree _ _ like a b x) (j .size) (j′ .size) (y .size) (z .size) in
+      let many : length (j .each) ≡ length (j′ .each) = y .as-many ∙ ap length secrets ∙ sym (z .as-many) in
+      let others : (notion : Notion) → ForEach (secretsOf h given) (λ i c. Exactly notion (automatonOf t h′) c b (toldAt notion (j′ .each) i)) =
+      λ notion. subst (λ (cs : List Secret). ForEach cs (λ i c. Exactly notion (automatonOf t h′) c b (toldAt notion (j′ .each) i))) (sym secrets) (z .each notion) in
+      let each = same-told (j .each) (j′ .each) many (λ notion i less.
       let g : i < length (secretsOf h given) = omega (arith, y .as-many) in
       exactly-alike notion (secretAt (secretsOf h given) i) a b _ _ x (y .each notion i g) (others notion i g)) in
-      cc
+      ap₂ (λ (vs : List Told) (n : ℕ). verdicts (record { each = vs; size = n })) each size
 
   -- one pair of calls, after traces with the same events behind them
   record OnePair (x y : ℕ) (r r′ : Said) : Type 0 where
@@ -104,21 +106,21 @@ module _ (t : List ℕ) (h h′ : Header) (like : Alike (automatonOf t h) (autom
     one-more e = join-events _ _ a b _ _ s (one-event _ _ x y e)
 
     one-pair : SameByte t h h′ x y → (r r′ : Said) → Answered t h given a x r → Answered t h′ given b y r′ → OnePair x y r r′
-    one-pair (of-none never never′) (verdicts vs size) r′ f f′ = absurd (never (f .0))
-    one-pair (of-none never never′) (refused m) (verdicts vs size) f f′ = absurd (never′ (f′ .0))
+    one-pair (of-none never never′) (verdicts j) r′ f f′ = absurd (never (f .0))
+    one-pair (of-none never never′) (refused m) (verdicts j) f f′ = absurd (never′ (f′ .0))
     one-pair (of-none never never′) (refused m) (refused n) (inr f) f′ = absurd (never (f .1))
     one-pair (of-none never never′) (refused m) (refused n) (inl f) (inr f′) = absurd (never′ (f′ .1))
     one-pair (of-none never never′) (refused m) (refused n) (inl f) (inl f′) = record { says = ap refused (f .0 ∙ sym (f′ .0)); taken = no-events _ _ }
     one-pair (of-event e) (refused m) r′ (inl f) f′ = absurd (f .1 (both-observable t h h′ (like .same) x y e .0))
     one-pair (of-event e) (refused m) (refused n) (inr f) (inl f′) = absurd (f′ .1 (both-observable t h h′ (like .same) x y e .1))
     one-pair (of-event e) (refused m) (refused n) (inr f) (inr f′) = record { says = ap refused (f .0 ∙ sym (f′ .0)); taken = no-events _ _ }
-    one-pair (of-event e) (refused m) (verdicts vs size) (inr f) f′ =
+    one-pair (of-event e) (refused m) (verdicts j) (inr f) f′ =
         absurd (alike-impossible _ _ like _ _ (one-more e) .0 (f .2) (f′ .1 .run) (f′ .1 .compatible))
-    one-pair (of-event e) (verdicts vs size) (refused n) f (inl f′) = absurd (f′ .1 (both-observable t h h′ (like .same) x y e .1))
-    one-pair (of-event e) (verdicts vs size) (refused n) f (inr f′) =
+    one-pair (of-event e) (verdicts j) (refused n) f (inl f′) = absurd (f′ .1 (both-observable t h h′ (like .same) x y e .1))
+    one-pair (of-event e) (verdicts j) (refused n) f (inr f′) =
         absurd (alike-impossible _ _ like _ _ (one-more e) .1 (f′ .2) (f .1 .run) (f .1 .compatible))
-    one-pair (of-event e) (verdicts vs size) (verdicts vs′ size′) f f′ =
-        record { says = right-alike _ _ vs size vs′ size′ (one-more e) (f .2) (f′ .2); taken = one-event _ _ x y e }
+    one-pair (of-event e) (verdicts j) (verdicts j′) f f′ =
+        record { says = right-alike _ _ j j′ (one-more e) (f .2) (f′ .2); taken = one-event _ _ x y e }
 
   all-pairs : (a b : List ℕ) (cs cs′ : List Call) → Same a b → Pairs (SameCalled t h h′) cs cs′ → AllAnswered t h given a cs → AllAnswered t h′ given b cs′
       → Corresponds (automatonOf t h) (automatonOf t h′) cs cs′
@@ -131,14 +133,14 @@ module _ (t : List ℕ) (h h′ : Header) (like : Alike (automatonOf t h) (autom
 
   -- THE THEOREM of S-2 for lists of calls: fresh estimators that were not refused have the same opening verdicts and number of possible states, and what
   -- follows corresponds
-  pub alike-calls : (vs : List Told) (n : ℕ) (vs′ : List Told) (n′ : ℕ) (s s′ : Estimator) (cs cs′ : List Call) (e e′ : Estimator)
-      → Opening t h given (verdicts vs n) s → Opening t h′ given (verdicts vs′ n′) s′
+  pub alike-calls : (j : Findings) (j′ : Findings) (s s′ : Estimator) (cs cs′ : List Call) (e e′ : Estimator)
+      → Opening t h given (verdicts j) s → Opening t h′ given (verdicts j′) s′
       → Pairs (SameCalled t h h′) cs cs′ → Calls t h s cs e → Calls t h′ s′ cs′ e′
-      → (verdicts vs n ≡ verdicts vs′ n′) × Corresponds (automatonOf t h) (automatonOf t h′) cs cs′
-  alike-calls vs n vs′ n′ s s′ cs cs′ e e′ o o′ pairs f f′ =
-      let x = second-point t h given vs n s cs e o f in
-      let y = second-point t h′ given vs′ n′ s′ cs′ e′ o′ f′ in (
-        right-alike [] [] vs n vs′ n′ (no-events _ _) (x .opening) (y .opening),
+      → (verdicts j ≡ verdicts j′) × Corresponds (automatonOf t h) (automatonOf t h′) cs cs′
+  alike-calls j j′ s s′ cs cs′ e e′ o o′ pairs f f′ =
+      let x = second-point t h given j s cs e o f in
+      let y = second-point t h′ given j′ s′ cs′ e′ o′ f′ in (
+        right-alike [] [] j j′ (no-events _ _) (x .opening) (y .opening),
         all-pairs [] [] cs cs′ (no-events _ _) pairs (x .answered) (y .answered),
       )
 
@@ -162,11 +164,11 @@ module _ (t : List ℕ) (h h′ : Header) (like : Alike (automatonOf t h) (autom
       go (opened so al same li n i f) (Opening.malformed bad out) = absurd (bad (sounds .0 so))
       go (opened so al same li n i f) (Opening.too-many-secrets so′ many out) = absurd (omega (arith, al .few))
       go (opened so al same li n i f) (Opening.look-back-too-large so′ few large out) = absurd (allowed-not-large given al large)
-      go (opened {vs = vs} {size = n} so al same li many i f) (opened {vs = vs′} {size = n′} so′ al′ same′ li′ many′ i′ f′) =
-          alike-calls vs n vs′ n′ s s′ [] [] s s′ (opened so al same li many i f) (opened so′ al′ same′ li′ many′ i′ f′) no-more done done .0
+      go (opened {j = j} so al same li many i f) (opened {j = j′} so′ al′ same′ li′ many′ i′ f′) =
+          alike-calls j j′ s s′ [] [] s s′ (opened so al same li many i f) (opened so′ al′ same′ li′ many′ i′ f′) no-more done done .0
 
-opened-sound : (t : List ℕ) (h : Header) (given : Further) (vs : List Told) (size : ℕ) (s : Estimator) → Opening t h given (verdicts vs size) s → Sound t h
-opened-sound t h given vs size s (opened so al same li n i x) = so
+opened-sound : (t : List ℕ) (h : Header) (given : Further) (j : Findings) (s : Estimator) → Opening t h given (verdicts j) s → Sound t h
+opened-sound t h given j s (opened so al same li n i x) = so
 
 -- so where no two observable events share a symbol: fresh estimators with symbols and without are answered alike, and what is then accepted is the symbols
 -- of what is without symbols
@@ -178,35 +180,35 @@ module _ (t : List ℕ) (h h′ : Header) (d : Distinct (automatonOf t h)) (n : 
       let so′ = own-sound t h h′ same n (omega (arith, same .observable)) k so in
       alike-openings t h h′ (distinct-alike _ _ d n same) secret k given (λ x. so′, λ x. so) r r′ s s′ o o′
 
-  follow : (vs : List Told) (size : ℕ) (s s′ : Estimator) → Opening t h given (verdicts vs size) s → Opening t h′ given (verdicts vs size) s′ → CallsFollow t h h′ s s′
-  follow vs size s s′ o o′ cs cs′ e e′ pairs f f′ =
-      let x = alike-calls t h h′ (distinct-alike _ _ d n same) secret k given vs size vs size s s′ cs cs′ e e′ o o′ pairs f f′ in
+  follow : (j : Findings) (s s′ : Estimator) → Opening t h given (verdicts j) s → Opening t h′ given (verdicts j) s′ → CallsFollow t h h′ s s′
+  follow j s s′ o o′ cs cs′ e e′ pairs f f′ =
+      let x = alike-calls t h h′ (distinct-alike _ _ d n same) secret k given j j s s′ cs cs′ e e′ o o′ pairs f f′ in
       (x .1, spelled-own _ _ _ _ n same (x .1 .accepted) .1)
 
   -- the one with symbols was not refused
-  pub distinct-calls : (vs : List Told) (size : ℕ) (r′ : Said) (s s′ : Estimator) → Opening t h given (verdicts vs size) s → Opening t h′ given r′ s′
-      → (r′ ≡ verdicts vs size) × CallsFollow t h h′ s s′
-  distinct-calls vs size r′ s s′ o o′ =
-      let e = sym (distinct-openings (opened-sound t h given vs size s o) (verdicts vs size) r′ s s′ o o′) in
-      (e, follow vs size s s′ o (subst (λ (r : Said). Opening t h′ given r s′) e o′))
+  pub distinct-calls : (j : Findings) (r′ : Said) (s s′ : Estimator) → Opening t h given (verdicts j) s → Opening t h′ given r′ s′
+      → (r′ ≡ verdicts j) × CallsFollow t h h′ s s′
+  distinct-calls j r′ s s′ o o′ =
+      let e = sym (distinct-openings (opened-sound t h given j s o) (verdicts j) r′ s s′ o o′) in
+      (e, follow j s s′ o (subst (λ (r : Said). Opening t h′ given r s′) e o′))
 
   -- the one without symbols was not
-  pub distinct-calls-back : Sound t h → (r : Said) (vs : List Told) (size : ℕ) (s s′ : Estimator) → Opening t h given r s → Opening t h′ given (verdicts vs size) s′
-      → (r ≡ verdicts vs size) × CallsFollow t h h′ s s′
-  distinct-calls-back so r vs size s s′ o o′ =
-      let e = distinct-openings so r (verdicts vs size) s s′ o o′ in
-      (e, follow vs size s s′ (subst (λ (r : Said). Opening t h given r s) e o) o′)
+  pub distinct-calls-back : Sound t h → (r : Said) (j : Findings) (s s′ : Estimator) → Opening t h given r s → Opening t h′ given (verdicts j) s′
+      → (r ≡ verdicts j) × CallsFollow t h h′ s s′
+  distinct-calls-back so r j s s′ o o′ =
+      let e = distinct-openings so r (verdicts j) s s′ o o′ in
+      (e, follow j s s′ (subst (λ (r : Said). Opening t h given r s) e o) o′)
 
 -- ---- an unobservable event's symbol counts for nothing
 
 module _ (t : List ℕ) (h : Header) (symbols : List ℕ) (g : SameSymbols (automatonOf t h) (automatonOf t (relabelled h symbols))) where
   -- the secrets and the largest K are those of the header as it was
-  exact-to : (cs : List Secret) (trace : List ℕ) (vs : List Told) (n : ℕ) (s : Estimator) → Exact t h cs trace vs n s → Exact t (relabelled h symbols) cs trace vs n s
-  exact-to cs trace vs n s x =
+  exact-to : (cs : List Secret) (trace : List ℕ) (j : Findings) (s : Estimator) → Exact t h cs trace j s → Exact t (relabelled h symbols) cs trace j s
+  exact-to cs trace j s x =
       record {
         possible = possible-agree _ _ trace trace (same-agree _ _ g trace) (x .possible);
-        size = size-agree _ _ trace trace (same-agree _ _ g trace) n (x .size);
-        tells = λ notion i given. same-tells _ _ g trace (secretAt cs i) notion (toldAt notion vs i) .0 (x .tells notion i given);
+        size = size-agree _ _ trace trace (same-agree _ _ g trace) (j .size) (x .size);
+        tells = λ notion i given. same-tells _ _ g trace (secretAt cs i) notion (toldAt notion (j .each) i) .0 (x .tells notion i given);
         grown = grown-to trace s .0 (x .grown);
       }
     where
@@ -219,7 +221,7 @@ module _ (t : List ℕ) (h : Header) (symbols : List ℕ) (g : SameSymbols (auto
   opening-to f r s (Opening.look-back-too-large so few large out) =
       Opening.look-back-too-large (same-sound t h (relabelled h symbols) g refl .0 so) few large out
   opening-to f r s (opened so al same li n i x) =
-      opened (same-sound t h (relabelled h symbols) g refl .0 so) al same li n i (exact-to (secretsOf h f) [] _ _ s x)
+      opened (same-sound t h (relabelled h symbols) g refl .0 so) al same li n i (exact-to (secretsOf h f) [] _ s x)
 
   grown-back : (trace : List ℕ) (self : Estimator) → GrownOn t (relabelled h symbols) trace self → GrownOn t h trace self
   grown-back trace self x = same-grown _ _ g trace (lookBackOf h (self .further)) self .1 x
@@ -234,12 +236,12 @@ module _ (t : List ℕ) (h : Header) (symbols : List ℕ) (g : SameSymbols (auto
       (λ trace x. impossible-agree _ _ _ _ (same-agree _ _ g (trace ++ byte ∷ [])) (nobody trace (grown-back trace self x)))
   accepting-to self byte r s (accepted so li ob same after many bounded i exact) =
       accepted (same-sound t h (relabelled h symbols) g refl .0 so) li (same-observable t h (relabelled h symbols) g byte .0 ob) same after many bounded i
-      (λ trace x. exact-to (secretsOf h (self .further)) (trace ++ byte ∷ []) _ _ s (exact trace (grown-back trace self x)))
+      (λ trace x. exact-to (secretsOf h (self .further)) (trace ++ byte ∷ []) _ s (exact trace (grown-back trace self x)))
 
   accepting-by-to : (notion : Notion) (self : Estimator) (byte : ℕ) (r : SaidBy) (s : Estimator) → AcceptingBy notion t h self byte r s
       → AcceptingBy notion t (relabelled h symbols) self byte r s
   accepting-by-to notion self byte r s (turned-back x) = turned-back (accepting-to self byte _ s x)
-  accepting-by-to notion self byte r s (accepted-by {vs = vs} {size = n} m many each) =
+  accepting-by-to notion self byte r s (accepted-by {j = j} m many each) =
       accepted-by (record {
         sound = same-sound t h (relabelled h symbols) g refl .0 (m .sound);
         limits = m .limits;
@@ -247,14 +249,14 @@ module _ (t : List ℕ) (h : Header) (symbols : List ℕ) (g : SameSymbols (auto
         same = m .same;
         limits-after = m .limits-after;
         size-within = m .size-within;
-        size = λ trace x. size-agree _ _ _ _ (same-agree _ _ g (trace ++ byte ∷ [])) n (m .size trace (grown-back trace self x));
+        size = λ trace x. size-agree _ _ _ _ (same-agree _ _ g (trace ++ byte ∷ [])) (j .size) (m .size trace (grown-back trace self x));
         grown = λ trace x. same-grown _ _ g (trace ++ byte ∷ []) (lookBackOf h (s .further)) s .0 (m .grown trace (grown-back trace self x));
       }) many (λ i given.
       let v = each i given in
       let c = secretAt (secretsOf h (self .further)) i in
       record {
         bounded = v .bounded;
-        tells = λ trace x. same-tells _ _ g (trace ++ byte ∷ []) c notion (getD vs i none) .0 (v .tells trace (grown-back trace self x));
+        tells = λ trace x. same-tells _ _ g (trace ++ byte ∷ []) c notion (getD (j .each) i none) .0 (v .tells trace (grown-back trace self x));
       })
 
 module _ (t : List ℕ) (h h′ : Header) (g : SameSymbols (automatonOf t h) (automatonOf t h′)) (secret : h .secret ≡ h′ .secret) (k : h .k ≡ h′ .k) where

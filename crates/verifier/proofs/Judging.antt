@@ -30,7 +30,7 @@ use Rattle.verifier.specs.declared.Estimator.{Estimator}
 use Rattle.opacity.specs.Verdicts.{Steps, none, leak, stepsOf, Tells}
 use Rattle.opacity.specs.Secrets.{secretOf, own, secretsOf, secretAt, ForEach, lookBackOf, clearedOf, Allowed}
 use Rattle.verifier.specs.Estimators.{Limits, InLimits, Grown, GrownOn}
-use Rattle.verifier.specs.Replies.{toldOf, noneTold, noLeaks, stepsBy, toldAt, numbered, toldEach, refused, said, OthersNoLeak, Others, refused-by, verdicts-by, saidBy, OthersBy, chosen, Bounded, Opening, opened, Accepting, accepted, Moved, TellsBy, AcceptingBy, turned-back, accepted-by}
+use Rattle.verifier.specs.Replies.{FindingsBy, toldOf, noneTold, noLeaks, stepsBy, toldAt, numbered, toldEach, refused, said, OthersNoLeak, Others, refused-by, verdicts-by, saidBy, OthersBy, chosen, Bounded, Opening, opened, Accepting, accepted, Moved, TellsBy, AcceptingBy, turned-back, accepted-by}
 use Rattle.verifier.specs.Inner.{Estimated, Stepped, Found, upTo, Asks, askFor, chosenAnswer, Given, Judged, JudgedAt, JudgedAll, Opened, AcceptingAsked}
 use Rattle.verifier.specs.declared.Reply.{Reply}
 use Rattle.verifier.specs.declared.Asked.{Asked}
@@ -305,7 +305,7 @@ pub refused-of : {notion : Notion} {t : List ℕ} {h : Header} {self : Estimator
     → Accepting t h self symbol (refused n) s
 refused-of (turned-back x) = x
 
-pub accepted-of : {notion : Notion} {t : List ℕ} {h : Header} {self : Estimator} {symbol : ℕ} {vs : List Steps} {n : ℕ} {s : Estimator}
-    → AcceptingBy notion t h self symbol (verdicts-by vs n) s
-    → Moved t h self symbol n s × ForEach (secretsOf h (self .further)) (λ i c. TellsBy notion t h self symbol c (getD vs i none))
+pub accepted-of : {notion : Notion} {t : List ℕ} {h : Header} {self : Estimator} {symbol : ℕ} {j : FindingsBy} {s : Estimator}
+    → AcceptingBy notion t h self symbol (verdicts-by j) s
+    → Moved t h self symbol (j .size) s × ForEach (secretsOf h (self .further)) (λ i c. TellsBy notion t h self symbol c (getD (j .each) i none))
 accepted-of (accepted-by m as-many each) = (m, each)

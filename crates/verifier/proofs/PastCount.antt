@@ -40,9 +40,9 @@ module _ (f g : Further) (same : clearedOf f ≡ clearedOf g) where
   past-opening t h r s (Opening.malformed bad out) = Opening.malformed bad out
   past-opening t h r s (Opening.too-many-secrets so many out) = Opening.too-many-secrets so (omega (arith, past-count)) out
   past-opening t h r s (Opening.look-back-too-large so few large out) = Opening.look-back-too-large so (omega (arith, past-count)) (past-large large) out
-  past-opening t h r s (opened {vs = vs} {size = n} so allowed is li many within exact) =
+  past-opening t h r s (opened {j = j} so allowed is li many within exact) =
       opened so (past-allowed allowed) (is ∙ same) li (many ∙ ap length (past-secrets h)) within
-      (subst (λ (cs : List Secret). Exact t h cs [] vs n s) (past-secrets h) exact)
+      (subst (λ (cs : List Secret). Exact t h cs [] j s) (past-secrets h) exact)
 
 -- a state with other further secrets
 abbrev pub withFurther : Estimator → Further → Estimator

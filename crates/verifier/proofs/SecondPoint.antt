@@ -4,6 +4,7 @@ use mathlib.Core.List.{List, [], _∷_, _++_, append-assoc, append-nil}
 use mathlib.Core.Logic.{inl, inr}
 use Prim.Native.Nat.{ℕ}
 use lib.ListN.{length}
+use Rattle.lists.specs.Calls.{done, next, end, more}
 use Rattle.automaton.specs.Run.{automatonOf, Sound}
 use Rattle.automaton.specs.declared.Header.{Header}
 use Rattle.opacity.specs.declared.Secret.{Secret}
@@ -11,22 +12,22 @@ use Rattle.opacity.specs.declared.Further.{Further}
 use Rattle.verifier.specs.declared.Estimator.{Estimator}
 use Rattle.opacity.specs.Secrets.{secretsOf, clearedOf}
 use Rattle.verifier.specs.Estimators.{InLimits, GrownOn}
-use Rattle.verifier.specs.Replies.{Told, Said, refused, verdicts, Exact, Unusable, Opening, opened, Accepting, not-observable, incompatible, accepted}
+use Rattle.verifier.specs.Replies.{Findings, Said, refused, verdicts, Exact, Unusable, Opening, opened, Accepting, not-observable, incompatible, accepted}
 use Rattle.automaton.specs.Reaching.{SizeWithin}
-use Rattle.verifier.specs.Calls.{Call, Calls, done, next, takenBy, acceptedOf, Right, Answered, AllAnswered, end, more, Promise}
+use Rattle.verifier.specs.Calls.{Call, Calls, takenBy, acceptedOf, Right, Answered, AllAnswered, Promise}
 use Rattle.opacity.proofs.Numbering.{look-back-small, same-secrets}
 use Rattle.opacity.proofs.Exactness.{exactly}
 use Rattle.automaton.proofs.Estimates.{right-size}
 use Rattle.verifier.proofs.Growing.{grown-limits}
 
 -- what an answer tells of a trace is right
-pub right : (t : List ℕ) (h : Header) (f : Further) (trace : List ℕ) (vs : List Told) (n : ℕ) (s : Estimator) → length vs ≡ length (secretsOf h f) → SizeWithin n
-    → Exact t h (secretsOf h f) trace vs n s → Right t h f trace vs n
-right t h f trace vs n s as-many within x =
+pub right : (t : List ℕ) (h : Header) (f : Further) (trace : List ℕ) (j : Findings) (s : Estimator) → length (j .each) ≡ length (secretsOf h f) → SizeWithin (j .size)
+    → Exact t h (secretsOf h f) trace j s → Right t h f trace j
+right t h f trace j s as-many within x =
     record {
       as-many = as-many;
       each = λ notion i given. exactly notion _ _ trace _ (x .tells notion i given);
-      size = right-size (automatonOf t h) trace n within (x .size);
+      size = right-size (automatonOf t h) trace (j .size) within (x .size);
     }
 
 module _ (t : List ℕ) (h : Header) (f : Further) (sound : Sound t h) where
@@ -41,11 +42,11 @@ module _ (t : List ℕ) (h : Header) (f : Further) (sound : Sound t h) where
   one trace s byte says m same g (Accepting.malformed bad) = absurd (bad (sound, grown-limits (automatonOf t h) _ trace s g (sound .symbols-small)))
   one trace s byte says m same g (not-observable so li never) = record { answered = inl (refl, never); same = same; grown = rw (append-nil trace) g }
   one trace s byte says m same g (incompatible so li ob none) = record { answered = inr (refl, ob, none trace g); same = same; grown = rw (append-nil trace) g }
-  one trace s byte says m same g (accepted {vs = vs} {size = n} so li ob kept after as-many b within exact) =
+  one trace s byte says m same g (accepted {j = j} so li ob kept after as-many b within exact) =
       let x = exact trace g in
       let secrets : secretsOf h (s .further) ≡ secretsOf h f = ap (secretsOf h) same ∙ same-secrets h f in
       record {
-        answered = (ob, x .possible, right t h f _ vs n m (as-many ∙ ap length secrets) within (subst (λ (cs : List Secret). Exact t h cs (trace ++ byte ∷ []) vs n m) secrets x));
+        answered = (ob, x .possible, right t h f _ j m (as-many ∙ ap length secrets) within (subst (λ (cs : List Secret). Exact t h cs (trace ++ byte ∷ []) j m) secrets x));
         same = kept ∙ same;
         grown = x .grown;
       }
@@ -68,11 +69,11 @@ module _ (t : List ℕ) (h : Header) (f : Further) (sound : Sound t h) where
       }
 
 -- a fresh estimator with further secrets that was not refused, and a list of offered bytes
-pub second-point : (t : List ℕ) (h : Header) (f : Further) (vs : List Told) (n : ℕ) (s : Estimator) (cs : List Call) (e : Estimator)
-    → Opening t h f (verdicts vs n) s → Calls t h s cs e → Promise t h f vs n cs e
-second-point t h f vs n s cs e (opened sound allowed same li as-many within x) calls =
+pub second-point : (t : List ℕ) (h : Header) (f : Further) (j : Findings) (s : Estimator) (cs : List Call) (e : Estimator)
+    → Opening t h f (verdicts j) s → Calls t h s cs e → Promise t h f j cs e
+second-point t h f j s cs e (opened sound allowed same li as-many within x) calls =
     let y = follow t h f sound [] s cs e same (x .grown) calls in
-    record { opening = right t h f [] vs n s as-many within x; answered = y .answered; same = y .same; grown = y .grown }
+    record { opening = right t h f [] j s as-many within x; answered = y .answered; same = y .same; grown = y .grown }
 
 -- what a refused start hands back is no estimator: every byte offered to it, with every table and header, gets 9
 pub refused-unusable : {t : List ℕ} {h : Header} {f : Further} {n : ℕ} {s : Estimator} → Opening t h f (refused n) s → Unusable s

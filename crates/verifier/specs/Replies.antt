@@ -24,6 +24,8 @@ use Rattle.opacity.specs.declared.Verdict.the-variants.{NoLeak}
 use Rattle.opacity.specs.declared.Verdicts as declared
 use Rattle.verifier.specs.declared.SecretVerdicts.{SecretVerdicts}
 use Rattle.verifier.specs.declared.VerdictsBy.{VerdictsBy}
+use Rattle.verifier.specs.declared.Judgement.{Judgement}
+use Rattle.verifier.specs.declared.JudgementBy.{JudgementBy}
 
 -- the steps of the two verdicts of one secret
 pub record Told : Type 0 where
@@ -56,14 +58,22 @@ numbered v = v .own ∷ v .first ∷ v .second ∷ v .third ∷ []
 abbrev pub toldEach : Further → SecretVerdicts → List Told
 toldEach f v = take (suc (f .count)) (map toldOf (numbered v))
 
--- what an answer says: the number of a refusal, or the steps of the two verdicts of each secret, and how many states are possible
+-- what an accepting answer tells: the steps of the two verdicts of each secret that is given, and how many states are possible
+pub record Findings : Type 0 where
+  pub each : List Told
+  pub size : ℕ
+
+abbrev pub findings : Further → Judgement → Findings
+findings f j = record { each = toldEach f (j .verdicts); size = j .size }
+
+-- what an answer says: the number of a refusal, or that
 pub data Said : Type 0 where
   refused : ℕ → Said
-  verdicts : (each : List Told) (size : ℕ) → Said
+  verdicts : Findings → Said
 
 abbrev pub said : Further → Answer → Said
 said f (answer.Refused r) = refused (numberOf r)
-said f (answer.Accepted j) = verdicts (toldEach f (j .verdicts)) (j .size)
+said f (answer.Accepted j) = verdicts (findings f j)
 
 -- the places of secrets that are not given hold no leak
 abbrev pub OthersNoLeak : Further → SecretVerdicts → Type 0
@@ -80,10 +90,10 @@ Bounded K (leak l) = l ≤ K
 
 -- the verdicts after a trace, two for each secret by its own K, how many states are possible, and the estimator that has grown by it. Some run is
 -- compatible with the trace: else a leak would say nothing
-pub record Exact (t : List ℕ) (h : Header) (cs : List Secret) (trace : List ℕ) (vs : List Told) (n : ℕ) (s : Estimator) : Type 0 where
+pub record Exact (t : List ℕ) (h : Header) (cs : List Secret) (trace : List ℕ) (j : Findings) (s : Estimator) : Type 0 where
   pub possible : Possible (automatonOf t h) trace
-  pub tells : (notion : Notion) → ForEach cs (λ i c. Tells notion (automatonOf t h) c trace (toldAt notion vs i))
-  pub size : EstimateSize (automatonOf t h) trace n
+  pub tells : (notion : Notion) → ForEach cs (λ i c. Tells notion (automatonOf t h) c trace (toldAt notion (j .each) i))
+  pub size : EstimateSize (automatonOf t h) trace (j .size)
   pub grown : GrownOn t h trace s
 
 -- outside its limits on every automaton
@@ -95,8 +105,8 @@ pub data Opening (t : List ℕ) (h : Header) (f : Further) : Said → Estimator 
   malformed : {s : Estimator} → (Sound t h → ⊥) → Unusable s → Opening t h f (refused 9) s
   too-many-secrets : {s : Estimator} → Sound t h → 3 < f .count → Unusable s → Opening t h f (refused 13) s
   look-back-too-large : {s : Estimator} → Sound t h → f .count ≤ 3 → TooLarge f → Unusable s → Opening t h f (refused 14) s
-  opened : {vs : List Told} {size : ℕ} {s : Estimator} → Sound t h → Allowed f → s .further ≡ clearedOf f → InLimits h s
-      → length vs ≡ length (secretsOf h f) → SizeWithin size → Exact t h (secretsOf h f) [] vs size s → Opening t h f (verdicts vs size) s
+  opened : {j : Findings} {s : Estimator} → Sound t h → Allowed f → s .further ≡ clearedOf f → InLimits h s
+      → length (j .each) ≡ length (secretsOf h f) → SizeWithin (j .size) → Exact t h (secretsOf h f) [] j s → Opening t h f (verdicts j) s
 
 -- a symbol offered to an estimator: the answer, and the estimator after it, with the same further secrets. Of one that is Grown by no trace only the
 -- limits are said, that each verdict is from 0 to its secret's own K or none, and that the number is from 1 to 64
@@ -106,16 +116,20 @@ pub data Accepting (t : List ℕ) (h : Header) (self : Estimator) (symbol : ℕ)
   incompatible : Sound t h → InLimits h self → Observable h symbol
       → ((trace : List ℕ) → GrownOn t h trace self → Impossible (automatonOf t h) (trace ++ symbol ∷ []))
       → Accepting t h self symbol (refused 7) self
-  accepted : {vs : List Told} {size : ℕ} {s : Estimator} → Sound t h → InLimits h self → Observable h symbol
-      → s .further ≡ self .further → InLimits h s → length vs ≡ length (secretsOf h (self .further))
-      → ((notion : Notion) → ForEach (secretsOf h (self .further)) (λ i c. Bounded (c .k) (toldAt notion vs i))) → SizeWithin size
-      → ((trace : List ℕ) → GrownOn t h trace self → Exact t h (secretsOf h (self .further)) (trace ++ symbol ∷ []) vs size s)
-      → Accepting t h self symbol (verdicts vs size) s
+  accepted : {j : Findings} {s : Estimator} → Sound t h → InLimits h self → Observable h symbol
+      → s .further ≡ self .further → InLimits h s → length (j .each) ≡ length (secretsOf h (self .further))
+      → ((notion : Notion) → ForEach (secretsOf h (self .further)) (λ i c. Bounded (c .k) (toldAt notion (j .each) i))) → SizeWithin (j .size)
+      → ((trace : List ℕ) → GrownOn t h trace self → Exact t h (secretsOf h (self .further)) (trace ++ symbol ∷ []) j s)
+      → Accepting t h self symbol (verdicts j) s
 
--- an answer with the verdicts by one notion says: the number of a refusal, or the steps of that verdict of each secret, and how many states are possible
+-- the same of an answer with the verdicts by one notion: the steps of that verdict of each secret
+pub record FindingsBy : Type 0 where
+  pub each : List Steps
+  pub size : ℕ
+
 pub data SaidBy : Type 0 where
   refused-by : ℕ → SaidBy
-  verdicts-by : (each : List Steps) (size : ℕ) → SaidBy
+  verdicts-by : FindingsBy → SaidBy
 
 abbrev pub numberedBy : VerdictsBy → List Verdict
 numberedBy v = v .own ∷ v .first ∷ v .second ∷ v .third ∷ []
@@ -124,9 +138,12 @@ numberedBy v = v .own ∷ v .first ∷ v .second ∷ v .third ∷ []
 abbrev pub stepsEach : Further → VerdictsBy → List Steps
 stepsEach f v = take (suc (f .count)) (map stepsOf (numberedBy v))
 
+abbrev pub findingsBy : Further → JudgementBy → FindingsBy
+findingsBy f j = record { each = stepsEach f (j .verdicts); size = j .size }
+
 abbrev pub saidBy : Further → AnswerBy → SaidBy
 saidBy f (by.Refused r) = refused-by (numberOf r)
-saidBy f (by.Accepted j) = verdicts-by (stepsEach f (j .verdicts)) (j .size)
+saidBy f (by.Accepted j) = verdicts-by (findingsBy f j)
 
 abbrev pub OthersBy : Further → AnswerBy → Type 0
 OthersBy f (by.Refused r) = Unit {0}
@@ -161,6 +178,6 @@ pub record TellsBy (notion : Notion) (t : List ℕ) (h : Header) (self : Estimat
 -- number
 pub data AcceptingBy (notion : Notion) (t : List ℕ) (h : Header) (self : Estimator) (symbol : ℕ) : SaidBy → Estimator → Type 0 where
   turned-back : {n : ℕ} {s : Estimator} → Accepting t h self symbol (refused n) s → AcceptingBy notion t h self symbol (refused-by n) s
-  accepted-by : {vs : List Steps} {size : ℕ} {s : Estimator} → Moved t h self symbol size s → length vs ≡ length (secretsOf h (self .further))
-      → ForEach (secretsOf h (self .further)) (λ i c. TellsBy notion t h self symbol c (getD vs i none))
-      → AcceptingBy notion t h self symbol (verdicts-by vs size) s
+  accepted-by : {j : FindingsBy} {s : Estimator} → Moved t h self symbol (j .size) s → length (j .each) ≡ length (secretsOf h (self .further))
+      → ForEach (secretsOf h (self .further)) (λ i c. TellsBy notion t h self symbol c (getD (j .each) i none))
+      → AcceptingBy notion t h self symbol (verdicts-by j) s

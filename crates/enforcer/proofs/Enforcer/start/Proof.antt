@@ -6,7 +6,7 @@ use Rattle.verifier.specs.declared.VerdictsBy.{VerdictsBy}
 use Rattle.refusal.specs.Refusals.{numberOf}
 use Rattle.opacity.specs.Secrets.{secretsOf}
 use Rattle.verifier.specs.Replies as verifier
-use Rattle.verifier.specs.Replies.{Opening, toldEach}
+use Rattle.verifier.specs.Replies.{Opening, findings}
 use Rattle.verifier.specs.Replies.{chosenEach, stepsEach}
 use Rattle.enforcer.specs.Inner.{LargestWait}
 use Rattle.enforcer.proofs.Arrays.{padded-zeros}
@@ -32,7 +32,7 @@ begin u = u .before .before .before .before .before .before .before
 
 -- the opening, where the verifier gave verdicts
 opening : (u : tie.After-choose-each) → Opening (now (begin u .args .table)) (begin u .args .header) (begin u .args .further)
-    (verifier.verdicts (toldEach (begin u .args .further) (u .before .before .answer2 .given .0 .0 .verdicts)) (u .before .before .answer2 .given .0 .0 .size))
+    (verifier.verdicts (findings (begin u .args .further) (u .before .before .answer2 .given .0 .0)))
     (u .before .before .before .before .before .fresh .result .estimator)
 opening u =
     let a = begin u .args in
@@ -41,7 +41,7 @@ opening u =
     (called .ensures .0)
 
 longest-wait-requires : tie.Need-longest-wait-requires
-longest-wait-requires c κs = let j = c .before .before .answer2 .given .0 .0 in opened-given _ _ _ (j .verdicts) (j .size) _ (opening c)
+longest-wait-requires c κs = let j = c .before .before .answer2 .given .0 .0 in opened-given _ _ _ j _ (opening c)
 
 -- the largest wait of the verdicts by the notion
 longest : (u : tie.After-longest-wait) → LargestWait (secretsOf (begin (u .before) .args .header) (begin (u .before) .args .further))
@@ -56,7 +56,7 @@ returns : tie.Need-returns
 returns c =
     let u = c .before in
     let j = u .before .before .before .answer2 .given .0 .0 in
-    start-open _ _ _ _ (j .verdicts) (j .size) _ _ (longest u) _ (opening (u .before)) (c .if1 .taken) refl
+    start-open _ _ _ _ j _ _ (longest u) _ (opening (u .before)) (c .if1 .taken) refl
 
 returns-2 : tie.Need-returns-2
 returns-2 c =
@@ -70,7 +70,7 @@ returns-3 : tie.Need-returns-3
 returns-3 c =
     let u = c .before in
     let j = u .before .before .before .answer2 .given .0 .0 in
-    start-ready _ _ _ _ (j .verdicts) (j .size) _ _ (longest u) _ _ (padded-zeros 16 0) (padded-zeros 16 0) (opening (u .before)) (c .if1 .left)
+    start-ready _ _ _ _ j _ _ (longest u) _ _ (padded-zeros 16 0) (padded-zeros 16 0) (opening (u .before)) (c .if1 .left)
 
 pub start-spec : {M : Type 1} → statement M
 start-spec =

@@ -237,15 +237,14 @@ verifier-gamma t h f μ x r says =
     let right = definition-6 t h f μ x r says in
     record {
       told = right .told;
-      size = right .size;
       said-is = right .said-is;
       as-many = right .as-many;
       gamma = λ i given.
           let c = secretAt (secretsOf h f) i in
           let (γ, only) = one-gamma p (c .k) μ (c .states) in
           let gamma = only γ .0 refl in
-          let v = toldAt Weak (right .told) i in
+          let v = toldAt Weak (right .told .each) i in
           let e : γ ≡ v = one-right p c μ γ v (proposition-4 p (c .k) μ (c .states) x γ gamma) (right .each-right Weak i given) in
           subst (Gamma (estimatorAfter p (c .k) μ) c) e gamma;
-      current = λ K. size-current p K μ (right .size) .0 (right .size-right);
+      current = λ K. size-current p K μ (right .told .size) .0 (right .size-right);
     }

@@ -6,6 +6,7 @@ use Prim.Native.Nat.{ℕ, _<_}
 use native.Mathlib.Omega.{arith}
 use lib.ListN.{length, length-append}
 use lib.Seq.{take-at, getD-append-seam}
+use Rattle.lists.specs.Calls.{more}
 use Rattle.automaton.specs.declared.Header.{Header}
 use Rattle.automaton.specs.Run.{Automaton, automatonOf, Possible, Observable}
 use Rattle.automaton.proofs.Traces.{trace-observable, prefix-possible}
@@ -14,7 +15,7 @@ use Rattle.opacity.specs.declared.Notion.{Notion}
 use Rattle.opacity.specs.declared.Further.{Further}
 use Rattle.opacity.specs.Secrets.{secretsOf, secretAt}
 use Rattle.opacity.specs.Verdicts.{Steps}
-use Rattle.verifier.specs.Replies.{Told, toldAt, Said, refused, verdicts}
+use Rattle.verifier.specs.Replies.{Findings, toldAt, Said, refused, verdicts}
 use Rattle.verifier.specs.Calls.{Call, takenBy, Right, Answered, AllAnswered}
 use Rattle.verifier.proofs.SecondPoint.{second-point}
 use Rattle.published.specs.Source.{Published, RightVerdict, RightVerdicts, SoundComplete, offered, lastSaid, SaysAfter}
@@ -31,17 +32,16 @@ module _ (t : List ℕ) (h : Header) (f : Further) where
   abbrev RightAfter : List ℕ → Said → Type 0
   RightAfter μ r = RightVerdicts (automatonOf t h) (secretsOf h f) μ r
 
-  right-after : (μ : List ℕ) (vs : List Told) (n : ℕ) → Possible (automatonOf t h) μ → Right t h f μ vs n → RightAfter μ (verdicts vs n)
-  right-after μ vs n x right = record {
-    told = vs;
-    size = n;
+  right-after : (μ : List ℕ) (j : Findings) → Possible (automatonOf t h) μ → Right t h f μ j → RightAfter μ (verdicts j)
+  right-after μ j x right = record {
+    told = j;
     said-is = refl;
     as-many = right .as-many;
     each-right = λ notion i given.
         let p = automatonOf t h in
         let c = secretAt (secretsOf h f) i in
-        right-verdict notion p c μ (toldAt notion vs i) .0 (published p c μ x notion (toldAt notion vs i) (right .each notion i given));
-    size-right = right .size .exactly n .0 refl;
+        right-verdict notion p c μ (toldAt notion (j .each) i) .0 (published p c μ x notion (toldAt notion (j .each) i) (right .each notion i given));
+    size-right = right .size .exactly (j .size) .0 refl;
   }
 
   -- an event of an observed trace is not refused
@@ -49,7 +49,7 @@ module _ (t : List ℕ) (h : Header) (f : Further) where
       → (takenBy says byte ≡ byte ∷ []) × RightAfter (trace ++ byte ∷ []) says
   answer-right trace byte (refused n) (inl x) seen possible = absurd (x .1 seen)
   answer-right trace byte (refused n) (inr x) seen possible = absurd (x .2 (possible .run) (possible .compatible))
-  answer-right trace byte (verdicts vs n) x seen possible = (refl, right-after (trace ++ byte ∷ []) vs n possible (x .2))
+  answer-right trace byte (verdicts j) x seen possible = (refl, right-after (trace ++ byte ∷ []) j possible (x .2))
 
   event-seen : (trace : List ℕ) (byte : ℕ) (rest : List ℕ) → Possible (automatonOf t h) (trace ++ byte ∷ rest) → Observable h byte
   event-seen trace byte rest x =
@@ -62,7 +62,7 @@ module _ (t : List ℕ) (h : Header) (f : Further) where
 
   split : (trace : List ℕ) (c : Call) (cs : List Call) → AllAnswered t h f trace (c ∷ cs)
       → Answered t h f trace (c .byte) (c .says) × AllAnswered t h f (trace ++ takenBy (c .says) (c .byte)) cs
-  split trace c cs (AllAnswered.more x y) = (x, y)
+  split trace c cs (more x y) = (x, y)
 
   -- the last answer to the events of an observed trace, one after another
   follow : (trace : List ℕ) (r : Said) (cs : List Call) → RightAfter trace r → AllAnswered t h f trace cs → Possible (automatonOf t h) (trace ++ offered cs)
@@ -80,8 +80,8 @@ module _ (t : List ℕ) (h : Header) (f : Further) where
 -- the trace's for every secret, by both notions
 pub definition-6 : (t : List ℕ) (h : Header) (f : Further) → SoundComplete (automatonOf t h) (secretsOf h f) (SaysAfter t h f)
 definition-6 t h f μ x r y =
-    let promise = second-point t h f (y .told) (y .size) (y .fresh) (y .calls) (y .last) (y .opening) (y .made) in
+    let promise = second-point t h f (y .told) (y .fresh) (y .calls) (y .last) (y .opening) (y .made) in
     let start : Possible (automatonOf t h) [] = record { run = []; compatible = record { takes = tt; shown-is = refl } } in
-    let last = follow t h f [] (verdicts (y .told) (y .size)) (y .calls) (right-after t h f [] (y .told) (y .size) start (promise .opening)) (promise .answered)
+    let last = follow t h f [] (verdicts (y .told)) (y .calls) (right-after t h f [] (y .told) start (promise .opening)) (promise .answered)
     (subst (Possible (automatonOf t h)) (sym (y .events)) x) in
-    subst (RightAfter t h f μ) (y .says) (subst (λ (l : List ℕ). RightAfter t h f l (lastSaid (verdicts (y .told) (y .size)) (y .calls))) (y .events) last)
+    subst (RightAfter t h f μ) (y .says) (subst (λ (l : List ℕ). RightAfter t h f l (lastSaid (verdicts (y .told)) (y .calls))) (y .events) last)

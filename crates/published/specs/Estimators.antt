@@ -11,7 +11,7 @@ use Rattle.automaton.specs.Run.{Automaton, automatonOf, Step, Takes, endOf, sho
 use Rattle.automaton.specs.Reaching.{Arrives}
 use Rattle.opacity.specs.Secrets.{secretsOf, ForEach}
 use Rattle.opacity.specs.Verdicts.{Steps, none, leak}
-use Rattle.verifier.specs.Replies.{Told, toldAt, Said, verdicts}
+use Rattle.verifier.specs.Replies.{Findings, toldAt, Said, verdicts}
 use Rattle.opacity.specs.declared.Secret.{Secret}
 use Rattle.opacity.specs.declared.Notion.the-variants.{Weak}
 use Rattle.opacity.specs.declared.Further.{Further}
@@ -101,9 +101,8 @@ Gamma m secret (leak l) = (l ≤ secret .k) × Within m l (secret .states) × ((
 -- our verifier's answer after the trace: a verdict of each secret by the weak notion, and it is Γ's of the estimator with that secret's K; and how many
 -- states are possible, which is how many m(0) has, whatever K is
 pub record SaysGamma (t : List ℕ) (h : Header) (f : Further) (μ : List ℕ) (r : Said) : Type 0 where
-  pub told : List Told
-  pub size : ℕ
-  pub said-is : r ≡ verdicts told size
-  pub as-many : length told ≡ length (secretsOf h f)
-  pub gamma : ForEach (secretsOf h f) (λ i c. Gamma (estimatorAfter (automatonOf t h) (c .k) μ) c (toldAt Weak told i))
-  pub current : (K : ℕ) → Counts (EstimateAt (estimatorAfter (automatonOf t h) K μ) 0) size
+  pub told : Findings
+  pub said-is : r ≡ verdicts told
+  pub as-many : length (told .each) ≡ length (secretsOf h f)
+  pub gamma : ForEach (secretsOf h f) (λ i c. Gamma (estimatorAfter (automatonOf t h) (c .k) μ) c (toldAt Weak (told .each) i))
+  pub current : (K : ℕ) → Counts (EstimateAt (estimatorAfter (automatonOf t h) K μ) 0) (told .size)

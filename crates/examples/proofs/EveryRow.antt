@@ -9,6 +9,7 @@ use native.Mathlib.Decide.{decLt}
 use lib.Dec.{T, T-not}
 use lib.ListN.{length, getD, take, List·getD-eq-default}
 use Rattle.stateset.specs.Set.{bit}
+use Rattle.lists.specs.Calls.{end, more}
 use Rattle.automaton.specs.Run.{automatonOf, showsBy, Observable, SmallSymbols}
 use Rattle.automaton.specs.Reaching.{EstimateSize, SizeWithin}
 use Rattle.automaton.specs.declared.Header.{Header}
@@ -65,7 +66,8 @@ symbols? h =
     (both (eq? (length (h .symbols)) 32) (all-below {A = λ e. getD (h .symbols) e 0 ≤ 31} (λ e. le? (getD (h .symbols) e 0) 31) 32))
 
 -- by the definition, so exactly so in 01's words
-right : (t : List ℕ) (h : Header) (trace : List ℕ) (v : Told) (n : ℕ) → SizeWithin n → VerdictsAre t h trace (v .weak) (v .strong) n → Right t h noFurther trace (v ∷ []) n
+right : (t : List ℕ) (h : Header) (trace : List ℕ) (v : Told) (n : ℕ) → SizeWithin n → VerdictsAre t h trace (v .weak) (v .strong) n 
+    → Right t h noFurther trace (record { each = v ∷ []; size = n })
 right t h trace v n within told = record {
   as-many = refl;
   each = λ notion. only h noFurther refl (λ i c. Exactly notion (automatonOf t h) c trace (toldAt notion (v ∷ []) i)) (alone notion);
@@ -80,7 +82,7 @@ right t h trace v n within told = record {
 right-for-all : (t : List ℕ) (h : Header) (f : Further) (trace : List ℕ) (vs : List Told) (n : ℕ) → length vs ≡ length (secretsOf h f) → SizeWithin n
     → ForEach (secretsOf h f) (λ i c. Tells Weak (automatonOf t h) c trace (toldAt Weak vs i))
     → ForEach (secretsOf h f) (λ i c. Tells Strong (automatonOf t h) c trace (toldAt Strong vs i)) → EstimateSize (automatonOf t h) trace n
-    → Right t h f trace vs n
+    → Right t h f trace (record { each = vs; size = n })
 right-for-all t h f trace vs n as-many within weak strong size = record {
   as-many = as-many;
   each = each;
@@ -108,21 +110,25 @@ module _ (ts : List Transition) (h : Header) (range : T (every inRange ts)) wher
       map (λ f x. record { possible = f .0 x; weak = f .1 .0 x; strong = f .1 .1 .0 x; size = f .1 .1 .1 x })
       (both (possible? ts h range trace) (both (told? Weak trace v) (both (told? Strong trace w) (size? ts h range trace n))))
 
+  -- the answer holds the verdicts of the one secret
+  abbrev alone? : (trace : List ℕ) (byte : ℕ) (vs : List Told) (n : ℕ) → Check (For ts (λ t. Answered t h noFurther trace byte (verdicts (record { each = vs; size = n }))))
+  alone? trace byte [] n = failed
+  alone? trace byte (v ∷ []) n =
+      map (λ f x. (f .0, f .1 .1 x .possible, right (x .table) h (trace ++ byte ∷ []) v n (f .1 .0) (f .1 .1 x)))
+      (both (observable? h byte) (both (within? n) (verdicts? (trace ++ byte ∷ []) (v .weak) (v .strong) n)))
+  alone? trace byte (v ∷ w ∷ vs) n = failed
+
   abbrev answered? : (trace : List ℕ) (byte : ℕ) (s : Said) → Check (For ts (λ t. Answered t h noFurther trace byte s))
   answered? trace byte (refused n) =
       map (λ f x. ⊎-elim (λ a. inl a) (λ b. inr (b .0, b .1 .0, b .1 .1 x)) f)
       (either (both (eq? n 6) (not-observable? h byte))
       (both (eq? n 7) (both (observable? h byte) (impossible? ts h range (trace ++ byte ∷ [])))))
-  answered? trace byte (verdicts [] n) = failed
-  answered? trace byte (verdicts (v ∷ []) n) =
-      map (λ f x. (f .0, f .1 .1 x .possible, right (x .table) h (trace ++ byte ∷ []) v n (f .1 .0) (f .1 .1 x)))
-      (both (observable? h byte) (both (within? n) (verdicts? (trace ++ byte ∷ []) (v .weak) (v .strong) n)))
-  answered? trace byte (verdicts (v ∷ w ∷ vs) n) = failed
+  answered? trace byte (verdicts j) = alone? trace byte (j .each) (j .size)
 
   abbrev all-answered? : (calls : List Call) (trace : List ℕ) → Check (For ts (λ t. AllAnswered t h noFurther trace calls))
-  all-answered? [] trace = done (λ x. AllAnswered.end)
+  all-answered? [] trace = done (λ x. end)
   all-answered? (c ∷ cs) trace =
-      map (λ f x. AllAnswered.more (f .0 x) (f .1 x))
+      map (λ f x. more (f .0 x) (f .1 x))
       (both (answered? trace (c .byte) (c .says)) (all-answered? cs (trace ++ takenBy (c .says) (c .byte))))
 
   abbrev opened? : (notion : Notion) (answer : Begun) → Check (For ts (λ t. Opened t h notion answer))

@@ -87,7 +87,7 @@ pub record ReleasesAre (t : List ℕ) (h : Header) (notion : Notion) (trace : Li
 pub record VerdictsOfAll (t : List ℕ) (h : Header) (f : Further) (trace : List ℕ) (vs : List Told) (n : ℕ) : Type 0 where
   pub allowed : Allowed f
   pub possible : Possible (automatonOf t h) trace
-  pub right : Right t h f trace vs n
+  pub right : Right t h f trace (record { each = vs; size = n })
 
 -- a start is refused with 8 where some secret opens as leak 0, and gives an enforcer where none leaks
 abbrev pub OpenedForAll : List ℕ → Header → Further → Notion → Begun → Type 0

@@ -68,12 +68,12 @@ PSymbols = record { transitions = P 2 .transitions; header = record { initial = 
 abbrev pub call : ℕ → Said → Call
 call byte says = record { byte = byte; says = says }
 
--- the two verdicts of a secret; and of the one secret
+-- the two verdicts of a secret; and an answer with those of the one secret
 abbrev pub pair : (weak strong : Steps) → Told
 pair weak strong = record { weak = weak; strong = strong }
 
-abbrev pub told : (weak strong : Steps) → List Told
-told weak strong = pair weak strong ∷ []
+abbrev pub told : (weak strong : Steps) (size : ℕ) → Said
+told weak strong size = verdicts (record { each = pair weak strong ∷ []; size = size })
 
 -- one further secret, number 1; and two of them, numbers 1 and 2, with the same states
 abbrev pub oneFurther : (states k : ℕ) → Further
@@ -106,7 +106,7 @@ rows =
     ∷ about (P 2) (verdicts-of (1 ∷ 2 ∷ 1 ∷ []) (leak 2) (leak 2) 2)
     ∷ about (P 2) (verdicts-of (1 ∷ 2 ∷ 1 ∷ 1 ∷ []) none none 1)
     -- refused with 7, then as after 1 2 1
-    ∷ about (P 2) (answers-after (1 ∷ 2 ∷ []) (call 2 (refused 7) ∷ call 1 (verdicts (told (leak 2) (leak 2)) 2) ∷ []))
+    ∷ about (P 2) (answers-after (1 ∷ 2 ∷ []) (call 2 (refused 7) ∷ call 1 (told (leak 2) (leak 2) 2) ∷ []))
     ∷ about (P 2) (answers-after (1 ∷ 2 ∷ []) (call 0 (refused 6) ∷ call 200 (refused 6) ∷ []))
     ∷ about (P 1) (releases-of Weak (1 ∷ 2 ∷ 1 ∷ 1 ∷ []) ((1 ∷ []) ∷ [] ∷ (2 ∷ 1 ∷ []) ∷ (1 ∷ []) ∷ []))
     ∷ about (P 0) (releases-of Weak (1 ∷ 2 ∷ 1 ∷ 1 ∷ []) ((1 ∷ []) ∷ (2 ∷ []) ∷ (1 ∷ []) ∷ (1 ∷ []) ∷ []))
@@ -130,7 +130,7 @@ rows =
     ∷ about (Pumps 0 1) (verdicts-of (0 ∷ []) (leak 0) (leak 0) 1)
     ∷ about (Pumps 7 7) (verdicts-of (7 ∷ []) none none 2)
     -- 6 is judged by the symbols: an event's number that is none is refused
-    ∷ about (Pumps 7 7) (answers-after [] (call 0 (refused 6) ∷ call 7 (verdicts (told none none) 2) ∷ call 7 (refused 7) ∷ []))
+    ∷ about (Pumps 7 7) (answers-after [] (call 0 (refused 6) ∷ call 7 (told none none 2) ∷ call 7 (refused 7) ∷ []))
     ∷ about (Pumps 7 7) (releases-of Weak (7 ∷ []) ((7 ∷ []) ∷ []))
     -- without symbols; with one symbol for both; cut inside the first symbol
     ∷ description (0x08 ∷ 0x20 ∷ 0x00 ∷ 0x04 ∷ 0x58 ∷ 0x00 ∷ 0x04 ∷ 0x00 ∷ 0x84 ∷ []) (automaton (Pumps 0 1))

@@ -1,2 +1,3 @@
--- Laws of plain lists that the crates above cite.
+-- Laws of plain lists, and of lists of calls, that the crates above cite.
 pub mod Filled
+pub mod Chains

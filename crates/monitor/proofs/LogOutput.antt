@@ -8,6 +8,7 @@ use native.Mathlib.Omega.{arith}
 use native.Mathlib.Decide.{decLt}
 use lib.ListN.{length, getD, take, drop, length-append, length-drop, length-take, take-append-drop, List·getD-append}
 use lib.Seq.{sets, sets-eq, length-sets, slice, slice-empty, take-at, drop-at, take-all, take-nil, take-append-le, drop-append-le, drop-length, length-take-le}
+use Rattle.lists.specs.Calls.{Chain, done, next}
 use Rattle.automaton.specs.Run.{automatonOf, Sound}
 use Rattle.automaton.specs.declared.Header.{Header}
 use Rattle.encoding.specs.Decoding.{Outcome, Decoding}
@@ -22,7 +23,7 @@ use Rattle.enforcer.specs.SafePrefix.{Safe}
 use Rattle.report.specs.declared.Line.the-variants.{Next}
 use Rattle.report.specs.Text.{idleLine, endLine}
 use Rattle.report.specs.Writing.{Written, written}
-use Rattle.monitor.specs.Stepping.{Within, Lines, done}
+use Rattle.monitor.specs.Stepping.{Within, Event, Followed, bytesOf, linesOf, Lines}
 use Rattle.monitor.specs.Opening as opening
 use Rattle.monitor.specs.Opening.{frontSize, encodingOf, Fresh, Decodes, Opening}
 use Rattle.monitor.specs.Advancing as advancing
@@ -34,7 +35,7 @@ use Rattle.monitor.specs.Log.{eventsOf, OpeningLeak, Refused, Monitored,
 use Rattle.monitor.specs.Running as running
 use Rattle.monitor.specs.Running.{Front, takenBy, writtenBy, Follows, all, stops, call, Runs}
 use Rattle.monitor.specs.declared.Monitor.{Monitor}
-use Rattle.monitor.proofs.Following.{lines-append, lines-count}
+use Rattle.monitor.proofs.Following.{lines-none, lines-append, lines-count}
 use Rattle.encoding.proofs.Listing.{decoded-sound}
 use Rattle.monitor.proofs.Endings.{with-none, with-some}
 use Rattle.monitor.proofs.LogPromise.{log-promise}
@@ -107,7 +108,11 @@ line-is : {room at next : ℕ} {out text out′ : List ℕ} → Written room out
 line-is {at = at} {out = out} {text = text} (written free fit) = slice-sets text out at (omega arith)
 
 no-lines : {t : List ℕ} {h : Header} {m e : Monitor} {text : List ℕ} → Lines t h m [] text e → (text ≡ []) × (e ≡ m)
-no-lines done = (refl, refl)
+no-lines ls = let x = none (ls .events) (ls .steps) (ls .bytes-are) in (sym (ls .text-is) ∙ x .0, x .1)
+  where
+    none : {t : List ℕ} {h : Header} {m e : Monitor} (vs : List Event) → Chain (Followed t h) m vs e → bytesOf vs ≡ [] → (linesOf vs ≡ []) × (e ≡ m)
+    none vs done b = (refl, refl)
+    none vs (next s rest) b = absurd (omega (arith, ap length b))
 
 -- what one call of `advance` does
 pub record Called (t : List ℕ) (h : Header) (m : Monitor) (events out : List ℕ) (at : ℕ) (says : Said) (e : Monitor) (out′ : List ℕ) : Type 0 where
@@ -147,7 +152,7 @@ record Fed (t : List ℕ) (h : Header) (m : Monitor) (left text : List ℕ) (e :
   stop : (rest ≡ []) ⊎ (e .offered ≡ 4294967295)
 
 fed : {t : List ℕ} {h : Header} {m e : Monitor} {left text : List ℕ} → Within t h m → m .offered ≤ 4294967295 → Follows t h m left text e → Fed t h m left text e
-fed w few all = record { bytes = []; rest = []; splits = refl; lines = done; few = few; stop = inl refl }
+fed w few all = record { bytes = []; rest = []; splits = refl; lines = lines-none; few = few; stop = inl refl }
 fed {t} {h} {m} {e} {left} w few (stops {events = events} {out = out} {out′ = out′} {at = at} later says cut some room a none) =
     let c = called t h m events out at says e out′ w a in
     record {

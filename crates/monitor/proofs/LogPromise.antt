@@ -4,6 +4,7 @@ use mathlib.Core.List.{List, [], _∷_, _++_}
 use Prim.Native.Nat.{ℕ, _+_, _-_}
 use native.Mathlib.Omega.{arith}
 use lib.ListN.{length, take, drop, length-append}
+use Rattle.lists.specs.Calls.{Chain, done, next}
 use Rattle.automaton.specs.Run.{automatonOf, Sound, Observable, Possible}
 use Rattle.automaton.specs.declared.Header.{Header}
 use Rattle.refusal.specs.declared.Refusal.{Refusal}
@@ -15,10 +16,11 @@ use Rattle.verifier.specs.declared.Judgement.{Judgement}
 use Rattle.opacity.specs.Secrets.{noFurther, secretsOf}
 use Rattle.verifier.specs.Estimators as estimators
 use Rattle.verifier.specs.Replies as verifier
-use Rattle.verifier.specs.Replies.{Told, toldEach, Accepting}
+use Rattle.verifier.specs.Replies.{Findings, findings, Accepting}
 use Rattle.verifier.proofs.SecondPoint.{right}
 use Rattle.verifier.proofs.Growing.{grown-limits}
 use Rattle.encoding.proofs.Listing.{decoded-sound}
+use Rattle.enforcer.specs.declared.Release.{Release}
 use Rattle.enforcer.specs.declared.Enforcer.{Enforcer}
 use Rattle.enforcer.specs.Offerings as enforcer
 use Rattle.enforcer.specs.Offerings.{Offering}
@@ -27,7 +29,7 @@ use Rattle.enforcer.specs.SafePrefix.{SafeForAll}
 use Rattle.enforcer.proofs.ForAll.{only-longest}
 use Rattle.enforcer.proofs.ThirdPoint as third
 use Rattle.report.specs.Text.{decimal, line, acceptedLine, refusedLine}
-use Rattle.monitor.specs.Stepping.{offeredOnce, acceptedOnce, not-verified, not-enforced, accepted, Lines, done, next}
+use Rattle.monitor.specs.Stepping.{offeredOnce, acceptedOnce, Stepping, not-verified, not-enforced, accepted, Event, Followed, bytesOf, linesOf, Lines}
 use Rattle.monitor.specs.Opening.{started, encodingOf, RightOwn, Opening, opened}
 use Rattle.monitor.specs.LogText as log
 use Rattle.monitor.specs.LogText.{Released, Prints, Promise}
@@ -61,12 +63,12 @@ module _ (t : List ℕ) (h : Header) (sound : Sound t h) where
       subst (λ (l : List ℕ). Prints t h trace r (b ∷ bytes) (l ++ rest) after r′) (sym (refused-as b q Incompatible (sym e))) (log.incompatible ob (impossible trace (a .estimator)) p)
 
   -- the enforcer refuses nothing that the verifier accepts
-  agree : (trace : List ℕ) (r : ℕ) (m : Monitor) (b n : ℕ) (vs : List Told) (k : ℕ) (s : Estimator) (output left : List ℕ) (e : Enforcer) → After trace r m
-      → Accepting t h (m .estimator) b (verifier.verdicts vs k) s → length output ≡ 17 → Offering t h (m .enforcer) b output (enforcer.refused n) e left → ⊥
-  agree trace r m b n vs k s output left e a acc wide (Offering.malformed bad) = bad (sound, third.held Weak t h noFurther trace (m .enforcer) (a .enforcer) .limits)
-  agree trace r m b n vs k s output left e a acc wide (Offering.output-too-small so li small) = omega arith
-  agree trace r m b n vs k s output left e a (Accepting.accepted so li ob same ls many bounded size exact) wide (Offering.not-observable so′ li′ enough never) = never ob
-  agree trace r m b n vs k s output left e a (Accepting.accepted so li ob same ls many bounded size exact) wide (Offering.incompatible so′ li′ enough ob′ impossible) =
+  agree : (trace : List ℕ) (r : ℕ) (m : Monitor) (b n : ℕ) (j : Findings) (s : Estimator) (output left : List ℕ) (e : Enforcer) → After trace r m
+      → Accepting t h (m .estimator) b (verifier.verdicts j) s → length output ≡ 17 → Offering t h (m .enforcer) b output (enforcer.refused n) e left → ⊥
+  agree trace r m b n j s output left e a acc wide (Offering.malformed bad) = bad (sound, third.held Weak t h noFurther trace (m .enforcer) (a .enforcer) .limits)
+  agree trace r m b n j s output left e a acc wide (Offering.output-too-small so li small) = omega arith
+  agree trace r m b n j s output left e a (Accepting.accepted so li ob same ls many bounded size exact) wide (Offering.not-observable so′ li′ enough never) = never ob
+  agree trace r m b n j s output left e a (Accepting.accepted so li ob same ls many bounded size exact) wide (Offering.incompatible so′ li′ enough ob′ impossible) =
       let x = exact trace (a .estimator) in
       let p = x .grown .possible in
       impossible Weak trace (third.held Weak t h noFurther trace (m .enforcer) (a .enforcer)) (p .run) (p .compatible)
@@ -80,12 +82,13 @@ module _ (t : List ℕ) (h : Header) (sound : Sound t h) where
     piece : take f left ≡ take f (drop r (trace ++ b ∷ []))
     then : After (trace ++ b ∷ []) (r + f) (acceptedOnce m s e f)
 
-  by-both : (trace : List ℕ) (r : ℕ) (m : Monitor) (b : ℕ) (j : Judgement) (s : Estimator) (f n : ℕ) (e : Enforcer) (output left : List ℕ) → After trace r m
-      → Accepting t h (m .estimator) b (verifier.verdicts (toldEach (m .estimator .further) (j .verdicts)) (j .size)) s
-      → Offering t h (m .enforcer) b output (enforcer.released f n) e left → Accepted trace r m b j s f e left
-  by-both trace r m b j s f n e output left a (Accepting.accepted so li ob same ls many bounded size exact) off =
+  by-both : (trace : List ℕ) (r : ℕ) (m : Monitor) (b : ℕ) (j : Judgement) (s : Estimator) (q : Release) (e : Enforcer) (output left : List ℕ) → After trace r m
+      → Accepting t h (m .estimator) b (verifier.verdicts (findings (m .estimator .further) j)) s
+      → Offering t h (m .enforcer) b output (enforcer.released q) e left → Accepted trace r m b j s (q .count) e left
+  by-both trace r m b j s q e output left a (Accepting.accepted so li ob same ls many bounded size exact) off =
+      let f = q .count in
       let x = exact trace (a .estimator) in
-      let y = third.one Weak t h noFurther sound trace (m .enforcer) b output (enforcer.released f n) e left (a .enforcer) off in
+      let y = third.one Weak t h noFurther sound trace (m .enforcer) b output (enforcer.released q) e left (a .enforcer) off in
       let len : length (trace ++ b ∷ []) ≡ length trace + 1 = length-append trace (b ∷ []) in
       let here : length trace - m .enforcer .count ≡ r = omega (arith, a .pending) in
       let there : length (trace ++ b ∷ []) - e .count ≡ r + f = omega (arith, a .pending, y .passes .shifted) in
@@ -93,7 +96,7 @@ module _ (t : List ℕ) (h : Header) (sound : Sound t h) where
         observable = ob;
         possible = x .possible;
         told = right-own t h (m .estimator .further) (trace ++ b ∷ []) j
-            (right t h (m .estimator .further) (trace ++ b ∷ []) (toldEach (m .estimator .further) (j .verdicts)) (j .size) s many size x);
+            (right t h (m .estimator .further) (trace ++ b ∷ []) (findings (m .estimator .further) j) s many size x);
         longest = only-longest Weak (automatonOf t h) h noFurther (trace ++ b ∷ []) (r + f) refl
             (subst (Longest (SafeForAll Weak (automatonOf t h) (secretsOf h noFurther)) (trace ++ b ∷ [])) there (y .after .grown .queue .longest));
         piece = y .passes .piece ∙ ap (λ (k : ℕ). take f (drop k (trace ++ b ∷ []))) here;
@@ -121,32 +124,39 @@ module _ (t : List ℕ) (h : Header) (sound : Sound t h) where
     accepted : e .accepted ≡ length after
     pending : e .released + e .enforcer .count ≡ length after
 
-  follow : (trace : List ℕ) (r : ℕ) (m : Monitor) (bytes text : List ℕ) (e : Monitor) → After trace r m → Lines t h m bytes text e → Ended trace r bytes text e
-  follow trace r m bytes text e a done = record {
+  -- one event byte, with what the ones after it print
+  one : (trace : List ℕ) (r : ℕ) (m n : Monitor) (b : ℕ) (line : List ℕ) (bytes text : List ℕ) (e : Monitor) → After trace r m → Stepping t h m b line n
+      → ((later : List ℕ) (s : ℕ) → After later s n → Ended later s bytes text e) → Ended trace r (b ∷ bytes) (line ++ text) e
+  one trace r m n b line bytes text e a (not-verified q {s = s} acc) rest =
+      let y = rest trace r (after-refused trace r m a) in
+      record {
+        after = y .after;
+        prints = by-verifier trace r m b q (numberOf q) s bytes text (y .after) (e .released) a refl acc (y .prints);
+        accepted = y .accepted;
+        pending = y .pending;
+      }
+  one trace r m n b line bytes text e a (not-enforced q {j = j} {s = s} {e = e′} {output = output} {left = left} acc wide off) rest =
+      absurd (agree trace r m b (numberOf q) j s output left e′ a acc wide off)
+  one trace r m n b line bytes text e a (accepted j {s = s} {r = f} {e = e′} {output = output} {left = left} acc wide off) rest =
+      let x = by-both trace r m b j s f e′ output left a acc off in
+      let y = rest (trace ++ b ∷ []) (r + f .count) (x .then) in
+      record {
+        after = y .after;
+        prints = print-accepted trace r m b j s (f .count) e′ left bytes text (y .after) (e .released) a x (y .prints);
+        accepted = y .accepted;
+        pending = y .pending;
+      }
+
+  follow : (trace : List ℕ) (r : ℕ) (m : Monitor) (vs : List Event) (e : Monitor) → After trace r m → Chain (Followed t h) m vs e
+      → Ended trace r (bytesOf vs) (linesOf vs) e
+  follow trace r m vs e a done = record {
     after = trace;
     prints = subst (λ (k : ℕ). Prints t h trace r [] [] trace k) (sym (a .released)) log.none;
     accepted = a .accepted;
     pending = ap (λ (k : ℕ). k + m .enforcer .count) (a .released) ∙ a .pending;
   }
-  follow trace r m bytes text e a (next {byte = b} {bytes = bs} {rest = rest} (not-verified q {s = s} acc) ls) =
-      let y = follow trace r (offeredOnce m) bs rest e (after-refused trace r m a) ls in
-      record {
-        after = y .after;
-        prints = by-verifier trace r m b q (numberOf q) s bs rest (y .after) (e .released) a refl acc (y .prints);
-        accepted = y .accepted;
-        pending = y .pending;
-      }
-  follow trace r m bytes text e a (next {byte = b} (not-enforced q {vs = vs} {n = k} {s = s} {e = e′} {output = output} {left = left} acc wide off) ls) =
-      absurd (agree trace r m b (numberOf q) vs k s output left e′ a acc wide off)
-  follow trace r m bytes text e a (next {byte = b} {bytes = bs} {rest = rest} (accepted j {s = s} {f = f} {n = n} {e = e′} {output = output} {left = left} acc wide off) ls) =
-      let x = by-both trace r m b j s f n e′ output left a acc off in
-      let y = follow (trace ++ b ∷ []) (r + f) (acceptedOnce m s e′ f) bs rest e (x .then) ls in
-      record {
-        after = y .after;
-        prints = print-accepted trace r m b j s f e′ left bs rest (y .after) (e .released) a x (y .prints);
-        accepted = y .accepted;
-        pending = y .pending;
-      }
+  follow trace r m vs e a (next {m = n} {c = v} {cs = rest} s ls) =
+      one trace r m n (v .byte) (v .line) (bytesOf rest) (linesOf rest) e a s (λ later k g. follow later k n rest e g ls)
 
 -- a log that has started prints what the definitions say, however its bytes were cut into reads (Following, lines-append)
 pub log-promise : (log : List ℕ) (n : ℕ) (t : List ℕ) (h : Header) (m : Monitor) (bytes text : List ℕ) (e : Monitor) → Opening log (started n) t h m → Lines t h m bytes text e
@@ -161,5 +171,5 @@ log-promise log n t h m bytes text e (opened within d fresh) ls =
       released = fresh .released;
       pending = omega arith;
     } in
-    let y = follow t h sound [] 0 m bytes text e a ls in
-    record { trace = y .after; prints = y .prints; accepted = y .accepted; pending = y .pending }
+    let y = follow t h sound [] 0 m (ls .events) e a (ls .steps) in
+    record { trace = y .after; prints = rw (ls .bytes-are, ls .text-is) at (y .prints); accepted = y .accepted; pending = y .pending }

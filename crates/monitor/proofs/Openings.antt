@@ -11,7 +11,7 @@ use Rattle.verifier.specs.declared.Judgement.{Judgement}
 use Rattle.opacity.specs.declared.Further.{Further}
 use Rattle.opacity.specs.Secrets.{noFurther}
 use Rattle.verifier.specs.Replies as verifier
-use Rattle.verifier.specs.Replies.{toldEach, OthersNoLeak}
+use Rattle.verifier.specs.Replies.{findings, OthersNoLeak}
 use Rattle.verifier.specs.Calls.{Right}
 use Rattle.verifier.proofs.SecondPoint.{right}
 use lib.ListN.{length, take, drop}
@@ -30,7 +30,7 @@ not-begun t h events n e t′ h′ m so (Starting.look-back-too-large so′ few 
 not-begun t h events n e t′ h′ m so (Starting.initial-leak so′ allowed opens out) b = leaks (Starting.initial-leak so′ allowed opens out) b
 
 -- of all verdicts that are right, those of the automaton's own secret
-pub right-own : (t : List ℕ) (h : Header) (f : Further) (trace : List ℕ) (j : Judgement) → Right t h f trace (toldEach f (j .verdicts)) (j .size)
+pub right-own : (t : List ℕ) (h : Header) (f : Further) (trace : List ℕ) (j : Judgement) → Right t h f trace (findings f j)
     → RightOwn t h trace (j .verdicts .own) (j .size)
 right-own t h f trace j x = record { weak = x .each Weak 0 (omega arith); strong = x .each Strong 0 (omega arith); size = x .size }
 
@@ -38,10 +38,10 @@ abbrev freshOf : Judgement → Estimator → Enforcer → Monitor
 freshOf j s e = record { opening = j; estimator = s; enforcer = e; offered = 0; accepted = 0; released = 0 }
 
 pub is-begun : (t : List ℕ) (h : Header) (events : ℕ) (e : Enforcer) (j : Judgement) (s : Estimator) → Starting t h noFurther Weak enforcer.started e
-    → verifier.Opening t h noFurther (verifier.verdicts (toldEach noFurther (j .verdicts)) (j .size)) s → OthersNoLeak noFurther (j .verdicts)
+    → verifier.Opening t h noFurther (verifier.verdicts (findings noFurther j)) s → OthersNoLeak noFurther (j .verdicts)
     → Begun t h events (started events) t h (freshOf j s e)
 is-begun t h events e j s (Starting.ready so′ allowed′ tells same′ grown) (verifier.Opening.opened so allowed same li many within x) others = begun record {
-  opening = right-own t h noFurther [] j (right t h noFurther [] (toldEach noFurther (j .verdicts)) (j .size) s many within x);
+  opening = right-own t h noFurther [] j (right t h noFurther [] (findings noFurther j) s many within x);
   others = others;
   estimator = x .grown;
   enforcer = grown;

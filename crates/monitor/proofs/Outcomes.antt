@@ -13,8 +13,9 @@ use Rattle.verifier.specs.declared.Estimator.{Estimator}
 use Rattle.verifier.specs.declared.Judgement.{Judgement}
 use Rattle.verifier.specs.Estimators as estimators
 use Rattle.verifier.specs.Replies as verifier
-use Rattle.verifier.specs.Replies.{Told, toldEach, Accepting}
+use Rattle.verifier.specs.Replies.{Findings, findings, Accepting}
 use Rattle.opacity.proofs.Numbering.{look-back-small}
+use Rattle.enforcer.specs.declared.Release.{Release}
 use Rattle.enforcer.specs.declared.Enforcer.{Enforcer}
 use Rattle.enforcer.specs.Enforcers as enforcers
 use Rattle.enforcer.specs.Offerings as enforcer
@@ -47,16 +48,16 @@ pub by-verifier : (t : List ℕ) (h : Header) (m : Monitor) (byte : ℕ) (r : Re
 by-verifier t h m byte r s after {out} {out′} {at} {next} b acc e p = subst (λ (x : Monitor). Stepped t h m byte out at x next out′) (sym e)
     record { text = refusedLine byte r; steps = not-verified r acc; printed = p; within = refused-within t h m b }
 
-pub by-enforcer : (t : List ℕ) (h : Header) (m : Monitor) (byte : ℕ) (r : Refusal) (vs : List Told) (n : ℕ) (s : Estimator) (e : Enforcer) (output left : List ℕ) (after : Monitor)
-    {out out′ : List ℕ} {at next : ℕ} → Within t h m → Accepting t h (m .estimator) byte (verifier.verdicts vs n) s
+pub by-enforcer : (t : List ℕ) (h : Header) (m : Monitor) (byte : ℕ) (r : Refusal) (j : Findings) (s : Estimator) (e : Enforcer) (output left : List ℕ) (after : Monitor)
+    {out out′ : List ℕ} {at next : ℕ} → Within t h m → Accepting t h (m .estimator) byte (verifier.verdicts j) s
     → length output ≡ 17 → Offering t h (m .enforcer) byte output (enforcer.refused (numberOf r)) e left → after ≡ offeredOnce m → Printed out at (refusedLine byte r) next out′
     → Stepped t h m byte out at after next out′
-by-enforcer t h m byte r vs n s e output left after {out} {out′} {at} {next} b acc wide off eq p = subst (λ (x : Monitor). Stepped t h m byte out at x next out′) (sym eq)
+by-enforcer t h m byte r j s e output left after {out} {out′} {at} {next} b acc wide off eq p = subst (λ (x : Monitor). Stepped t h m byte out at x next out′) (sym eq)
     record { text = refusedLine byte r; steps = not-enforced r acc wide off; printed = p; within = refused-within t h m b }
 
-accepted-limits : (t : List ℕ) (h : Header) (self : Estimator) (byte : ℕ) (vs : List Told) (n : ℕ) (s : Estimator) → Accepting t h self byte (verifier.verdicts vs n) s
+accepted-limits : (t : List ℕ) (h : Header) (self : Estimator) (byte : ℕ) (j : Findings) (s : Estimator) → Accepting t h self byte (verifier.verdicts j) s
     → estimators.InLimits h s
-accepted-limits t h self byte vs n s (Accepting.accepted so li ob same after many bounded size exact) = after
+accepted-limits t h self byte j s (Accepting.accepted so li ob same after many bounded size exact) = after
 
 -- the counts of an offer
 record Counted (h : Header) (m : Monitor) (f : ℕ) (e : Enforcer) : Type 0 where
@@ -64,36 +65,36 @@ record Counted (h : Header) (m : Monitor) (f : ℕ) (e : Enforcer) : Type 0 wher
   kept : f + e .count ≡ m .enforcer .count + 1
   limits : enforcers.InLimits h e
 
-counted : (t : List ℕ) (h : Header) (m : Monitor) (byte f n : ℕ) (e : Enforcer) (output left : List ℕ) → Offering t h (m .enforcer) byte output (enforcer.released f n) e left → Counted h m f e
-counted t h m byte f n e output left (Offering.accepted so li wide ob same after bal front rest size exact) =
+counted : (t : List ℕ) (h : Header) (m : Monitor) (byte : ℕ) (r : Release) (e : Enforcer) (output left : List ℕ) → Offering t h (m .enforcer) byte output (enforcer.released r) e left → Counted h m (r .count) e
+counted t h m byte r e output left (Offering.accepted so li wide ob same after bal front rest size exact) =
     record { few = omega (arith, li .few, look-back-small h (m .enforcer .estimator .further) (so .back) (li .estimator .allowed)); kept = bal; limits = after }
 
-pub countable : (t : List ℕ) (h : Header) (m : Monitor) (byte f n : ℕ) (e : Enforcer) (output left : List ℕ) (out : List ℕ) (at : ℕ) → Within t h m → Ready m out at
-    → Offering t h (m .enforcer) byte output (enforcer.released f n) e left → Countable m f
-countable t h m byte f n e output left out at b ready off =
-    let c = counted t h m byte f n e output left off in
+pub countable : (t : List ℕ) (h : Header) (m : Monitor) (byte : ℕ) (r : Release) (e : Enforcer) (output left : List ℕ) (out : List ℕ) (at : ℕ) → Within t h m → Ready m out at
+    → Offering t h (m .enforcer) byte output (enforcer.released r) e left → Countable m (r .count)
+countable t h m byte r e output left out at b ready off =
+    let c = counted t h m byte r e output left off in
     record {
       few = c .few;
       accepted = omega (arith, b .balanced .among, ready .allowed);
       released = omega (arith, b .balanced .among, b .balanced .balance, ready .allowed, c .kept);
     }
 
-pub by-both : (t : List ℕ) (h : Header) (m : Monitor) (byte : ℕ) (j : Judgement) (s : Estimator) (f n : ℕ) (e : Enforcer) (output left : List ℕ) (after : Monitor)
+pub by-both : (t : List ℕ) (h : Header) (m : Monitor) (byte : ℕ) (j : Judgement) (s : Estimator) (r : Release) (e : Enforcer) (output left : List ℕ) (after : Monitor)
     {out out′ : List ℕ} {at next : ℕ} → Within t h m
-    → Accepting t h (m .estimator) byte (verifier.verdicts (toldEach (m .estimator .further) (j .verdicts)) (j .size)) s
-    → length output ≡ 17 → Offering t h (m .enforcer) byte output (enforcer.released f n) e left → after ≡ acceptedOnce m s e f
-    → Printed out at (acceptedLine (m .accepted + 1) byte (j .verdicts .own .weak) (j .verdicts .own .strong) (j .size) (take f left)) next out′
+    → Accepting t h (m .estimator) byte (verifier.verdicts (findings (m .estimator .further) j)) s
+    → length output ≡ 17 → Offering t h (m .enforcer) byte output (enforcer.released r) e left → after ≡ acceptedOnce m s e (r .count)
+    → Printed out at (acceptedLine (m .accepted + 1) byte (j .verdicts .own .weak) (j .verdicts .own .strong) (j .size) (take (r .count) left)) next out′
     → Stepped t h m byte out at after next out′
-by-both t h m byte j s f n e output left after {out} {out′} {at} {next} b acc wide off eq p =
-    let c = counted t h m byte f n e output left off in
+by-both t h m byte j s r e output left after {out} {out′} {at} {next} b acc wide off eq p =
+    let c = counted t h m byte r e output left off in
     subst (λ (x : Monitor). Stepped t h m byte out at x next out′) (sym eq)
     record {
-      text = acceptedLine (m .accepted + 1) byte (j .verdicts .own .weak) (j .verdicts .own .strong) (j .size) (take f left);
+      text = acceptedLine (m .accepted + 1) byte (j .verdicts .own .weak) (j .verdicts .own .strong) (j .size) (take (r .count) left);
       steps = accepted j acc wide off;
       printed = p;
       within = record {
         sound = b .sound;
-        estimator = accepted-limits t h (m .estimator) byte (toldEach (m .estimator .further) (j .verdicts)) (j .size) s acc;
+        estimator = accepted-limits t h (m .estimator) byte (findings (m .estimator .further) j) s acc;
         enforcer = c .limits;
         balanced = record { among = omega (arith, b .balanced .among); balance = omega (arith, b .balanced .balance, c .kept) };
       };

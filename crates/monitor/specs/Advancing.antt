@@ -9,17 +9,18 @@ use Rattle.automaton.specs.declared.Header.{Header}
 use Rattle.refusal.specs.Refusals.{numberOf}
 use Rattle.monitor.specs.Stepping.{Within, Lines, Printed}
 use Rattle.monitor.specs.declared.Monitor.{Monitor}
+use Rattle.monitor.specs.declared.Advance.{Advance}
 use Rattle.monitor.specs.declared.AdvanceAnswer.{AdvanceAnswer}
 use Rattle.monitor.specs.declared.AdvanceAnswer.the-variants as answer
 
 -- what an answer says: the number of a refusal, or how many event bytes were taken and where the next line goes
 pub data Said : Type 0 where
   refused : ℕ → Said
-  taken : (bytes next : ℕ) → Said
+  taken : Advance → Said
 
 abbrev pub said : AdvanceAnswer → Said
 said (answer.Refused r) = refused (numberOf r)
-said (answer.Taken n next) = taken n next
+said (answer.Taken a) = taken a
 
 -- there is room for a line, and one more event byte is allowed: 01 ends a log after 4,294,967,295 of them
 pub record Ready (m : Monitor) (out : List ℕ) (at : ℕ) : Type 0 where
@@ -32,7 +33,7 @@ pub data Advancing (t : List ℕ) (h : Header) (m : Monitor) (events out : List 
   malformed : (Within t h m → ⊥) → Advancing t h m events out at (refused 9) m out
   advanced : {n : ℕ} {text : List ℕ} {e : Monitor} → Within t h m → n ≤ length events → Lines t h m (take n events) text e → Within t h e
       → (text ≡ []) ⊎ (at + length text ≤ length out) → e .offered ≤ 4294967295 → (n ≡ length events) ⊎ (Ready e (sets out at text) (at + length text) → ⊥)
-      → Advancing t h m events out at (taken n (at + length text)) e (sets out at text)
+      → Advancing t h m events out at (taken (record { taken = n; next = at + length text })) e (sets out at text)
 
 -- the first i event bytes are taken, inside `advance`
 pub record Along (t : List ℕ) (h : Header) (m : Monitor) (events out : List ℕ) (at : ℕ) (e : Monitor) (next i : ℕ) (out′ : List ℕ) : Type 0 where

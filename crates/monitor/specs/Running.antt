@@ -28,12 +28,12 @@ pub record Front (first input : List ℕ) : Type 0 where
 -- how many event bytes a call of `advance` took
 abbrev pub takenBy : Said → ℕ
 takenBy (advancing.refused n) = 0
-takenBy (advancing.taken n next) = n
+takenBy (advancing.taken a) = a .taken
 
 -- what it wrote into its output, from a place on
 abbrev pub writtenBy : Said → ℕ → List ℕ → List ℕ
 writtenBy (advancing.refused n) at out = []
-writtenBy (advancing.taken n next) at out = slice at next out
+writtenBy (advancing.taken a) at out = slice at (a .next) out
 
 -- calls of `advance`, each with some of the event bytes that are left, on outputs of any size: all that they wrote, and the monitor after them
 pub data Follows (t : List ℕ) (h : Header) : Monitor → (left text : List ℕ) → Monitor → Type 0 where

@@ -5,6 +5,7 @@ use mathlib.Core.Logic.{_⊎_}
 use Prim.Native.Nat.{ℕ, _+_, _≤_}
 use lib.ListN.{length, take}
 use lib.Seq.{sets}
+use Rattle.lists.specs.Calls.{Chain, joined}
 use Rattle.automaton.specs.Run.{Sound}
 use Rattle.automaton.specs.declared.Header.{Header}
 use Rattle.refusal.specs.declared.Refusal.{Refusal}
@@ -13,8 +14,9 @@ use Rattle.verifier.specs.declared.Estimator.{Estimator}
 use Rattle.verifier.specs.declared.Judgement.{Judgement}
 use Rattle.verifier.specs.Estimators as estimators
 use Rattle.verifier.specs.Replies as verifier
-use Rattle.verifier.specs.Replies.{Told, toldEach, Accepting}
+use Rattle.verifier.specs.Replies.{Findings, findings, Accepting}
 use Rattle.enforcer.specs.declared.Enforcer.{Enforcer}
+use Rattle.enforcer.specs.declared.Release.{Release}
 use Rattle.enforcer.specs.Enforcers as enforcers
 use Rattle.enforcer.specs.Offerings as enforcer
 use Rattle.enforcer.specs.Offerings.{Offering}
@@ -54,19 +56,35 @@ acceptedOnce m s e f = record { opening = m .opening; estimator = s; enforcer = 
 pub data Stepping (t : List ℕ) (h : Header) (m : Monitor) (byte : ℕ) : List ℕ → Monitor → Type 0 where
   not-verified : (r : Refusal) {s : Estimator} → Accepting t h (m .estimator) byte (verifier.refused (numberOf r)) s
       → Stepping t h m byte (refusedLine byte r) (offeredOnce m)
-  not-enforced : (r : Refusal) {vs : List Told} {n : ℕ} {s : Estimator} {e : Enforcer} {output left : List ℕ} → Accepting t h (m .estimator) byte (verifier.verdicts vs n) s
+  not-enforced : (r : Refusal) {j : Findings} {s : Estimator} {e : Enforcer} {output left : List ℕ} → Accepting t h (m .estimator) byte (verifier.verdicts j) s
       → length output ≡ 17 → Offering t h (m .enforcer) byte output (enforcer.refused (numberOf r)) e left
       → Stepping t h m byte (refusedLine byte r) (offeredOnce m)
-  accepted : (j : Judgement) {s : Estimator} {f n : ℕ} {e : Enforcer} {output left : List ℕ}
-      → Accepting t h (m .estimator) byte (verifier.verdicts (toldEach (m .estimator .further) (j .verdicts)) (j .size)) s
-      → length output ≡ 17 → Offering t h (m .enforcer) byte output (enforcer.released f n) e left
-      → Stepping t h m byte (acceptedLine (m .accepted + 1) byte (j .verdicts .own .weak) (j .verdicts .own .strong) (j .size) (take f left)) (acceptedOnce m s e f)
+  accepted : (j : Judgement) {s : Estimator} {r : Release} {e : Enforcer} {output left : List ℕ}
+      → Accepting t h (m .estimator) byte (verifier.verdicts (findings (m .estimator .further) j)) s
+      → length output ≡ 17 → Offering t h (m .enforcer) byte output (enforcer.released r) e left
+      → Stepping t h m byte (acceptedLine (m .accepted + 1) byte (j .verdicts .own .weak) (j .verdicts .own .strong) (j .size) (take (r .count) left))
+      (acceptedOnce m s e (r .count))
+
+-- one event byte of a list, and its line
+pub record Event : Type 0 where
+  pub byte : ℕ
+  pub line : List ℕ
+
+abbrev pub Followed : List ℕ → Header → Monitor → Event → Monitor → Type 0
+Followed t h m v n = Stepping t h m (v .byte) (v .line) n
+
+abbrev pub bytesOf : List Event → List ℕ
+bytesOf vs = joined (λ v. v .byte ∷ []) vs
+
+abbrev pub linesOf : List Event → List ℕ
+linesOf vs = joined (λ v. v .line) vs
 
 -- event bytes one after another: their lines, and the monitor after them
-pub data Lines (t : List ℕ) (h : Header) : Monitor → List ℕ → List ℕ → Monitor → Type 0 where
-  done : {m : Monitor} → Lines t h m [] [] m
-  next : {m n e : Monitor} {byte : ℕ} {bytes text rest : List ℕ} → Stepping t h m byte text n → Lines t h n bytes rest e
-      → Lines t h m (byte ∷ bytes) (text ++ rest) e
+pub record Lines (t : List ℕ) (h : Header) (m : Monitor) (bytes text : List ℕ) (e : Monitor) : Type 0 where
+  pub events : List Event
+  pub steps : Chain (Followed t h) m events e
+  pub bytes-are : bytesOf events ≡ bytes
+  pub text-is : linesOf events ≡ text
 
 -- a text inside an output: all of it stands there, from `at` on (or there is none), all other bytes stay, and the next one goes behind it
 pub record Printed (out : List ℕ) (at : ℕ) (text : List ℕ) (next : ℕ) (out′ : List ℕ) : Type 0 where

@@ -18,7 +18,7 @@ ghost use lib.ListN.{length};
 ghost use Rattle.stateset.specs.Set.{Decided};
 ghost use Rattle.automaton.specs.Run.{Sound};
 ghost use Rattle.verifier.specs.Replies as verifier;
-ghost use Rattle.verifier.specs.Replies.{toldEach, Accepting};
+ghost use Rattle.verifier.specs.Replies.{findings, Accepting};
 ghost use Rattle.report.specs.Writing.{roomAtEnd, Written};
 ghost use Rattle.report.specs.Text.{acceptedLine, refusedLine};
 ghost use Rattle.monitor.specs.Stepping.{Balanced, Within, Countable, offeredOnce, acceptedOnce, placeOf, Printed, Stepped};
@@ -44,10 +44,15 @@ struct Entry {
     next: usize,
 }
 
+// How many event bytes were taken, and where the next line goes.
+pub struct Advance {
+    pub taken: usize,
+    pub next: usize,
+}
+
 pub enum AdvanceAnswer {
     Refused(Refusal),
-    // How many event bytes were taken, and where the next line goes.
-    Taken(usize, usize),
+    Taken(Advance),
 }
 
 pub struct Advanced {
@@ -192,7 +197,7 @@ impl Monitor {
         out: &mut [u8],
         at: usize,
     ) -> Entry
-        requires { ⌜ Within (now table) header self × Ready self (now out) at × Accepting (now table) header (self .estimator) byte (verifier.verdicts (toldEach (self .estimator .further) (judgement .verdicts)) (judgement .size)) estimator ⌝ }
+        requires { ⌜ Within (now table) header self × Ready self (now out) at × Accepting (now table) header (self .estimator) byte (verifier.verdicts (findings (self .estimator .further) judgement)) estimator ⌝ }
         ensures { λ r. ⌜ Stepped (now (table .entry)) header self byte (now (out .entry)) at (r .monitor) (r .next) (now (out .exit)) ⌝ }
     {
         let mut output = [0u8; 17];
@@ -257,7 +262,10 @@ impl Monitor {
         }
         Advanced {
             monitor: now,
-            answer: AdvanceAnswer::Taken(i, next),
+            answer: AdvanceAnswer::Taken(Advance {
+                taken: i,
+                next: next,
+            }),
         }
     }
 }

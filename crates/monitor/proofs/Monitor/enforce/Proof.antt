@@ -8,6 +8,7 @@ use lib.ListN.{length, replicate}
 use Rattle.enforcer.specs.Offerings as enforcer
 use Rattle.enforcer.specs.Offerings.{Offering}
 use Rattle.enforcer.specs.declared.OfferAnswer.{OfferAnswer}
+use Rattle.enforcer.specs.declared.Release.{Release}
 use Rattle.monitor.proofs.Outcomes.{countable, part-size, part-is, by-enforcer, by-both}
 use borrow.Author.Needs.{needs}
 use Rattle.monitor.proofs.Monitor.enforce.Statement.{statement}
@@ -17,14 +18,14 @@ use Rattle.monitor.proofs.Monitor.enforce.Tie as tie
 abbrev left : tie.After-answer2 → List ℕ
 left x = x .before .before .before .offer .last .1 .1 .1 .1 .0
 
-abbrev count : tie.After-answer2 → ℕ
-count x = x .answer2 .given .0 .0 .count
+abbrev given : tie.After-answer2 → Release
+given x = x .answer2 .given .0 .0
 
-abbrev size : tie.After-answer2 → ℕ
-size x = x .answer2 .given .0 .0 .size
+abbrev count : tie.After-answer2 → ℕ
+count x = given x .count
 
 offered : (x : tie.After-answer2) → Offering (now (x .before .before .before .before .before .before .before .before .args .table)) (x .before .before .before .before .before .before .before .before .args .header) (x .before .before .before .before .before .before .before .before .args .self .enforcer) (x .before .before .before .before .before .before .before .before .args .byte) (replicate 17 0)
-    (enforcer.released (count x) (size x)) (x .before .before .before .offer .result .enforcer) (left x)
+    (enforcer.released (given x)) (x .before .before .before .offer .result .enforcer) (left x)
 offered x =
     let a = x .before .before .before .before .before .before .before .before .args in
     let called = x .before .before .before .offer in
@@ -35,7 +36,7 @@ counts : (x : tie.After-answer2) → Countable (x .before .before .before .befor
 counts x =
     let a = x .before .before .before .before .before .before .before .before .args in
     let p = x .before .before .before .before .before .before .before .before .pre in
-    countable (now (a .table)) (a .header) (a .self) (a .byte) (count x) (size x) (x .before .before .before .offer .result .enforcer) (replicate 17 0) (left x) (now (a .out)) (a .at) (p .0) (p .1) (offered x)
+    countable (now (a .table)) (a .header) (a .self) (a .byte) (given x) (x .before .before .before .offer .result .enforcer) (replicate 17 0) (left x) (now (a .out)) (a .at) (p .0) (p .1) (offered x)
 
 within : (x : tie.After-answer2) → count x ≤ length (left x)
 within x = omega (arith, counts x .few)
@@ -84,7 +85,7 @@ returns c =
     let called = c .before .before .before .before .before .before .before .before .offer in
     let done = c .before .before .log-refused in
     let r = c .before .before .before .before .before .answer .given .0 .0 in
-    by-enforcer (now (a .table)) (a .header) (a .self) (a .byte) r _ _ (a .estimator) (called .result .enforcer) (replicate 17 0) (called .last .1 .1 .1 .1 .0) (done .result .monitor)
+    by-enforcer (now (a .table)) (a .header) (a .self) (a .byte) r _ (a .estimator) (called .result .enforcer) (replicate 17 0) (called .last .1 .1 .1 .1 .0) (done .result .monitor)
     (p .0) (p .2) refl
     (subst (λ (x : OfferAnswer). Offering (now (a .table)) (a .header) (a .self .enforcer) (a .byte) (replicate 17 0) (enforcer.said x) (called .result .enforcer) (called .last .1 .1 .1 .1 .0)) (c .before .before .before .before .before .answer .given .1) (called .ensures))
     (done .ensures .0) (done .ensures .1)
@@ -99,7 +100,7 @@ returns-2 c =
     let p = x .before .before .before .before .before .before .before .before .pre in
     let done = c .before .before .log-accepted in
     let e = x .before .before .before .offer .result .enforcer in
-    by-both (now (a .table)) (a .header) (a .self) (a .byte) (a .judgement) (a .estimator) (count x) (size x) e (replicate 17 0) (left x) (done .result .monitor)
+    by-both (now (a .table)) (a .header) (a .self) (a .byte) (a .judgement) (a .estimator) (given x) e (replicate 17 0) (left x) (done .result .monitor)
     (p .0) (p .2) refl (offered x)
     (subst (λ (k : ℕ). done .result .monitor ≡ acceptedOnce (a .self) (a .estimator) e k) (part-size (left x) (count x) (within x)) (done .ensures .0))
     (rw (part-is (left x) (count x)) at (done .ensures .1))

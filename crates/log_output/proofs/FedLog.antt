@@ -13,7 +13,7 @@ use Rattle.refusal.specs.declared.Refusal.{Refusal}
 use Rattle.report.specs.Text.{refusedLog}
 use Rattle.report.specs.Writing.{roomFor, roomAtEnd, Written, no-room, written}
 use Rattle.report.specs.declared.Line.{Line}
-use Rattle.monitor.specs.Stepping.{Within, Lines, done, placeOf}
+use Rattle.monitor.specs.Stepping.{Within, Lines, placeOf}
 use Rattle.monitor.specs.Opening.{refused, started, Opening}
 use Rattle.monitor.specs.Ending.{lastLines}
 use Rattle.monitor.specs.Log.{Output}
@@ -21,7 +21,7 @@ use Rattle.monitor.specs.declared.Monitor.{Monitor}
 use Rattle.monitor.specs.Running as running
 use Rattle.monitor.specs.Running.{Front}
 use Rattle.monitor.proofs.Openings.{started-within}
-use Rattle.monitor.proofs.Following.{lines-append}
+use Rattle.monitor.proofs.Following.{lines-none, lines-append}
 use Rattle.monitor.proofs.LogOutput.{take-is, front-opens, started-usable, lines-output, log-output}
 use Rattle.log_output.specs.declared.Status.{Status}
 use Rattle.log_output.specs.declared.Status.the-variants.{Going, Ended, Failed, Closed}
@@ -65,7 +65,7 @@ module _ (t : List ℕ) (h : Header) where
     taken = 0;
     among = omega arith;
     text = [];
-    lines = done;
+    lines = lines-none;
     within = u .within;
     few = u .few;
     gone = [];
@@ -77,11 +77,11 @@ module _ (t : List ℕ) (h : Header) where
 
   none-ended : {p : Progress} {out : List ℕ} → Usable t h p out → Handed p out [] (withStatus (atStart p) Ended) out
   none-ended {p} {out} u =
-      record { taken = 0; among = omega arith; text = []; lines = done; within = u .within; few = u .few; gone = take (p .at) out; kept = refl; inside = omega arith; size = refl; left = inl refl }
+      record { taken = 0; among = omega arith; text = []; lines = lines-none; within = u .within; few = u .few; gone = take (p .at) out; kept = refl; inside = omega arith; size = refl; left = inl refl }
 
   none-failed : {p : Progress} {out : List ℕ} → Usable t h p out → Handed p out [] (withStatus (atStart p) Failed) out
   none-failed {p} {out} u =
-      record { taken = 0; among = omega arith; text = []; lines = done; within = u .within; few = u .few; gone = take (p .at) out; kept = refl; inside = omega arith; size = refl; left = refl }
+      record { taken = 0; among = omega arith; text = []; lines = lines-none; within = u .within; few = u .few; gone = take (p .at) out; kept = refl; inside = omega arith; size = refl; left = refl }
 
   last-handed : {left : ℕ} {p : Progress} {out input : List ℕ} {r : Reading} {out′ : List ℕ} → Usable t h p out → Turning t h left p out input r out′ → r .brought ≡ 0
       → Handed p out [] (r .progress) out′

@@ -132,13 +132,13 @@ fn advance(progress: Progress, table: &[u64], header: Header, events: &[u8], out
             progress: progress,
             taken: 0,
         },
-        AdvanceAnswer::Taken(n, next) => Part {
+        AdvanceAnswer::Taken(advance) => Part {
             progress: Progress {
                 monitor: after,
-                at: next,
+                at: advance.next,
                 status: Status::Going,
             },
-            taken: n,
+            taken: advance.taken,
         },
     }
 }

@@ -3,7 +3,6 @@ use Prim.Native.Nat.{ℕ}
 use mathlib.Core.Path.{_≡_, refl, sym, subst, _∙_}
 use mathlib.Core.List.{List, [], _∷_, _++_, map}
 use lib.ListN.{length}
-use lib.Seq.{sets}
 use Rattle.refusal.specs.Refusals.{numberOf}
 use Rattle.automaton.specs.declared.Header.{Header}
 use Rattle.refusal.specs.declared.Refusal.{Refusal}
@@ -24,10 +23,12 @@ use Rattle.enforcer.specs.declared.Enforcer.{Enforcer}
 use Rattle.enforcer.specs.declared.Release.{Release}
 use Rattle.enforcer.specs.declared.StartAnswer as start
 use Rattle.enforcer.specs.declared.OfferAnswer as offer
-use Rattle.gateway.specs.Layout.{headerAt, headerBytes, furtherAt, estimatorAt, estimatorBytes, EstimatorSized, EnforcerSized, notionAt, enforcerAt, enforcerBytes, toldBytes, judgementBytes, releaseBytes}
+use Rattle.layout.specs.Sizes.{headerSize}
+use Rattle.layout.specs.Layout.{Stored, headerAt, headerBytes, furtherAt, estimatorAt, estimatorBytes, EstimatorSized, notionAt, enforcerAt, enforcerBytes, EnforcerSized}
+use Rattle.layout.specs.Layout.{toldBytes, judgementBytes, releaseBytes}
 use Rattle.gateway.specs.Interface.{Decode, FreshSizes, Fresh, Accept, Start, Offer, VerifierSizes, StartSizes, OfferSizes}
-use Rattle.gateway.proofs.Saved.{whole}
-use Rattle.gateway.proofs.Inverse.{estimator-length, estimator-saved, enforcer-saved}
+use Rattle.layout.proofs.Stores.{whole}
+use Rattle.layout.proofs.Inverse.{estimator-length, estimator-saved, enforcer-saved}
 
 -- a refusal leaves the lent memory
 kept-table : (encoding table : List ℕ) {h : Header} {n : ℕ} {after : List ℕ} → Decoding encoding table h (decoding.refuse n) after → after ≡ table
@@ -41,7 +42,7 @@ kept-output t h s symbol output (Offering.output-too-small so li few) = refl
 kept-output t h s symbol output (Offering.not-observable so li wide never) = refl
 kept-output t h s symbol output (Offering.incompatible so li wide ob none) = refl
 
-module _ (encoding table header after : List ℕ) (h : Header) (answer : decoded.Answer) (size : length header ≡ 46)
+module _ (encoding table header after : List ℕ) (h : Header) (answer : decoded.Answer) (size : length header ≡ headerSize)
     (did : Decoding encoding table h (answerMeans answer) after) where
   pub decode-refused : (r : Refusal) (n : ℕ) → answer ≡ decoded.the-variants.Refused r → n ≡ numberOf r → Decode encoding table header n after header
   decode-refused r n is number =
@@ -66,8 +67,8 @@ given-bytes f j others =
 module _ (t header estimator judgement : List ℕ) (h : Header) (after : Estimator) (answer : verdict.Answer) (sizes : VerifierSizes header estimator judgement)
     (is-header : h ≡ headerAt header) where
   -- an estimator that fills its slice
-  filled : (left : List ℕ) → EstimatorSized after × (left ≡ sets estimator 0 (estimatorBytes after)) → left ≡ estimatorBytes after
-  filled left wrote = wrote .1 ∙ whole estimator (estimatorBytes after) (estimator-length after (wrote .0) ∙ sym (sizes .estimator-size))
+  filled : (left : List ℕ) → EstimatorSized after × Stored estimator 0 (estimatorBytes after) left → left ≡ estimatorBytes after
+  filled left wrote = whole (wrote .1) (estimator-length after (wrote .0) ∙ sym (sizes .estimator-size))
 
   module _ (further : List ℕ) (f : Further) (all : FreshSizes header further estimator judgement) (is-further : f ≡ furtherAt further 0)
       (did : Opening t h f (verifier.said f answer) after × verifier.Others f answer) where
@@ -82,7 +83,7 @@ module _ (t header estimator judgement : List ℕ) (h : Header) (after : Estimat
     fresh-refused r n is number = rw number (Fresh.refused all (said-opening (verdict.the-variants.Refused r) is .0))
 
     pub fresh-accepted : (j : Judgement) (left told : List ℕ) → answer ≡ verdict.the-variants.Accepted j
-        → EstimatorSized after × (left ≡ sets estimator 0 (estimatorBytes after)) → told ≡ writtenBytes j → Fresh t header further estimator judgement 0 left told
+        → EstimatorSized after × Stored estimator 0 (estimatorBytes after) left → told ≡ writtenBytes j → Fresh t header further estimator judgement 0 left told
     fresh-accepted j left told is wrote says =
         let x = said-opening (verdict.the-variants.Accepted j) is in
         subst (λ (y : List ℕ). Fresh t header further estimator judgement 0 y told) (sym (filled left wrote))
@@ -102,7 +103,7 @@ module _ (t header estimator judgement : List ℕ) (h : Header) (after : Estimat
     accept-refused r n is number = rw number (Accept.refused sizes (said-accepting (verdict.the-variants.Refused r) is .0))
 
     pub accept-accepted : (j : Judgement) (left told : List ℕ) → answer ≡ verdict.the-variants.Accepted j
-        → EstimatorSized after × (left ≡ sets estimator 0 (estimatorBytes after)) → told ≡ writtenBytes j → Accept t header symbol estimator judgement 0 left told
+        → EstimatorSized after × Stored estimator 0 (estimatorBytes after) left → told ≡ writtenBytes j → Accept t header symbol estimator judgement 0 left told
     accept-accepted j left told is wrote says =
         let x = said-accepting (verdict.the-variants.Accepted j) is in
         subst (λ (y : List ℕ). Accept t header symbol estimator judgement 0 y told) (sym (filled left wrote))

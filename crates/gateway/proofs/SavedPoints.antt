@@ -28,10 +28,11 @@ use Rattle.enforcer.specs.Offerings.{OpensAsLeak, Starting, Offering}
 use Rattle.enforcer.specs.Offers as enforcer
 use Rattle.enforcer.proofs.ThirdPoint.{third-point}
 use Rattle.enforcer.proofs.Starts.{never-opens, past-starting}
-use Rattle.gateway.specs.Layout.{headerAt, furtherAt, estimatorAt, notionAt, enforcerAt}
+use Rattle.layout.specs.Sizes.{headerSize, furtherSize, estimatorSize, strongByte, notionPlace, enforcerSize, judgementSize}
+use Rattle.layout.specs.Layout.{headerAt, furtherAt, estimatorAt, notionAt, enforcerAt, verdictsAt, sizeAt}
 use Rattle.gateway.specs.Interface.{Decode, Fresh, Accept, Start, Offer, ByFurther, ByStart}
-use Rattle.gateway.specs.SavedCalls.{AcceptCall, AcceptCalls, verdictsAt, sizeAt, acceptSaid, callsOf, OfferCall, OfferCalls, offersOf}
-use Rattle.gateway.proofs.Inverse.{header-length}
+use Rattle.gateway.specs.SavedCalls.{AcceptCall, AcceptCalls, acceptSaid, callsOf, OfferCall, OfferCalls, offersOf}
+use Rattle.layout.proofs.Inverse.{header-length}
 use Rattle.gateway.proofs.Sizes.{header-sized, decoded-header-back}
 use Rattle.gateway.proofs.Numbered.{not-zero}
 use Rattle.gateway.proofs.SavedSteps.{told-back, accept-calls, offer-calls}
@@ -43,16 +44,16 @@ saved-header encoding table before t header (Decode.accepted size {h = h} x) =
     subst (λ (y : Header). Decoding encoding table y accept t) (sym (decoded-header-back encoding table h t x)) x
 
 -- the header has its length, and with the table it is an automaton
-saved-length : (encoding table before t header : List ℕ) → Decode encoding table before 0 t header → length header ≡ 46
+saved-length : (encoding table before t header : List ℕ) → Decode encoding table before 0 t header → length header ≡ headerSize
 saved-length encoding table before t header (Decode.refused size x) = absurd (not-zero encoding table x refl)
-saved-length encoding table before t header (Decode.accepted size {h = h} x) = header-length h (header-sized encoding table h t x)
+saved-length encoding table before t header (Decode.accepted size {h = h} x) = header-length h (header-sized encoding table h t x .symbols)
 
 saved-sound : (encoding table before t header : List ℕ) → Decode encoding table before 0 t header → Sound t (headerAt header)
 saved-sound encoding table before t header x = decoded-sound encoding table (headerAt header) t (saved-header encoding table before t header x)
 
 -- so with slices of their lengths a fresh estimator is refused by 13 and 14 only
 pub saved-fresh : (encoding table before t header further estimator lent : List ℕ) (answer : ℕ) (s told : List ℕ) → Decode encoding table before 0 t header
-    → length further ≡ 28 → length estimator ≡ 172 → length lent ≡ 9 → Fresh t header further estimator lent answer s told → ByFurther (furtherAt further 0) answer
+    → length further ≡ furtherSize → length estimator ≡ estimatorSize → length lent ≡ judgementSize → Fresh t header further estimator lent answer s told → ByFurther (furtherAt further 0) answer
 saved-fresh encoding table before t header further estimator lent answer s told x f e l (Fresh.size bad) =
     absurd (bad (record { verifier = record { header-size = saved-length encoding table before t header x; estimator-size = e; judgement-size = l }; further-size = f }))
 saved-fresh encoding table before t header further estimator lent answer s told x f e l (Fresh.refused _ (Opening.malformed bad out)) =
@@ -63,7 +64,7 @@ saved-fresh encoding table before t header further estimator lent answer s told 
 
 -- and a start by these, and by 8 where a secret that is given opens as leak 0
 pub saved-start : (encoding table before t header : List ℕ) (notion : ℕ) (further enforcer : List ℕ) (answer : ℕ) (s : List ℕ) → Decode encoding table before 0 t header
-    → notion ≤ 1 → length further ≡ 28 → length enforcer ≡ 206 → Start t header notion further enforcer answer s
+    → notion ≤ strongByte → length further ≡ furtherSize → length enforcer ≡ enforcerSize → Start t header notion further enforcer answer s
     → ByStart (furtherAt further 0) (OpensAsLeak (notionAt notion) (automatonOf t (headerAt header)) (secretsOf (headerAt header) (furtherAt further 0))) answer
 saved-start encoding table before t header notion further enforcer answer s x known f e (Start.size bad) =
     absurd (bad (record { header-size = saved-length encoding table before t header x; notion-known = known; further-size = f; enforcer-size = e }))
@@ -107,7 +108,7 @@ saved-second-point t header further before lent s told cs e (Fresh.accepted size
 -- from the bytes of an encoding to the verdicts and the number: what was decoded, a fresh estimator on it with further secrets that may be given, and any
 -- calls of accept
 pub encoded-second-point : (encoding table before t header further estimator lent : List ℕ) (answer : ℕ) (s told : List ℕ) (cs : List AcceptCall) (e : List ℕ)
-    → Decode encoding table before 0 t header → length further ≡ 28 → length estimator ≡ 172 → length lent ≡ 9 → Allowed (furtherAt further 0)
+    → Decode encoding table before 0 t header → length further ≡ furtherSize → length estimator ≡ estimatorSize → length lent ≡ judgementSize → Allowed (furtherAt further 0)
     → Fresh t header further estimator lent answer s told → AcceptCalls t header s cs e
     → (answer ≡ 0) × Decoding encoding table (headerAt header) accept t
     × verifier.Promise t (headerAt header) (furtherAt further 0) (verdictsAt (furtherAt further 0 .count) told) (sizeAt told) (callsOf (furtherAt further 0 .count) cs) (estimatorAt e)
@@ -135,12 +136,12 @@ saved-third-point t header notion further before s cs e (Start.started sizes {s 
 -- WITHIN THE LIMITS AS THEY READ BACK: the bytes that an accepted event leaves, of a saved state within its limits, whatever it grew from; and they keep
 -- the further secrets
 pub accept-within : (t header : List ℕ) (symbol : ℕ) (before lent after told : List ℕ) → Accept t header symbol before lent 0 after told
-    → (length after ≡ 172) × estimator.InLimits (headerAt header) (estimatorAt after) × (estimatorAt after .further ≡ estimatorAt before .further)
+    → (length after ≡ estimatorSize) × estimator.InLimits (headerAt header) (estimatorAt after) × (estimatorAt after .further ≡ estimatorAt before .further)
 accept-within t header symbol before lent after told (Accept.accepted sizes {s = s} (Accepting.accepted so li ob same limits many b within exact) saved) =
     (saved .size, subst (estimator.InLimits (headerAt header)) (sym (saved .back)) limits, ap (λ (y : Estimator). y .further) (saved .back) ∙ same)
 
 pub offer-within : (t header : List ℕ) (symbol : ℕ) (before output lent after left release : List ℕ) → Offer t header symbol before output lent 0 after left release
-    → (length after ≡ 206) × (getD after 172 0 ≤ 1) × limits.InLimits (headerAt header) (enforcerAt after)
+    → (length after ≡ enforcerSize) × (getD after notionPlace 0 ≤ strongByte) × limits.InLimits (headerAt header) (enforcerAt after)
     × (enforcerAt after .estimator .further ≡ enforcerAt before .estimator .further)
 offer-within t header symbol before output lent after left release (Offer.released sizes {s = s} (Offering.accepted so li wide ob same within bal front rest size exact) saved) = (
   saved .size,
@@ -150,7 +151,7 @@ offer-within t header symbol before output lent after left release (Offer.releas
 )
 
 -- WHAT STANDS PAST THE COUNT in the bytes of further secrets counts for nothing
-pub past-fresh : (t header a b estimator lent : List ℕ) (answer : ℕ) (s told : List ℕ) → length a ≡ 28 → length b ≡ 28
+pub past-fresh : (t header a b estimator lent : List ℕ) (answer : ℕ) (s told : List ℕ) → length a ≡ furtherSize → length b ≡ furtherSize
     → clearedOf (furtherAt a 0) ≡ clearedOf (furtherAt b 0) → Fresh t header a estimator lent answer s told → Fresh t header b estimator lent answer s told
 past-fresh t header a b estimator lent answer s told size-a size-b same (Fresh.size bad) = Fresh.size (λ x. bad (record { verifier = x .verifier; further-size = size-a }))
 past-fresh t header a b estimator lent answer s told size-a size-b same (Fresh.refused sizes x) =
@@ -158,7 +159,7 @@ past-fresh t header a b estimator lent answer s told size-a size-b same (Fresh.r
 past-fresh t header a b estimator lent answer s told size-a size-b same (Fresh.accepted sizes x saved) =
     Fresh.accepted (record { verifier = sizes .verifier; further-size = size-b }) (past-opening (furtherAt a 0) (furtherAt b 0) same t (headerAt header) _ _ x) saved
 
-pub past-start : (t header : List ℕ) (notion : ℕ) (a b enforcer : List ℕ) (answer : ℕ) (s : List ℕ) → length a ≡ 28 → length b ≡ 28
+pub past-start : (t header : List ℕ) (notion : ℕ) (a b enforcer : List ℕ) (answer : ℕ) (s : List ℕ) → length a ≡ furtherSize → length b ≡ furtherSize
     → clearedOf (furtherAt a 0) ≡ clearedOf (furtherAt b 0) → Start t header notion a enforcer answer s → Start t header notion b enforcer answer s
 past-start t header notion a b enforcer answer s size-a size-b same (Start.size bad) =
     Start.size (λ x. bad (record { header-size = x .header-size; notion-known = x .notion-known; further-size = size-a; enforcer-size = x .enforcer-size }))

@@ -21,10 +21,11 @@ use Rattle.enforcer.specs.declared.Enforcer.{Enforcer}
 use Rattle.enforcer.specs.Offerings as offering
 use Rattle.enforcer.specs.Offerings.{Offering}
 use Rattle.enforcer.specs.Offers.{Chain, Offers}
-use Rattle.gateway.specs.Layout.{headerAt, estimatorAt, enforcerAt, verdictAt, verdictByte, judgementBytes}
+use Rattle.layout.specs.Sizes.{headerSize, furtherCount, mostRemembered, estimatorSize, strongByte, notionPlace, enforcerSize, judgementSize, releaseSize}
+use Rattle.layout.specs.Layout.{headerAt, estimatorAt, enforcerAt, verdictAt, verdictByte, judgementBytes, verdictsAt}
 use Rattle.gateway.specs.Interface.{Accept, Offer}
-use Rattle.gateway.specs.SavedCalls.{AcceptCall, AcceptCalls, verdictsAt, acceptSaid, callsOf, OfferCall, OfferCalls, offerSaid, offersOf}
-use Rattle.gateway.proofs.Inverse.{verdict-back}
+use Rattle.gateway.specs.SavedCalls.{AcceptCall, AcceptCalls, acceptSaid, callsOf, OfferCall, OfferCalls, offerSaid, offersOf}
+use Rattle.layout.proofs.Inverse.{verdict-back}
 
 -- the judgement that was written is the one that is read: two verdicts for each secret that is given, none past 15 steps
 module _ (vs : List Told) (n given : ℕ) (few : given ≤ 3) (many : length vs ≡ suc given)
@@ -51,7 +52,7 @@ module _ (vs : List Told) (n given : ℕ) (few : given ≤ 3) (many : length vs 
       ap (stepsBy notion) (getD-take (suc given) (read 0 ∷ read 1 ∷ read 2 ∷ read 3 ∷ []) i noneTold (omega (arith, size)) ∙ at-place i (omega (arith, size)))
       ∙ one-back notion i (omega (arith, size))))
 
-module _ (t header : List ℕ) (header-size : length header ≡ 46) where
+module _ (t header : List ℕ) (header-size : length header ≡ headerSize) where
   abbrev pub head : Header
   head = headerAt header
 
@@ -77,10 +78,10 @@ module _ (t header : List ℕ) (header-size : length header ≡ 46) where
   -- one call of accept, on bytes that keep these further secrets
   record OneAccept (kept : Further) (s : List ℕ) (symbol answer : ℕ) (m told : List ℕ) : Type 0 where
     accepting : Accepting t head (estimatorAt s) symbol (acceptSaid (kept .count) answer told) (estimatorAt m)
-    size : length m ≡ 172
+    size : length m ≡ estimatorSize
     same : estimatorAt m .further ≡ kept
 
-  one-accept : (kept : Further) (s : List ℕ) (symbol : ℕ) (lent : List ℕ) (answer : ℕ) (m told : List ℕ) → length s ≡ 172 → estimatorAt s .further ≡ kept → length lent ≡ 9
+  one-accept : (kept : Further) (s : List ℕ) (symbol : ℕ) (lent : List ℕ) (answer : ℕ) (m told : List ℕ) → length s ≡ estimatorSize → estimatorAt s .further ≡ kept → length lent ≡ judgementSize
       → Accept t header symbol s lent answer m told → OneAccept kept s symbol answer m told
   one-accept kept s symbol lent answer m told k same nine (Accept.size bad) = absurd (bad (record { header-size = header-size; estimator-size = k; judgement-size = nine }))
   one-accept kept s symbol lent answer m told k same nine (Accept.refused sizes x) =
@@ -98,12 +99,12 @@ module _ (t header : List ℕ) (header-size : length header ≡ 46) where
       }
 
   -- one that lends another number of bytes for the judgement
-  unsized-accept : (s : List ℕ) (symbol : ℕ) (lent : List ℕ) (answer : ℕ) (m told : List ℕ) → (length lent ≡ 9 → ⊥) → Accept t header symbol s lent answer m told → m ≡ s
+  unsized-accept : (s : List ℕ) (symbol : ℕ) (lent : List ℕ) (answer : ℕ) (m told : List ℕ) → (length lent ≡ judgementSize → ⊥) → Accept t header symbol s lent answer m told → m ≡ s
   unsized-accept s symbol lent answer m told n (Accept.size bad) = refl
   unsized-accept s symbol lent answer m told n (Accept.refused sizes x) = refl
   unsized-accept s symbol lent answer m told n (Accept.accepted sizes x saved) = absurd (n (sizes .judgement-size))
 
-  pub accept-calls : (kept : Further) (s : List ℕ) (cs : List AcceptCall) (e : List ℕ) → length s ≡ 172 → estimatorAt s .further ≡ kept → AcceptCalls t header s cs e
+  pub accept-calls : (kept : Further) (s : List ℕ) (cs : List AcceptCall) (e : List ℕ) → length s ≡ estimatorSize → estimatorAt s .further ≡ kept → AcceptCalls t header s cs e
       → Calls t head (estimatorAt s) (callsOf (kept .count) cs) (estimatorAt e)
   accept-calls kept s cs e k same AcceptCalls.done = Calls.done
   accept-calls kept s cs e k same (AcceptCalls.next {m = m} {c = c} {cs = rest} nine a f) =
@@ -112,12 +113,12 @@ module _ (t header : List ℕ) (header-size : length header ≡ 46) where
   accept-calls kept s cs e k same (AcceptCalls.unsized {m = m} {c = c} n a f) =
       let is = unsized-accept s (c .symbol) (c .lent) (c .answer) m (c .told) n a in
       subst (λ (y : List ℕ). Calls t head (estimatorAt y) (callsOf (kept .count) cs) (estimatorAt e)) is
-      (accept-calls kept m cs e (subst (λ (y : List ℕ). length y ≡ 172) (sym is) k) (subst (λ (y : List ℕ). estimatorAt y .further ≡ kept) (sym is) same) f)
+      (accept-calls kept m cs e (subst (λ (y : List ℕ). length y ≡ estimatorSize) (sym is) k) (subst (λ (y : List ℕ). estimatorAt y .further ≡ kept) (sym is) same) f)
 
   -- bytes of the length of an enforcer, with a notion
   pub record KeepsEnforcer (s : List ℕ) : Type 0 where
-    pub size : length s ≡ 206
-    pub known : getD s 172 0 ≤ 1
+    pub size : length s ≡ enforcerSize
+    pub known : getD s notionPlace 0 ≤ strongByte
 
   -- a refusal has no number 0, and leaves the enforcer
   refused-offer : (self : Enforcer) (symbol : ℕ) (output release : List ℕ) {n : ℕ} {after : Enforcer} {left : List ℕ} → Offering t head self symbol output (offering.refused n) after left
@@ -132,7 +133,7 @@ module _ (t header : List ℕ) (header-size : length header ≡ 46) where
     offering : Offering t head (enforcerAt s) symbol output (offerSaid answer release) (enforcerAt m) left
     keeps : KeepsEnforcer m
 
-  one-offer : (s : List ℕ) (symbol : ℕ) (output lent : List ℕ) (answer : ℕ) (m left release : List ℕ) → KeepsEnforcer s → length lent ≡ 2
+  one-offer : (s : List ℕ) (symbol : ℕ) (output lent : List ℕ) (answer : ℕ) (m left release : List ℕ) → KeepsEnforcer s → length lent ≡ releaseSize
       → Offer t header symbol s output lent answer m left release → OneOffer s symbol output answer m left release
   one-offer s symbol output lent answer m left release k two (Offer.size bad) =
       absurd (bad (record { header-size = header-size; enforcer-size = k .size; notion-known = k .known; release-size = two }))
@@ -141,7 +142,7 @@ module _ (t header : List ℕ) (header-size : length header ≡ 46) where
       record { offering = rw (saved .back) (Offering.accepted so li wide ob same after bal front rest within exact); keeps = record { size = saved .size; known = saved .notion-known } }
 
   -- one that lends another number of bytes for the release
-  unsized-offer : (s : List ℕ) (symbol : ℕ) (output lent : List ℕ) (answer : ℕ) (m left release : List ℕ) → (length lent ≡ 2 → ⊥) → Offer t header symbol s output lent answer m left release → m ≡ s
+  unsized-offer : (s : List ℕ) (symbol : ℕ) (output lent : List ℕ) (answer : ℕ) (m left release : List ℕ) → (length lent ≡ releaseSize → ⊥) → Offer t header symbol s output lent answer m left release → m ≡ s
   unsized-offer s symbol output lent answer m left release n (Offer.size bad) = refl
   unsized-offer s symbol output lent answer m left release n (Offer.refused sizes x) = refl
   unsized-offer s symbol output lent answer m left release n (Offer.released sizes x saved) = absurd (n (sizes .release-size))

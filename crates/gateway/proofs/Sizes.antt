@@ -7,8 +7,8 @@ use Rattle.encoding.specs.Encoding.{front, symbols}
 use Rattle.encoding.specs.Decoding.{Decoding, accept}
 use Rattle.encoding.proofs.Ended.{secret-fits, observable-fits, encoding-in}
 use Rattle.encoding.proofs.HeaderSymbols.{header-length}
-use Rattle.gateway.specs.Layout.{headerAt, headerBytes}
-use Rattle.gateway.proofs.Inverse.{HeaderSized, header-back}
+use Rattle.layout.specs.Layout.{headerAt, headerBytes, HeaderSized}
+use Rattle.layout.proofs.Inverse.{header-back}
 
 -- the header of an accepted encoding
 pub header-sized : (bytes table : List ℕ) (h : Header) (after : List ℕ) → Decoding bytes table h accept after → HeaderSized h

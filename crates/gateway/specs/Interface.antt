@@ -14,30 +14,26 @@ use Rattle.verifier.specs.Replies.{Told, Opening, Accepting}
 use Rattle.enforcer.specs.Offerings as offering
 use Rattle.enforcer.specs.Offerings.{Starting, Offering}
 use Rattle.enforcer.specs.declared.Enforcer.{Enforcer}
-use Rattle.gateway.specs.Layout.{headerAt, headerBytes, furtherAt, estimatorAt, estimatorBytes, notionAt, enforcerAt, enforcerBytes, judgementBytes, releaseBytes}
+use Rattle.layout.specs.Sizes as sizes
+use Rattle.layout.specs.Layout.{headerAt, headerBytes, furtherAt, estimatorAt, estimatorBytes, EstimatorSaved, notionAt, enforcerAt, enforcerBytes, EnforcerSaved}
+use Rattle.layout.specs.Layout.{judgementBytes, releaseBytes}
 
 -- decode: the answer, the table after and the header's bytes after
 pub data Decode (encoding table header : List ℕ) : ℕ → List ℕ → List ℕ → Type 0 where
-  size : (length header ≡ 46 → ⊥) → Decode encoding table header 9 table header
-  refused : length header ≡ 46 → {h : Header} {n : ℕ} → Decoding encoding table h (refuse n) table → Decode encoding table header n table header
-  accepted : length header ≡ 46 → {h : Header} {after : List ℕ} → Decoding encoding table h accept after → Decode encoding table header 0 after (headerBytes h)
+  size : (length header ≡ sizes.headerSize → ⊥) → Decode encoding table header 9 table header
+  refused : length header ≡ sizes.headerSize → {h : Header} {n : ℕ} → Decoding encoding table h (refuse n) table → Decode encoding table header n table header
+  accepted : length header ≡ sizes.headerSize → {h : Header} {after : List ℕ} → Decoding encoding table h accept after → Decode encoding table header 0 after (headerBytes h)
 
 -- the slices of a call of the verifier have the lengths of their layouts
 pub record VerifierSizes (header estimator judgement : List ℕ) : Type 0 where
-  pub header-size : length header ≡ 46
-  pub estimator-size : length estimator ≡ 172
-  pub judgement-size : length judgement ≡ 9
-
--- the bytes that a call leaves for an estimator, whatever it grew from: they have their length, and read back as it is, so that what is said of it, its
--- limits too, is said of the bytes
-pub record EstimatorSaved (s : Estimator) : Type 0 where
-  pub size : length (estimatorBytes s) ≡ 172
-  pub back : estimatorAt (estimatorBytes s) ≡ s
+  pub header-size : length header ≡ sizes.headerSize
+  pub estimator-size : length estimator ≡ sizes.estimatorSize
+  pub judgement-size : length judgement ≡ sizes.judgementSize
 
 -- so of a fresh call, and the further secrets
 pub record FreshSizes (header further estimator judgement : List ℕ) : Type 0 where
   pub verifier : VerifierSizes header estimator judgement
-  pub further-size : length further ≡ 28
+  pub further-size : length further ≡ sizes.furtherSize
 
 -- fresh: the answer, the estimator's bytes after and the judgement's after
 pub data Fresh (t header further estimator judgement : List ℕ) : ℕ → List ℕ → List ℕ → Type 0 where
@@ -59,16 +55,10 @@ pub data Accept (t header : List ℕ) (symbol : ℕ) (estimator judgement : List
 
 -- the slices of a start have the lengths of their layouts, and the notion is one
 pub record StartSizes (header : List ℕ) (notion : ℕ) (further enforcer : List ℕ) : Type 0 where
-  pub header-size : length header ≡ 46
-  pub notion-known : notion ≤ 1
-  pub further-size : length further ≡ 28
-  pub enforcer-size : length enforcer ≡ 206
-
--- the bytes that a call leaves for an enforcer, likewise
-pub record EnforcerSaved (s : Enforcer) : Type 0 where
-  pub size : length (enforcerBytes s) ≡ 206
-  pub notion-known : getD (enforcerBytes s) 172 0 ≤ 1
-  pub back : enforcerAt (enforcerBytes s) ≡ s
+  pub header-size : length header ≡ sizes.headerSize
+  pub notion-known : notion ≤ sizes.strongByte
+  pub further-size : length further ≡ sizes.furtherSize
+  pub enforcer-size : length enforcer ≡ sizes.enforcerSize
 
 -- start: the answer and the enforcer's bytes after
 pub data Start (t header : List ℕ) (notion : ℕ) (further enforcer : List ℕ) : ℕ → List ℕ → Type 0 where
@@ -81,10 +71,10 @@ pub data Start (t header : List ℕ) (notion : ℕ) (further enforcer : List ℕ
 
 -- the slices of an offer have the lengths of their layouts, and the saved notion is one
 pub record OfferSizes (header enforcer release : List ℕ) : Type 0 where
-  pub header-size : length header ≡ 46
-  pub enforcer-size : length enforcer ≡ 206
-  pub notion-known : getD enforcer 172 0 ≤ 1
-  pub release-size : length release ≡ 2
+  pub header-size : length header ≡ sizes.headerSize
+  pub enforcer-size : length enforcer ≡ sizes.enforcerSize
+  pub notion-known : getD enforcer sizes.notionPlace 0 ≤ sizes.strongByte
+  pub release-size : length release ≡ sizes.releaseSize
 
 -- offer: the answer, the enforcer's bytes after, the output after and the release's bytes after
 pub data Offer (t header : List ℕ) (symbol : ℕ) (enforcer output release : List ℕ) : ℕ → List ℕ → List ℕ → List ℕ → Type 0 where

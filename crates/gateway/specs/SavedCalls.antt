@@ -9,7 +9,8 @@ use Rattle.verifier.specs.Replies.{Told}
 use Rattle.verifier.specs.Calls.{Call}
 use Rattle.enforcer.specs.Offerings as offering
 use Rattle.enforcer.specs.Offers as enforcer
-use Rattle.gateway.specs.Layout.{verdictAt}
+use Rattle.layout.specs.Sizes.{judgementSize, releaseSize, releasedPlace, releasedPossiblePlace}
+use Rattle.layout.specs.Layout.{verdictsAt, sizeAt}
 use Rattle.gateway.specs.Interface.{Accept, Offer}
 
 -- one call of accept: the symbol, the bytes lent for the judgement, the answer, and those bytes after it
@@ -19,24 +20,14 @@ pub record AcceptCall : Type 0 where
   pub answer : ℕ
   pub told : List ℕ
 
--- calls of accept, one after another: the estimator's bytes before them, the calls that lent 9 bytes for the judgement, and the estimator's bytes after them
+-- calls of accept, one after another: the estimator's bytes before them, the calls that lent as many bytes as a judgement has, and the estimator's bytes after them
 pub data AcceptCalls (t header : List ℕ) : List ℕ → List AcceptCall → List ℕ → Type 0 where
   done : {s : List ℕ} → AcceptCalls t header s [] s
-  next : {s m e : List ℕ} {c : AcceptCall} {cs : List AcceptCall} → length (c .lent) ≡ 9 → Accept t header (c .symbol) s (c .lent) (c .answer) m (c .told)
+  next : {s m e : List ℕ} {c : AcceptCall} {cs : List AcceptCall} → length (c .lent) ≡ judgementSize → Accept t header (c .symbol) s (c .lent) (c .answer) m (c .told)
       → AcceptCalls t header m cs e → AcceptCalls t header s (c ∷ cs) e
   -- a call that lent another number of bytes, and so got 9, may stand between them; it is not listed
-  unsized : {s m e : List ℕ} {c : AcceptCall} {cs : List AcceptCall} → (length (c .lent) ≡ 9 → ⊥) → Accept t header (c .symbol) s (c .lent) (c .answer) m (c .told)
+  unsized : {s m e : List ℕ} {c : AcceptCall} {cs : List AcceptCall} → (length (c .lent) ≡ judgementSize → ⊥) → Accept t header (c .symbol) s (c .lent) (c .answer) m (c .told)
       → AcceptCalls t header m cs e → AcceptCalls t header s cs e
-
--- the verdicts and the number that nine bytes hold, where so many further secrets are given: two for each secret
-abbrev pub pairAt : List ℕ → ℕ → Told
-pairAt told at = record { weak = verdictAt (getD told at 0); strong = verdictAt (getD told (suc at) 0) }
-
-abbrev pub verdictsAt : (given : ℕ) → List ℕ → List Told
-verdictsAt given told = take (suc given) (pairAt told 0 ∷ pairAt told 2 ∷ pairAt told 4 ∷ pairAt told 6 ∷ [])
-
-abbrev pub sizeAt : List ℕ → ℕ
-sizeAt told = getD told 8 0
 
 -- what an answer says: 0 that the bytes hold the verdicts and the number, and else the number of a refusal
 abbrev pub acceptSaid : (given : ℕ) → ℕ → List ℕ → verifier.Said
@@ -57,18 +48,18 @@ pub record OfferCall : Type 0 where
   pub left : List ℕ
   pub release : List ℕ
 
--- calls of offer, one after another: the enforcer's bytes before them, the calls that lent 2 bytes for the release, and the enforcer's bytes after them
+-- calls of offer, one after another: the enforcer's bytes before them, the calls that lent as many as a release has, and the enforcer's bytes after them
 pub data OfferCalls (t header : List ℕ) : List ℕ → List OfferCall → List ℕ → Type 0 where
   done : {s : List ℕ} → OfferCalls t header s [] s
-  next : {s m e : List ℕ} {c : OfferCall} {cs : List OfferCall} → length (c .lent) ≡ 2
+  next : {s m e : List ℕ} {c : OfferCall} {cs : List OfferCall} → length (c .lent) ≡ releaseSize
       → Offer t header (c .symbol) s (c .output) (c .lent) (c .answer) m (c .left) (c .release) → OfferCalls t header m cs e → OfferCalls t header s (c ∷ cs) e
   -- a call that lent another number of bytes, and so got 9, may stand between them; it is not listed
-  unsized : {s m e : List ℕ} {c : OfferCall} {cs : List OfferCall} → (length (c .lent) ≡ 2 → ⊥)
+  unsized : {s m e : List ℕ} {c : OfferCall} {cs : List OfferCall} → (length (c .lent) ≡ releaseSize → ⊥)
       → Offer t header (c .symbol) s (c .output) (c .lent) (c .answer) m (c .left) (c .release) → OfferCalls t header m cs e → OfferCalls t header s cs e
 
 -- what an answer says: 0 that the bytes are the number of released symbols and that of possible states, and else the number of a refusal
 abbrev pub offerSaid : ℕ → List ℕ → offering.Said
-offerSaid zero release = offering.released (getD release 0 0) (getD release 1 0)
+offerSaid zero release = offering.released (getD release releasedPlace 0) (getD release releasedPossiblePlace 0)
 offerSaid (suc n) release = offering.refused (suc n)
 
 -- what was offered, said and left, as the enforcer's promise has it

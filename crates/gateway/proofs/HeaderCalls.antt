@@ -1,0 +1,90 @@
+-- Every function that takes a header says the same with the bytes of two headers that are the same but for the symbols of unobservable events (02, S-2).
+-- Assumes nothing.
+use mathlib.Core.Path.{_≡_}
+use mathlib.Core.List.{List}
+use mathlib.Core.Logic.{_↔_}
+use Prim.Native.Nat.{ℕ}
+use Rattle.verifier.proofs.Corresponding.{same-opening, same-accepting}
+use Rattle.enforcer.proofs.Corresponding.{same-starting, same-offering}
+use Rattle.layout.specs.Layout.{headerAt}
+use Rattle.layout.proofs.HeaderBytes.{SameHeaders, same-k, same-secret, same-symbols, headers-back}
+use Rattle.gateway.specs.Interface.{VerifierSizes, FreshSizes, Fresh, Accept, StartSizes, Start, OfferSizes, Offer}
+
+module _ (a b : List ℕ) (x : SameHeaders a b) where
+  verifier-sizes : (estimator judgement : List ℕ) → VerifierSizes a estimator judgement → VerifierSizes b estimator judgement
+  verifier-sizes estimator judgement s = record { header-size = x .other-size; estimator-size = s .estimator-size; judgement-size = s .judgement-size }
+
+  fresh-sizes : (further estimator judgement : List ℕ) → FreshSizes a further estimator judgement → FreshSizes b further estimator judgement
+  fresh-sizes further estimator judgement s = record { verifier = verifier-sizes estimator judgement (s .verifier); further-size = s .further-size }
+
+  start-sizes : (notion : ℕ) (further enforcer : List ℕ) → StartSizes a notion further enforcer → StartSizes b notion further enforcer
+  start-sizes notion further enforcer s =
+      record { header-size = x .other-size; notion-known = s .notion-known; further-size = s .further-size; enforcer-size = s .enforcer-size }
+
+  offer-sizes : (enforcer release : List ℕ) → OfferSizes a enforcer release → OfferSizes b enforcer release
+  offer-sizes enforcer release s =
+      record { header-size = x .other-size; enforcer-size = s .enforcer-size; notion-known = s .notion-known; release-size = s .release-size }
+
+module _ (t a b : List ℕ) (x : SameHeaders a b) where
+  fresh-to : (further estimator judgement : List ℕ) (n : ℕ) (after told : List ℕ) → Fresh t a further estimator judgement n after told
+      → Fresh t b further estimator judgement n after told
+  fresh-to further estimator judgement n after told (Fresh.size bad) =
+      Fresh.size (λ s. bad (fresh-sizes b a (headers-back a b x) further estimator judgement s))
+  fresh-to further estimator judgement n after told (Fresh.refused s o) =
+      Fresh.refused (fresh-sizes a b x further estimator judgement s)
+      (same-opening t (headerAt a) (headerAt b) (same-symbols a b x t) (same-secret a b x) (same-k a b x) _ _ _ .0 o)
+  fresh-to further estimator judgement n after told (Fresh.accepted s o saved) =
+      Fresh.accepted (fresh-sizes a b x further estimator judgement s)
+      (same-opening t (headerAt a) (headerAt b) (same-symbols a b x t) (same-secret a b x) (same-k a b x) _ _ _ .0 o) saved
+
+  accept-to : (symbol : ℕ) (estimator judgement : List ℕ) (n : ℕ) (after told : List ℕ) → Accept t a symbol estimator judgement n after told
+      → Accept t b symbol estimator judgement n after told
+  accept-to symbol estimator judgement n after told (Accept.size bad) = Accept.size (λ s. bad (verifier-sizes b a (headers-back a b x) estimator judgement s))
+  accept-to symbol estimator judgement n after told (Accept.refused s o) =
+      Accept.refused (verifier-sizes a b x estimator judgement s)
+      (same-accepting t (headerAt a) (headerAt b) (same-symbols a b x t) (same-secret a b x) (same-k a b x) _ symbol _ _ .0 o)
+  accept-to symbol estimator judgement n after told (Accept.accepted s o saved) =
+      Accept.accepted (verifier-sizes a b x estimator judgement s)
+      (same-accepting t (headerAt a) (headerAt b) (same-symbols a b x t) (same-secret a b x) (same-k a b x) _ symbol _ _ .0 o) saved
+
+  start-to : (notion : ℕ) (further enforcer : List ℕ) (n : ℕ) (after : List ℕ) → Start t a notion further enforcer n after → Start t b notion further enforcer n after
+  start-to notion further enforcer n after (Start.size bad) = Start.size (λ s. bad (start-sizes b a (headers-back a b x) notion further enforcer s))
+  start-to notion further enforcer n after (Start.refused s o) =
+      Start.refused (start-sizes a b x notion further enforcer s)
+      (same-starting t (headerAt a) (headerAt b) (same-symbols a b x t) (same-secret a b x) (same-k a b x) _ _ _ _ .0 o)
+  start-to notion further enforcer n after (Start.started s o saved) =
+      Start.started (start-sizes a b x notion further enforcer s)
+      (same-starting t (headerAt a) (headerAt b) (same-symbols a b x t) (same-secret a b x) (same-k a b x) _ _ _ _ .0 o) saved
+
+  offer-to : (symbol : ℕ) (enforcer output release : List ℕ) (n : ℕ) (after out count : List ℕ) → Offer t a symbol enforcer output release n after out count
+      → Offer t b symbol enforcer output release n after out count
+  offer-to symbol enforcer output release n after out count (Offer.size bad) = Offer.size (λ s. bad (offer-sizes b a (headers-back a b x) enforcer release s))
+  offer-to symbol enforcer output release n after out count (Offer.refused s o) =
+      Offer.refused (offer-sizes a b x enforcer release s)
+      (same-offering t (headerAt a) (headerAt b) (same-symbols a b x t) (same-secret a b x) (same-k a b x) _ symbol output _ _ _ .0 o)
+  offer-to symbol enforcer output release n after out count (Offer.released s o saved) =
+      Offer.released (offer-sizes a b x enforcer release s)
+      (same-offering t (headerAt a) (headerAt b) (same-symbols a b x t) (same-secret a b x) (same-k a b x) _ symbol output _ _ _ .0 o) saved
+
+module _ (t a b : List ℕ) (x : SameHeaders a b) where
+  pub same-fresh : (further estimator judgement : List ℕ) (n : ℕ) (after told : List ℕ)
+      → Fresh t a further estimator judgement n after told ↔ Fresh t b further estimator judgement n after told
+  same-fresh further estimator judgement n after told =
+      (fresh-to t a b x further estimator judgement n after told, fresh-to t b a (headers-back a b x) further estimator judgement n after told)
+
+  pub same-accept : (symbol : ℕ) (estimator judgement : List ℕ) (n : ℕ) (after told : List ℕ)
+      → Accept t a symbol estimator judgement n after told ↔ Accept t b symbol estimator judgement n after told
+  same-accept symbol estimator judgement n after told =
+      (accept-to t a b x symbol estimator judgement n after told, accept-to t b a (headers-back a b x) symbol estimator judgement n after told)
+
+  pub same-start : (notion : ℕ) (further enforcer : List ℕ) (n : ℕ) (after : List ℕ)
+      → Start t a notion further enforcer n after ↔ Start t b notion further enforcer n after
+  same-start notion further enforcer n after =
+      (start-to t a b x notion further enforcer n after, start-to t b a (headers-back a b x) notion further enforcer n after)
+
+  pub same-offer : (symbol : ℕ) (enforcer output release : List ℕ) (n : ℕ) (after out count : List ℕ)
+      → Offer t a symbol enforcer output release n after out count ↔ Offer t b symbol enforcer output release n after out count
+  same-offer symbol enforcer output release n after out count = (
+    offer-to t a b x symbol enforcer output release n after out count,
+    offer-to t b a (headers-back a b x) symbol enforcer output release n after out count,
+  )

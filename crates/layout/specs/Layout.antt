@@ -1,0 +1,201 @@
+-- The bytes of headers, further secrets, saved estimators, saved enforcers, judgements and releases: what is read from bytes (headerAt ..), and the bytes
+-- that are written (headerBytes ..). A number of several bytes has the least significant first. Sizes has every place and size.
+use Prim.Native.Nat.{ℕ, zero, suc, _+_, _*_, _/_, _%_, _≤_, _<_, _^_}
+use mathlib.Core.Path.{_≡_}
+use mathlib.Core.Bool.{cond}
+use mathlib.Core.List.{List, [], _∷_, _++_}
+use lib.Dec.{eqb}
+use lib.ListN.{length, getD, take, drop}
+use lib.Seq.{sets}
+use Rattle.automaton.specs.declared.Header.{Header}
+use Rattle.opacity.specs.declared.Notion.{Notion}
+use Rattle.opacity.specs.declared.Notion.the-variants.{Weak, Strong}
+use Rattle.opacity.specs.declared.Secret.{Secret}
+use Rattle.opacity.specs.declared.Further.{Further}
+use Rattle.verifier.specs.declared.Estimator.{Estimator}
+use Rattle.opacity.specs.Secrets.{placeOf}
+use Rattle.opacity.specs.Verdicts.{Steps, none, leak}
+use Rattle.verifier.specs.Replies.{Told, noneTold}
+use Rattle.enforcer.specs.declared.Enforcer.{Enforcer}
+use Rattle.layout.specs.Sizes as sizes
+
+-- a slice into which a text was stored from a place on; what stood elsewhere stays
+pub record Stored (before : List ℕ) (at : ℕ) (text after : List ℕ) : Type 0 where
+  pub is : after ≡ sets before at text
+
+-- the number that n bytes write, from a place on
+unfoldable pub littleEndianAt : List ℕ → ℕ → ℕ → ℕ
+littleEndianAt bytes at zero = 0
+littleEndianAt bytes at (suc n) = getD bytes at 0 + 256 * littleEndianAt bytes (suc at) n
+
+-- the n bytes that write a number
+unfoldable pub littleEndianBytes : ℕ → ℕ → List ℕ
+littleEndianBytes zero number = []
+littleEndianBytes (suc n) number = number % 256 ∷ littleEndianBytes n (number / 256)
+
+-- a word; and its bytes
+abbrev pub wordAt : List ℕ → ℕ → ℕ
+wordAt bytes at = littleEndianAt bytes at sizes.wordSize
+
+abbrev pub wordBytes : ℕ → List ℕ
+wordBytes word = littleEndianBytes sizes.wordSize word
+
+-- n words, from a place on; and their bytes
+unfoldable pub wordsAt : List ℕ → ℕ → ℕ → List ℕ
+wordsAt bytes at zero = []
+wordsAt bytes at (suc n) = wordAt bytes at ∷ wordsAt bytes (at + sizes.wordSize) n
+
+unfoldable pub wordsBytes : List ℕ → List ℕ
+wordsBytes [] = []
+wordsBytes (w ∷ ws) = wordBytes w ++ wordsBytes ws
+
+-- n bytes as they are, from a place on
+abbrev pub bytesAt : List ℕ → ℕ → ℕ → List ℕ
+bytesAt bytes at n = take n (drop at bytes)
+
+-- a header: the initial state, K, the secret set, the observable set, the symbols of all events
+abbrev pub headerAt : List ℕ → Header
+headerAt bytes =
+    record {
+      initial = getD bytes sizes.initialPlace 0;
+      k = getD bytes sizes.headerKPlace 0;
+      secret = wordAt bytes sizes.headerSecretPlace;
+      observable = littleEndianAt bytes sizes.observablePlace sizes.halfSize;
+      symbols = bytesAt bytes sizes.symbolsPlace sizes.eventCount;
+    }
+
+abbrev pub headerBytes : Header → List ℕ
+headerBytes h = h .initial ∷ h .k ∷ wordBytes (h .secret) ++ (littleEndianBytes sizes.halfSize (h .observable) ++ h .symbols)
+
+-- one whose numbers fit their bytes and whose symbols are those of all events
+pub record HeaderSized (h : Header) : Type 0 where
+  pub secret : h .secret < 2 ^ 64
+  pub observable : h .observable < 2 ^ 32
+  pub symbols : length (h .symbols) ≡ sizes.eventCount
+
+-- a place for a further secret: the set of its states, its K
+abbrev pub placeAt : List ℕ → ℕ → Secret
+placeAt bytes at = record { states = wordAt bytes at; k = getD bytes (at + sizes.secretKPlace) 0 }
+
+abbrev pub placeBytes : Secret → List ℕ
+placeBytes c = wordBytes (c .states) ++ c .k ∷ []
+
+-- further secrets: how many are given, and three places
+abbrev pub furtherAt : List ℕ → ℕ → Further
+furtherAt bytes at =
+    let first = placeAt bytes (at + sizes.firstSecretPlace) in
+    let second = placeAt bytes (at + sizes.secondSecretPlace) in
+    let third = placeAt bytes (at + sizes.thirdSecretPlace) in
+    record {
+      states = first .states ∷ second .states ∷ third .states ∷ [];
+      k = first .k ∷ second .k ∷ third .k ∷ [];
+      count = getD bytes at 0;
+    }
+
+abbrev pub furtherBytes : Further → List ℕ
+furtherBytes f = f .count ∷ placeBytes (placeOf f 0) ++ (placeBytes (placeOf f 1) ++ placeBytes (placeOf f 2))
+
+-- as the code has them: three places, and the sets are words
+pub record FurtherSized (f : Further) : Type 0 where
+  pub states : length (f .states) ≡ sizes.furtherCount
+  pub k : length (f .k) ≡ sizes.furtherCount
+  pub words : (j : ℕ) → getD (f .states) j 0 < 2 ^ 64
+
+-- an estimator: the number of remembered symbols, these, the newest first, a state set for each of them and one more, the further secrets
+abbrev pub estimatorAt : List ℕ → Estimator
+estimatorAt bytes =
+    record {
+      count = getD bytes sizes.rememberedPlace 0;
+      symbols = bytesAt bytes sizes.rememberedSymbolsPlace sizes.mostRemembered;
+      entries = wordsAt bytes sizes.entriesPlace sizes.entryCount;
+      further = furtherAt bytes sizes.furtherPlace;
+    }
+
+abbrev pub estimatorBytes : Estimator → List ℕ
+estimatorBytes s = s .count ∷ s .symbols ++ (wordsBytes (s .entries) ++ furtherBytes (s .further))
+
+-- an estimator as the code has it: the arrays have their sizes, and the state sets are words
+pub record EstimatorSized (s : Estimator) : Type 0 where
+  pub symbols : length (s .symbols) ≡ sizes.mostRemembered
+  pub entries : length (s .entries) ≡ sizes.entryCount
+  pub words : (l : ℕ) → getD (s .entries) l 0 < 2 ^ 64
+  pub further : FurtherSized (s .further)
+
+-- the bytes that a call leaves for an estimator, whatever it grew from: they have their length, and read back as it is, so that what is said of it, its
+-- limits too, is said of the bytes
+pub record EstimatorSaved (s : Estimator) : Type 0 where
+  pub size : length (estimatorBytes s) ≡ sizes.estimatorSize
+  pub back : estimatorAt (estimatorBytes s) ≡ s
+
+-- a notion: a byte above that of strong is none
+abbrev pub notionAt : ℕ → Notion
+notionAt zero = Weak
+notionAt (suc n) = Strong
+
+abbrev pub notionByte : Notion → ℕ
+notionByte Weak = sizes.weakByte
+notionByte Strong = sizes.strongByte
+
+-- an enforcer: its estimator, its notion, the number of pending symbols, these, the oldest first, their waits
+abbrev pub enforcerAt : List ℕ → Enforcer
+enforcerAt bytes =
+    record {
+      estimator = estimatorAt bytes;
+      notion = notionAt (getD bytes sizes.notionPlace 0);
+      count = getD bytes sizes.pendingPlace 0;
+      pending = bytesAt bytes sizes.pendingSymbolsPlace sizes.mostPending;
+      waits = bytesAt bytes sizes.waitsPlace sizes.mostPending;
+    }
+
+abbrev pub enforcerBytes : Enforcer → List ℕ
+enforcerBytes s = estimatorBytes (s .estimator) ++ (notionByte (s .notion) ∷ s .count ∷ s .pending ++ s .waits)
+
+-- an enforcer as the code has it
+pub record EnforcerSized (s : Enforcer) : Type 0 where
+  pub estimator : EstimatorSized (s .estimator)
+  pub pending : length (s .pending) ≡ sizes.mostPending
+  pub waits : length (s .waits) ≡ sizes.mostPending
+
+-- the bytes that a call leaves for an enforcer, likewise
+pub record EnforcerSaved (s : Enforcer) : Type 0 where
+  pub size : length (enforcerBytes s) ≡ sizes.enforcerSize
+  pub notion-known : getD (enforcerBytes s) sizes.notionPlace 0 ≤ sizes.strongByte
+  pub back : enforcerAt (enforcerBytes s) ≡ s
+
+-- a verdict: its steps, or the byte that says none
+abbrev pub verdictAt : ℕ → Steps
+verdictAt byte = cond (eqb byte sizes.noLeakByte) none (leak byte)
+
+abbrev pub verdictByte : Steps → ℕ
+verdictByte none = sizes.noLeakByte
+verdictByte (leak l) = l
+
+-- the two verdicts of one secret
+abbrev pub pairAt : List ℕ → ℕ → Told
+pairAt bytes at = record { weak = verdictAt (getD bytes at 0); strong = verdictAt (getD bytes (at + sizes.strongPlace) 0) }
+
+abbrev pub toldBytes : Told → List ℕ
+toldBytes v = verdictByte (v .weak) ∷ verdictByte (v .strong) ∷ []
+
+-- a judgement, what an accepted answer of the verifier holds: the weak and the strong verdict of each of four secrets as they are numbered, of one that is
+-- not given none, and how many states are possible
+abbrev pub judgementBytes : List Told → (size : ℕ) → List ℕ
+judgementBytes vs size =
+    toldBytes (getD vs 0 noneTold) ++ (toldBytes (getD vs 1 noneTold) ++ (toldBytes (getD vs 2 noneTold) ++ (toldBytes (getD vs 3 noneTold) ++ size ∷ [])))
+
+-- the verdicts and the number that its bytes hold, where so many further secrets are given
+abbrev pub verdictsAt : (given : ℕ) → List ℕ → List Told
+verdictsAt given told =
+    take (suc given)
+    (pairAt told sizes.ownVerdictsPlace
+    ∷ pairAt told sizes.firstVerdictsPlace
+    ∷ pairAt told sizes.secondVerdictsPlace
+    ∷ pairAt told sizes.thirdVerdictsPlace
+    ∷ [])
+
+abbrev pub sizeAt : List ℕ → ℕ
+sizeAt told = getD told sizes.judgedPossiblePlace 0
+
+-- a release, what an accepting answer of the enforcer holds: how many symbols were released, how many states are possible
+abbrev pub releaseBytes : (count size : ℕ) → List ℕ
+releaseBytes count size = count ∷ size ∷ []

@@ -1,0 +1,3 @@
+-- What the contracts of `layout` cite. A reviewer reads Sizes, then Layout.
+pub mod Sizes
+pub mod Layout

@@ -15,7 +15,7 @@ use Rattle.verifier.specs.declared.Estimator.{Estimator}
 use Rattle.verifier.specs.declared.Judgement.{Judgement}
 use Rattle.verifier.specs.declared.Answer as verdict
 use Rattle.verifier.specs.Replies as verifier
-use Rattle.verifier.specs.Replies.{toldOf, numbered, toldEach, OthersNoLeak, Opening, Accepting}
+use Rattle.verifier.specs.Replies.{findings, OthersNoLeak, Opening, Accepting}
 use Rattle.verifier.proofs.Judging.{told-others}
 use Rattle.enforcer.specs.Offerings as offering
 use Rattle.enforcer.specs.Offerings.{Starting, Offering}
@@ -25,7 +25,7 @@ use Rattle.enforcer.specs.declared.StartAnswer as start
 use Rattle.enforcer.specs.declared.OfferAnswer as offer
 use Rattle.layout.specs.Sizes.{headerSize}
 use Rattle.layout.specs.Layout.{Stored, headerAt, headerBytes, furtherAt, estimatorAt, estimatorBytes, EstimatorSized, notionAt, enforcerAt, enforcerBytes, EnforcerSized}
-use Rattle.layout.specs.Layout.{toldBytes, judgementBytes, releaseBytes}
+use Rattle.layout.specs.Layout.{toldBytes, allFindings, judgementBytes, releaseBytes}
 use Rattle.gateway.specs.Interface.{Decode, FreshSizes, Fresh, Accept, Start, Offer, VerifierSizes, StartSizes, OfferSizes}
 use Rattle.layout.proofs.Stores.{whole}
 use Rattle.layout.proofs.Inverse.{estimator-length, estimator-saved, enforcer-saved}
@@ -57,9 +57,9 @@ module _ (encoding table header after : List ℕ) (h : Header) (answer : decoded
 
 -- the judgement that was written: of all four places, of which those that are not given hold none
 abbrev writtenBytes : Judgement → List ℕ
-writtenBytes j = judgementBytes (map toldOf (numbered (j .verdicts))) (j .size)
+writtenBytes j = judgementBytes (allFindings j)
 
-given-bytes : (f : Further) (j : Judgement) → OthersNoLeak f (j .verdicts) → writtenBytes j ≡ judgementBytes (toldEach f (j .verdicts)) (j .size)
+given-bytes : (f : Further) (j : Judgement) → OthersNoLeak f (j .verdicts) → writtenBytes j ≡ judgementBytes (findings f j)
 given-bytes f j others =
     let e = told-others f (j .verdicts) others in
     sym (λ i. toldBytes (e 0 i) ++ (toldBytes (e 1 i) ++ (toldBytes (e 2 i) ++ (toldBytes (e 3 i) ++ j .size ∷ []))))
@@ -143,7 +143,7 @@ module _ (t header : List ℕ) (symbol : ℕ) (saved output release out : List �
       rw (number, kept) (Offer.refused sizes (rw kept at x))
 
   pub offer-released : (r : Release) (left told : List ℕ) → answer ≡ offer.the-variants.Released r → EnforcerSized after × (left ≡ enforcerBytes after)
-      → told ≡ releaseBytes (r .count) (r .size)
+      → told ≡ releaseBytes r
       → Offer t header symbol saved output release 0 left out told
   offer-released r left told is wrote says =
       subst (λ (x : List ℕ). Offer t header symbol saved output release 0 x out told) (sym (wrote .1))

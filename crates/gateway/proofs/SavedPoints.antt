@@ -16,7 +16,7 @@ use Rattle.opacity.specs.Secrets.{secretsOf, secretAt, clearedOf, Allowed}
 use Rattle.opacity.specs.Verdicts.{Steps, none, leak, Tells}
 use Rattle.verifier.specs.Estimators as estimator
 use Rattle.verifier.specs.Replies as replies
-use Rattle.verifier.specs.Replies.{Told, toldAt, Bounded, Opening, Accepting}
+use Rattle.verifier.specs.Replies.{Findings, toldAt, Bounded, Opening, Accepting}
 use Rattle.verifier.specs.Calls as verifier
 use Rattle.opacity.proofs.Numbering.{look-back-small, secret-back, how-many, allowed-not-large}
 use Rattle.verifier.proofs.Judging.{bounded-up}
@@ -29,7 +29,7 @@ use Rattle.enforcer.specs.Offers as enforcer
 use Rattle.enforcer.proofs.ThirdPoint.{third-point}
 use Rattle.enforcer.proofs.Starts.{never-opens, past-starting}
 use Rattle.layout.specs.Sizes.{headerSize, furtherSize, estimatorSize, strongByte, notionPlace, enforcerSize, judgementSize}
-use Rattle.layout.specs.Layout.{headerAt, furtherAt, estimatorAt, notionAt, enforcerAt, verdictsAt, sizeAt}
+use Rattle.layout.specs.Layout.{headerAt, furtherAt, estimatorAt, notionAt, enforcerAt, judgementAt}
 use Rattle.gateway.specs.Interface.{Decode, Fresh, Accept, Start, Offer, ByFurther, ByStart}
 use Rattle.gateway.specs.SavedCalls.{AcceptCall, AcceptCalls, acceptSaid, callsOf, OfferCall, OfferCalls, offersOf}
 use Rattle.layout.proofs.Inverse.{header-length}
@@ -80,29 +80,29 @@ bounded notion p secret trace none x = tt
 bounded notion p secret trace (leak l) x = x .within
 
 -- a promise about the verdicts that were written is one about those that are read
-told-promise : (t : List ℕ) (h : Header) (f : Further) (vs : List Told) (n : ℕ) (told : List ℕ) (cs : List verifier.Call) (e : Estimator)
-    → acceptSaid (f .count) 0 told ≡ replies.verdicts vs n → verifier.Promise t h f vs n cs e → verifier.Promise t h f (verdictsAt (f .count) told) (sizeAt told) cs e
-told-promise t h f vs n told cs e same x = subst (λ (r : replies.Said). Promised r) (sym same) x
+told-promise : (t : List ℕ) (h : Header) (f : Further) (j : Findings) (told : List ℕ) (cs : List verifier.Call) (e : Estimator)
+    → acceptSaid (f .count) 0 told ≡ replies.verdicts j → verifier.Promise t h f j cs e → verifier.Promise t h f (judgementAt (f .count) told) cs e
+told-promise t h f j told cs e same x = subst (λ (r : replies.Said). Promised r) (sym same) x
   where
     Promised : replies.Said → Type 0
     Promised (replies.refused m) = Unit {0}
-    Promised (replies.verdicts ws m) = verifier.Promise t h f ws m cs e
+    Promised (replies.verdicts i) = verifier.Promise t h f i cs e
 
 -- THE SECOND POINT: a fresh call that answered 0, and any calls of accept on the bytes that the call before left
 pub saved-second-point : (t header further before lent s told : List ℕ) (cs : List AcceptCall) (e : List ℕ) → Fresh t header further before lent 0 s told → AcceptCalls t header s cs e
-    → verifier.Promise t (headerAt header) (furtherAt further 0) (verdictsAt (furtherAt further 0 .count) told) (sizeAt told) (callsOf (furtherAt further 0 .count) cs) (estimatorAt e)
-saved-second-point t header further before lent s told cs e (Fresh.accepted sizes {vs = vs} {size = n} {s = x} (Opening.opened so allowed same li many within exact) saved) calls =
+    → verifier.Promise t (headerAt header) (furtherAt further 0) (judgementAt (furtherAt further 0 .count) told) (callsOf (furtherAt further 0 .count) cs) (estimatorAt e)
+saved-second-point t header further before lent s told cs e (Fresh.accepted sizes {j = j} {s = x} (Opening.opened so allowed same li many within exact) saved) calls =
     let h = headerAt header in
     let f = furtherAt further 0 in
     let few = allowed .few in
     let small = look-back-small h f (so .back) allowed in
-    let reads = told-back vs n (f .count) few (many ∙ how-many h f few) (λ notion i less.
+    let reads = told-back j (f .count) few (many ∙ how-many h f few) (λ notion i less.
     let given : i < length (secretsOf h f) = omega (arith, many) in
     let c = secretAt (secretsOf h f) i in
-    bounded-up (c .k) 15 (toldAt notion vs i) (omega (arith, secret-back h f i given, small)) (bounded notion (automatonOf t h) c [] (toldAt notion vs i) (exact .tells notion i given))) in
+    bounded-up (c .k) 15 (toldAt notion (j .each) i) (omega (arith, secret-back h f i given, small)) (bounded notion (automatonOf t h) c [] (toldAt notion (j .each) i) (exact .tells notion i given))) in
     let listed = accept-calls t header (sizes .verifier .header-size) (clearedOf f) s cs e (saved .size) (ap (λ (y : Estimator). y .further) (saved .back) ∙ same) calls in
-    told-promise t h f vs n told (callsOf (f .count) cs) (estimatorAt e) reads
-    (second-point t h f vs n x (callsOf (f .count) cs) (estimatorAt e) (Opening.opened so allowed same li many within exact)
+    told-promise t h f j told (callsOf (f .count) cs) (estimatorAt e) reads
+    (second-point t h f j x (callsOf (f .count) cs) (estimatorAt e) (Opening.opened so allowed same li many within exact)
     (subst (λ (y : Estimator). verifier.Calls t h y (callsOf (f .count) cs) (estimatorAt e)) (saved .back) listed))
 
 -- from the bytes of an encoding to the verdicts and the number: what was decoded, a fresh estimator on it with further secrets that may be given, and any
@@ -111,7 +111,7 @@ pub encoded-second-point : (encoding table before t header further estimator len
     → Decode encoding table before 0 t header → length further ≡ furtherSize → length estimator ≡ estimatorSize → length lent ≡ judgementSize → Allowed (furtherAt further 0)
     → Fresh t header further estimator lent answer s told → AcceptCalls t header s cs e
     → (answer ≡ 0) × Decoding encoding table (headerAt header) accept t
-    × verifier.Promise t (headerAt header) (furtherAt further 0) (verdictsAt (furtherAt further 0 .count) told) (sizeAt told) (callsOf (furtherAt further 0 .count) cs) (estimatorAt e)
+    × verifier.Promise t (headerAt header) (furtherAt further 0) (judgementAt (furtherAt further 0 .count) told) (callsOf (furtherAt further 0 .count) cs) (estimatorAt e)
 encoded-second-point encoding table before t header further estimator lent answer s told cs e x size28 size size′ allowed fresh f =
     let zero-is = answered (furtherAt further 0) answer allowed (saved-fresh encoding table before t header further estimator lent answer s told x size28 size size′ fresh) in (
       zero-is,

@@ -1,10 +1,14 @@
 -- The calls of a gateway that keeps bytes are calls of the crates below, each on the state that the call before it handed back. Assumes nothing.
 use Prim.Native.Nat.{ℕ, zero, suc, _≤_, _<_}
 use mathlib.Core.Path.{_≡_, refl, ap, sym, subst, _∙_}
-use mathlib.Core.List.{List, [], _∷_}
+use mathlib.Core.Bool.{Bool, true, false}
+use mathlib.Core.List.{List, [], _∷_, _++_}
+use borrow.Author.Tests.{eqb-true, eqb-false}
+use lib.Dec.{eqb}
 use native.Mathlib.Omega.{arith}
 use lib.ListN.{length, getD}
 use lib.Seq.{getD-take, length-take-le}
+use Rattle.lists.specs.Calls.{done, next}
 use Rattle.automaton.specs.declared.Header.{Header}
 use Rattle.opacity.specs.declared.Notion.{Notion}
 use Rattle.opacity.specs.declared.Notion.the-variants.{Weak, Strong}
@@ -12,7 +16,7 @@ use Rattle.opacity.specs.declared.Further.{Further}
 use Rattle.verifier.specs.declared.Estimator.{Estimator}
 use Rattle.opacity.specs.Secrets.{secretsOf}
 use Rattle.verifier.specs.Replies as verifier
-use Rattle.verifier.specs.Replies.{Told, noneTold, stepsBy, toldAt, Bounded, Accepting}
+use Rattle.verifier.specs.Replies.{Told, Findings, noneTold, stepsBy, toldAt, Bounded, Accepting}
 use Rattle.verifier.specs.Calls.{Calls}
 use Rattle.opacity.proofs.Numbering.{look-back-small, secret-back, how-many}
 use Rattle.verifier.proofs.Judging.{bounded-up}
@@ -20,18 +24,18 @@ use Rattle.verifier.proofs.Corresponding.{same-told}
 use Rattle.enforcer.specs.declared.Enforcer.{Enforcer}
 use Rattle.enforcer.specs.Offerings as offering
 use Rattle.enforcer.specs.Offerings.{Offering}
-use Rattle.enforcer.specs.Offers.{Chain, Offers}
+use Rattle.enforcer.specs.Offers.{Offers}
 use Rattle.layout.specs.Sizes.{headerSize, furtherCount, mostRemembered, estimatorSize, strongByte, notionPlace, enforcerSize, judgementSize, releaseSize}
 use Rattle.layout.specs.Layout.{headerAt, estimatorAt, enforcerAt, verdictAt, verdictByte, judgementBytes, verdictsAt}
 use Rattle.gateway.specs.Interface.{Accept, Offer}
-use Rattle.gateway.specs.SavedCalls.{AcceptCall, AcceptCalls, acceptSaid, callsOf, OfferCall, OfferCalls, offerSaid, offersOf}
+use Rattle.gateway.specs.SavedCalls.{AcceptCall, AcceptCalled, AcceptCalls, acceptSaid, listedIf, callsOf, OfferCall, OfferCalled, OfferCalls, offerSaid, offersOf}
 use Rattle.layout.proofs.Inverse.{verdict-back}
 
 -- the judgement that was written is the one that is read: two verdicts for each secret that is given, none past 15 steps
-module _ (vs : List Told) (n given : ℕ) (few : given ≤ 3) (many : length vs ≡ suc given)
-    (bounded : (notion : Notion) (i : ℕ) → i < length vs → Bounded 15 (toldAt notion vs i)) where
+module _ (j : Findings) (given : ℕ) (few : given ≤ 3) (many : length (j .each) ≡ suc given)
+    (bounded : (notion : Notion) (i : ℕ) → i < length (j .each) → Bounded 15 (toldAt notion (j .each) i)) where
   abbrev read : ℕ → Told
-  read i = record { weak = verdictAt (verdictByte (getD vs i noneTold .weak)); strong = verdictAt (verdictByte (getD vs i noneTold .strong)) }
+  read i = record { weak = verdictAt (verdictByte (getD (j .each) i noneTold .weak)); strong = verdictAt (verdictByte (getD (j .each) i noneTold .strong)) }
 
   at-place : (i : ℕ) → i < 4 → getD (read 0 ∷ read 1 ∷ read 2 ∷ read 3 ∷ []) i noneTold ≡ read i
   at-place zero h = refl
@@ -40,15 +44,15 @@ module _ (vs : List Told) (n given : ℕ) (few : given ≤ 3) (many : length vs 
   at-place (suc (suc (suc zero))) h = refl
   at-place (suc (suc (suc (suc i)))) h = absurd (omega arith)
 
-  one-back : (notion : Notion) (i : ℕ) → i < length vs → stepsBy notion (read i) ≡ toldAt notion vs i
+  one-back : (notion : Notion) (i : ℕ) → i < length (j .each) → stepsBy notion (read i) ≡ toldAt notion (j .each) i
   one-back Weak i h = verdict-back 15 _ (omega arith) (bounded Weak i h)
   one-back Strong i h = verdict-back 15 _ (omega arith) (bounded Strong i h)
 
-  pub told-back : acceptSaid given 0 (judgementBytes vs n) ≡ verifier.verdicts vs n
+  pub told-back : acceptSaid given 0 (judgementBytes j) ≡ verifier.verdicts j
   told-back =
-      let size : length (verdictsAt given (judgementBytes vs n)) ≡ suc given = length-take-le (suc given) (read 0 ∷ read 1 ∷ read 2 ∷ read 3 ∷ []) (omega arith) in
-      ap (λ (x : List Told). verifier.verdicts x n)
-      (same-told (verdictsAt given (judgementBytes vs n)) vs (size ∙ sym many) (λ notion i h.
+      let size : length (verdictsAt given (judgementBytes j)) ≡ suc given = length-take-le (suc given) (read 0 ∷ read 1 ∷ read 2 ∷ read 3 ∷ []) (omega arith) in
+      ap (λ (x : List Told). verifier.verdicts (record { each = x; size = j .size }))
+      (same-told (verdictsAt given (judgementBytes j)) (j .each) (size ∙ sym many) (λ notion i h.
       ap (stepsBy notion) (getD-take (suc given) (read 0 ∷ read 1 ∷ read 2 ∷ read 3 ∷ []) i noneTold (omega (arith, size)) ∙ at-place i (omega (arith, size)))
       ∙ one-back notion i (omega (arith, size))))
 
@@ -64,14 +68,14 @@ module _ (t header : List ℕ) (header-size : length header ≡ headerSize) wher
   refused-accept self symbol given told (Accepting.incompatible so li ob none) = Accepting.incompatible so li ob none
 
   -- an accepted answer is read as it was written
-  accepted-back : (self s : Estimator) (symbol : ℕ) (vs : List Told) (n : ℕ) → Accepting t head self symbol (verifier.verdicts vs n) s
-      → (acceptSaid (self .further .count) 0 (judgementBytes vs n) ≡ verifier.verdicts vs n) × (s .further ≡ self .further)
-  accepted-back self s symbol vs n (Accepting.accepted so li ob same after many bounded within exact) =
+  accepted-back : (self s : Estimator) (symbol : ℕ) (j : Findings) → Accepting t head self symbol (verifier.verdicts j) s
+      → (acceptSaid (self .further .count) 0 (judgementBytes j) ≡ verifier.verdicts j) × (s .further ≡ self .further)
+  accepted-back self s symbol j (Accepting.accepted so li ob same after many bounded within exact) =
       let few = li .allowed .few in
       let small = look-back-small head (self .further) (so .back) (li .allowed) in (
-        told-back vs n (self .further .count) few (many ∙ how-many head (self .further) few) (λ notion i h.
+        told-back j (self .further .count) few (many ∙ how-many head (self .further) few) (λ notion i h.
             let given : i < length (secretsOf head (self .further)) = omega (arith, many) in
-            bounded-up _ 15 (toldAt notion vs i) (omega (arith, secret-back head (self .further) i given, small)) (bounded notion i given)),
+            bounded-up _ 15 (toldAt notion (j .each) i) (omega (arith, secret-back head (self .further) i given, small)) (bounded notion i given)),
         same,
       )
 
@@ -86,13 +90,13 @@ module _ (t header : List ℕ) (header-size : length header ≡ headerSize) wher
   one-accept kept s symbol lent answer m told k same nine (Accept.size bad) = absurd (bad (record { header-size = header-size; estimator-size = k; judgement-size = nine }))
   one-accept kept s symbol lent answer m told k same nine (Accept.refused sizes x) =
       record { accepting = refused-accept (estimatorAt s) symbol (kept .count) lent x; size = k; same = same }
-  one-accept kept s symbol lent answer m told k same nine (Accept.accepted sizes {vs = vs} {size = n} {s = after} x saved) =
-      let y = accepted-back (estimatorAt s) after symbol vs n x in
-      let reads : acceptSaid (kept .count) 0 (judgementBytes vs n) ≡ verifier.verdicts vs n =
-      subst (λ (f : Further). acceptSaid (f .count) 0 (judgementBytes vs n) ≡ verifier.verdicts vs n) same (y .0) in
+  one-accept kept s symbol lent answer m told k same nine (Accept.accepted sizes {j = j} {s = after} x saved) =
+      let y = accepted-back (estimatorAt s) after symbol j x in
+      let reads : acceptSaid (kept .count) 0 (judgementBytes j) ≡ verifier.verdicts j =
+      subst (λ (f : Further). acceptSaid (f .count) 0 (judgementBytes j) ≡ verifier.verdicts j) same (y .0) in
       record {
         accepting =
-            subst (λ (e : Estimator). Accepting t head (estimatorAt s) symbol (acceptSaid (kept .count) 0 (judgementBytes vs n)) e) (sym (saved .back))
+            subst (λ (e : Estimator). Accepting t head (estimatorAt s) symbol (acceptSaid (kept .count) 0 (judgementBytes j)) e) (sym (saved .back))
             (subst (λ (r : verifier.Said). Accepting t head (estimatorAt s) symbol r after) (sym reads) x);
         size = saved .size;
         same = ap (λ (e : Estimator). e .further) (saved .back) ∙ y .1 ∙ same;
@@ -104,16 +108,25 @@ module _ (t header : List ℕ) (header-size : length header ≡ headerSize) wher
   unsized-accept s symbol lent answer m told n (Accept.refused sizes x) = refl
   unsized-accept s symbol lent answer m told n (Accept.accepted sizes x saved) = absurd (n (sizes .judgement-size))
 
-  pub accept-calls : (kept : Further) (s : List ℕ) (cs : List AcceptCall) (e : List ℕ) → length s ≡ estimatorSize → estimatorAt s .further ≡ kept → AcceptCalls t header s cs e
-      → Calls t head (estimatorAt s) (callsOf (kept .count) cs) (estimatorAt e)
-  accept-calls kept s cs e k same AcceptCalls.done = Calls.done
-  accept-calls kept s cs e k same (AcceptCalls.next {m = m} {c = c} {cs = rest} nine a f) =
-      let x = one-accept kept s (c .symbol) (c .lent) (c .answer) m (c .told) k same nine a in
-      Calls.next (x .accepting) (accept-calls kept m rest e (x .size) (x .same) f)
-  accept-calls kept s cs e k same (AcceptCalls.unsized {m = m} {c = c} n a f) =
-      let is = unsized-accept s (c .symbol) (c .lent) (c .answer) m (c .told) n a in
-      subst (λ (y : List ℕ). Calls t head (estimatorAt y) (callsOf (kept .count) cs) (estimatorAt e)) is
-      (accept-calls kept m cs e (subst (λ (y : List ℕ). length y ≡ estimatorSize) (sym is) k) (subst (λ (y : List ℕ). estimatorAt y .further ≡ kept) (sym is) same) f)
+  -- a call in front of others: listed, or of other slices
+  first-accept : (kept : Further) (s : List ℕ) (c : AcceptCall) (m : List ℕ) (rest : List AcceptCall) (e : List ℕ) → length s ≡ estimatorSize
+      → estimatorAt s .further ≡ kept → AcceptCalled t header s c m
+      → (length m ≡ estimatorSize → estimatorAt m .further ≡ kept → Calls t head (estimatorAt m) (callsOf (kept .count) rest) (estimatorAt e))
+      → (b : Bool) → eqb (length (c .lent)) judgementSize ≡ b
+      → Calls t head (estimatorAt s) (listedIf b (record { byte = c .symbol; says = acceptSaid (kept .count) (c .answer) (c .told) }) ++ callsOf (kept .count) rest) (estimatorAt e)
+  first-accept kept s c m rest e k same a later true is =
+      let x = one-accept kept s (c .symbol) (c .lent) (c .answer) m (c .told) k same (eqb-true _ _ is) a in
+      next (x .accepting) (later (x .size) (x .same))
+  first-accept kept s c m rest e k same a later false is =
+      let at = unsized-accept s (c .symbol) (c .lent) (c .answer) m (c .told) (eqb-false _ _ is) a in
+      subst (λ (y : List ℕ). Calls t head (estimatorAt y) (callsOf (kept .count) rest) (estimatorAt e)) at
+      (later (subst (λ (y : List ℕ). length y ≡ estimatorSize) (sym at) k) (subst (λ (y : List ℕ). estimatorAt y .further ≡ kept) (sym at) same))
+
+  pub accept-calls : (kept : Further) (s : List ℕ) (cs : List AcceptCall) (e : List ℕ) → length s ≡ estimatorSize → estimatorAt s .further ≡ kept
+      → AcceptCalls t header s cs e → Calls t head (estimatorAt s) (callsOf (kept .count) cs) (estimatorAt e)
+  accept-calls kept s cs e k same done = done
+  accept-calls kept s cs e k same (next {m = m} {c = c} {cs = rest} a f) =
+      first-accept kept s c m rest e k same a (λ k′ same′. accept-calls kept m rest e k′ same′ f) (eqb (length (c .lent)) judgementSize) refl
 
   -- bytes of the length of an enforcer, with a notion
   pub record KeepsEnforcer (s : List ℕ) : Type 0 where
@@ -147,11 +160,19 @@ module _ (t header : List ℕ) (header-size : length header ≡ headerSize) wher
   unsized-offer s symbol output lent answer m left release n (Offer.refused sizes x) = refl
   unsized-offer s symbol output lent answer m left release n (Offer.released sizes x saved) = absurd (n (sizes .release-size))
 
-  pub offer-calls : (s : List ℕ) (cs : List OfferCall) (e : List ℕ) → KeepsEnforcer s → OfferCalls t header s cs e → Offers t head (enforcerAt s) (offersOf cs) (enforcerAt e)
-  offer-calls s cs e k OfferCalls.done = Chain.done
-  offer-calls s cs e k (OfferCalls.next {m = m} {c = c} {cs = rest} two a f) =
-      let x = one-offer s (c .symbol) (c .output) (c .lent) (c .answer) m (c .left) (c .release) k two a in
-      Chain.next (x .offering) (offer-calls m rest e (x .keeps) f)
-  offer-calls s cs e k (OfferCalls.unsized {m = m} {c = c} n a f) =
-      let same = unsized-offer s (c .symbol) (c .output) (c .lent) (c .answer) m (c .left) (c .release) n a in
-      subst (λ (y : List ℕ). Offers t head (enforcerAt y) (offersOf cs) (enforcerAt e)) same (offer-calls m cs e (subst KeepsEnforcer (sym same) k) f)
+  first-offer : (s : List ℕ) (c : OfferCall) (m : List ℕ) (rest : List OfferCall) (e : List ℕ) → KeepsEnforcer s → OfferCalled t header s c m
+      → (KeepsEnforcer m → Offers t head (enforcerAt m) (offersOf rest) (enforcerAt e)) → (b : Bool) → eqb (length (c .lent)) releaseSize ≡ b
+      → Offers t head (enforcerAt s)
+      (listedIf b (record { byte = c .symbol; output = c .output; says = offerSaid (c .answer) (c .release); left = c .left }) ++ offersOf rest) (enforcerAt e)
+  first-offer s c m rest e k a later true is =
+      let x = one-offer s (c .symbol) (c .output) (c .lent) (c .answer) m (c .left) (c .release) k (eqb-true _ _ is) a in
+      next (x .offering) (later (x .keeps))
+  first-offer s c m rest e k a later false is =
+      let at = unsized-offer s (c .symbol) (c .output) (c .lent) (c .answer) m (c .left) (c .release) (eqb-false _ _ is) a in
+      subst (λ (y : List ℕ). Offers t head (enforcerAt y) (offersOf rest) (enforcerAt e)) at (later (subst KeepsEnforcer (sym at) k))
+
+  pub offer-calls : (s : List ℕ) (cs : List OfferCall) (e : List ℕ) → KeepsEnforcer s → OfferCalls t header s cs e
+      → Offers t head (enforcerAt s) (offersOf cs) (enforcerAt e)
+  offer-calls s cs e k done = done
+  offer-calls s cs e k (next {m = m} {c = c} {cs = rest} a f) =
+      first-offer s c m rest e k a (λ k′. offer-calls m rest e k′ f) (eqb (length (c .lent)) releaseSize) refl

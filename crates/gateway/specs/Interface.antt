@@ -10,10 +10,11 @@ use Rattle.opacity.specs.declared.Further.{Further}
 use Rattle.verifier.specs.declared.Estimator.{Estimator}
 use Rattle.opacity.specs.Secrets.{Allowed, TooLarge}
 use Rattle.verifier.specs.Replies as verifier
-use Rattle.verifier.specs.Replies.{Told, Opening, Accepting}
+use Rattle.verifier.specs.Replies.{Findings, Opening, Accepting}
 use Rattle.enforcer.specs.Offerings as offering
 use Rattle.enforcer.specs.Offerings.{Starting, Offering}
 use Rattle.enforcer.specs.declared.Enforcer.{Enforcer}
+use Rattle.enforcer.specs.declared.Release.{Release}
 use Rattle.layout.specs.Sizes as sizes
 use Rattle.layout.specs.Layout.{headerAt, headerBytes, furtherAt, estimatorAt, estimatorBytes, EstimatorSaved, notionAt, enforcerAt, enforcerBytes, EnforcerSaved}
 use Rattle.layout.specs.Layout.{judgementBytes, releaseBytes}
@@ -40,18 +41,18 @@ pub data Fresh (t header further estimator judgement : List ℕ) : ℕ → List 
   size : (FreshSizes header further estimator judgement → ⊥) → Fresh t header further estimator judgement 9 estimator judgement
   refused : FreshSizes header further estimator judgement → {n : ℕ} {s : Estimator}
       → Opening t (headerAt header) (furtherAt further 0) (verifier.refused n) s → Fresh t header further estimator judgement n estimator judgement
-  accepted : FreshSizes header further estimator judgement → {vs : List Told} {size : ℕ} {s : Estimator}
-      → Opening t (headerAt header) (furtherAt further 0) (verifier.verdicts vs size) s → EstimatorSaved s
-      → Fresh t header further estimator judgement 0 (estimatorBytes s) (judgementBytes vs size)
+  accepted : FreshSizes header further estimator judgement → {j : Findings} {s : Estimator}
+      → Opening t (headerAt header) (furtherAt further 0) (verifier.verdicts j) s → EstimatorSaved s
+      → Fresh t header further estimator judgement 0 (estimatorBytes s) (judgementBytes j)
 
 -- accept: the same, of the estimator that the bytes hold and a symbol
 pub data Accept (t header : List ℕ) (symbol : ℕ) (estimator judgement : List ℕ) : ℕ → List ℕ → List ℕ → Type 0 where
   size : (VerifierSizes header estimator judgement → ⊥) → Accept t header symbol estimator judgement 9 estimator judgement
   refused : VerifierSizes header estimator judgement → {n : ℕ} {s : Estimator} → Accepting t (headerAt header) (estimatorAt estimator) symbol (verifier.refused n) s
       → Accept t header symbol estimator judgement n estimator judgement
-  accepted : VerifierSizes header estimator judgement → {vs : List Told} {size : ℕ} {s : Estimator}
-      → Accepting t (headerAt header) (estimatorAt estimator) symbol (verifier.verdicts vs size) s → EstimatorSaved s
-      → Accept t header symbol estimator judgement 0 (estimatorBytes s) (judgementBytes vs size)
+  accepted : VerifierSizes header estimator judgement → {j : Findings} {s : Estimator}
+      → Accepting t (headerAt header) (estimatorAt estimator) symbol (verifier.verdicts j) s → EstimatorSaved s
+      → Accept t header symbol estimator judgement 0 (estimatorBytes s) (judgementBytes j)
 
 -- the slices of a start have the lengths of their layouts, and the notion is one
 pub record StartSizes (header : List ℕ) (notion : ℕ) (further enforcer : List ℕ) : Type 0 where
@@ -81,9 +82,9 @@ pub data Offer (t header : List ℕ) (symbol : ℕ) (enforcer output release : L
   size : (OfferSizes header enforcer release → ⊥) → Offer t header symbol enforcer output release 9 enforcer output release
   refused : OfferSizes header enforcer release → {n : ℕ} {s : Enforcer}
       → Offering t (headerAt header) (enforcerAt enforcer) symbol output (offering.refused n) s output → Offer t header symbol enforcer output release n enforcer output release
-  released : OfferSizes header enforcer release → {f size : ℕ} {s : Enforcer} {left : List ℕ}
-      → Offering t (headerAt header) (enforcerAt enforcer) symbol output (offering.released f size) s left → EnforcerSaved s
-      → Offer t header symbol enforcer output release 0 (enforcerBytes s) left (releaseBytes f size)
+  released : OfferSizes header enforcer release → {r : Release} {s : Enforcer} {left : List ℕ}
+      → Offering t (headerAt header) (enforcerAt enforcer) symbol output (offering.released r) s left → EnforcerSaved s
+      → Offer t header symbol enforcer output release 0 (enforcerBytes s) left (releaseBytes r)
 
 -- what a fresh call answers on a header that was decoded, with slices of their lengths: 0 where the further secrets may be given, and else 13 or 14, each
 -- on its condition

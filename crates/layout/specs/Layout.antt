@@ -3,7 +3,7 @@
 use Prim.Native.Nat.{ℕ, zero, suc, _+_, _*_, _/_, _%_, _≤_, _<_, _^_}
 use mathlib.Core.Path.{_≡_}
 use mathlib.Core.Bool.{cond}
-use mathlib.Core.List.{List, [], _∷_, _++_}
+use mathlib.Core.List.{List, [], _∷_, _++_, map}
 use lib.Dec.{eqb}
 use lib.ListN.{length, getD, take, drop}
 use lib.Seq.{sets}
@@ -13,10 +13,12 @@ use Rattle.opacity.specs.declared.Notion.the-variants.{Weak, Strong}
 use Rattle.opacity.specs.declared.Secret.{Secret}
 use Rattle.opacity.specs.declared.Further.{Further}
 use Rattle.verifier.specs.declared.Estimator.{Estimator}
+use Rattle.verifier.specs.declared.Judgement.{Judgement}
 use Rattle.opacity.specs.Secrets.{placeOf}
 use Rattle.opacity.specs.Verdicts.{Steps, none, leak}
-use Rattle.verifier.specs.Replies.{Told, noneTold}
+use Rattle.verifier.specs.Replies.{Told, toldOf, noneTold, numbered, Findings}
 use Rattle.enforcer.specs.declared.Enforcer.{Enforcer}
+use Rattle.enforcer.specs.declared.Release.{Release}
 use Rattle.layout.specs.Sizes as sizes
 
 -- a slice into which a text was stored from a place on; what stood elsewhere stays
@@ -179,9 +181,15 @@ toldBytes v = verdictByte (v .weak) ∷ verdictByte (v .strong) ∷ []
 
 -- a judgement, what an accepted answer of the verifier holds: the weak and the strong verdict of each of four secrets as they are numbered, of one that is
 -- not given none, and how many states are possible
-abbrev pub judgementBytes : List Told → (size : ℕ) → List ℕ
-judgementBytes vs size =
-    toldBytes (getD vs 0 noneTold) ++ (toldBytes (getD vs 1 noneTold) ++ (toldBytes (getD vs 2 noneTold) ++ (toldBytes (getD vs 3 noneTold) ++ size ∷ [])))
+abbrev pub toldBytesAt : Findings → ℕ → List ℕ
+toldBytesAt j i = toldBytes (getD (j .each) i noneTold)
+
+abbrev pub judgementBytes : Findings → List ℕ
+judgementBytes j = toldBytesAt j 0 ++ (toldBytesAt j 1 ++ (toldBytesAt j 2 ++ (toldBytesAt j 3 ++ j .size ∷ [])))
+
+-- what a verifier's answer holds of all four places
+abbrev pub allFindings : Judgement → Findings
+allFindings j = record { each = map toldOf (numbered (j .verdicts)); size = j .size }
 
 -- the verdicts and the number that its bytes hold, where so many further secrets are given
 abbrev pub verdictsAt : (given : ℕ) → List ℕ → List Told
@@ -193,9 +201,12 @@ verdictsAt given told =
     ∷ pairAt told sizes.thirdVerdictsPlace
     ∷ [])
 
-abbrev pub sizeAt : List ℕ → ℕ
-sizeAt told = getD told sizes.judgedPossiblePlace 0
+abbrev pub judgementAt : (given : ℕ) → List ℕ → Findings
+judgementAt given told = record { each = verdictsAt given told; size = getD told sizes.judgedPossiblePlace 0 }
 
 -- a release, what an accepting answer of the enforcer holds: how many symbols were released, how many states are possible
-abbrev pub releaseBytes : (count size : ℕ) → List ℕ
-releaseBytes count size = count ∷ size ∷ []
+abbrev pub releaseBytes : Release → List ℕ
+releaseBytes r = r .count ∷ r .size ∷ []
+
+abbrev pub releaseAt : List ℕ → Release
+releaseAt bytes = record { count = getD bytes sizes.releasedPlace 0; size = getD bytes sizes.releasedPossiblePlace 0 }

@@ -11,16 +11,16 @@ use opacity::Secret;
 use opacity::Verdict;
 use opacity::Verdicts;
 ghost use mathlib.Core.Path.{_≡_};
-ghost use mathlib.Core.List.{[], _∷_, map};
+ghost use mathlib.Core.List.{[], _∷_};
 ghost use Prim.Native.Nat.{ℕ, _+_, _*_, _≤_, _<_, _^_};
 ghost use lib.ListN.{length, getD};
 ghost use Rattle.opacity.specs.Verdicts.{stepsOf};
-ghost use Rattle.verifier.specs.Replies.{toldOf, numbered};
+ghost use Rattle.verifier.specs.Replies.{toldOf};
 ghost use Rattle.layout.specs.Sizes as sizes;
 ghost use Rattle.layout.specs.Layout.{Stored, littleEndianAt, littleEndianBytes, wordAt, wordsAt, wordsBytes, bytesAt};
 ghost use Rattle.layout.specs.Layout.{headerAt, headerBytes, placeAt, placeBytes, furtherAt, furtherBytes, FurtherSized};
 ghost use Rattle.layout.specs.Layout.{estimatorAt, estimatorBytes, EstimatorSized, notionAt, notionByte, enforcerAt, enforcerBytes, EnforcerSized};
-ghost use Rattle.layout.specs.Layout.{verdictByte, toldBytes, judgementBytes, releaseBytes};
+ghost use Rattle.layout.specs.Layout.{verdictByte, toldBytes, allFindings, judgementBytes, releaseBytes};
 
 pub mod sizes;
 
@@ -339,7 +339,7 @@ fn store_verdicts(bytes: &mut [u8], at: usize, verdicts: Verdicts)
 
 pub fn write_judgement(bytes: &mut [u8], judgement: Judgement)
     requires { ⌜ length (now bytes) ≡ sizes.judgementSize ⌝ }
-    ensures { λ _. ⌜ now (bytes .exit) ≡ judgementBytes (map toldOf (numbered (judgement .verdicts))) (judgement .size) ⌝ }
+    ensures { λ _. ⌜ now (bytes .exit) ≡ judgementBytes (allFindings judgement) ⌝ }
 {
     let verdicts = judgement.verdicts;
     let own = verdicts.own;
@@ -355,7 +355,7 @@ pub fn write_judgement(bytes: &mut [u8], judgement: Judgement)
 
 pub fn write_release(bytes: &mut [u8], release: Release)
     requires { ⌜ length (now bytes) ≡ sizes.releaseSize ⌝ }
-    ensures { λ _. ⌜ now (bytes .exit) ≡ releaseBytes (release .count) (release .size) ⌝ }
+    ensures { λ _. ⌜ now (bytes .exit) ≡ releaseBytes release ⌝ }
 {
     put(bytes, sizes::RELEASED_PLACE, release.count);
     put(bytes, sizes::RELEASED_POSSIBLE_PLACE, release.size);

@@ -30,7 +30,8 @@ pub header-none : (f : Front) (given : List ℕ) (e : ℕ) → e < 32 → (In e 
 header-none f given e h n = header-at (f .observable) given e h ∙ symbol-unobservable (f .observable) given e n
 
 -- EQUAL AUTOMATA HAVE EQUAL HEADERS, whatever the encodings say of the symbols of unobservable events, and whether own numbers are given or not
-pub equal-headers : (f g : Front) (a b : List ℕ) → f .fixed .initial ≡ g .fixed .initial → f .fixed .k ≡ g .fixed .k → f .secret ≡ g .secret → f .observable ≡ g .observable
+pub equal-headers : (f g : Front) (a b : List ℕ) → f .fixed .initial ≡ g .fixed .initial → f .fixed .k ≡ g .fixed .k → f .secret ≡ g .secret
+    → f .observable ≡ g .observable
     → ((e : ℕ) → e < 32 → In e (f .observable) → givenSymbol a e ≡ givenSymbol b e) → headerOf f a ≡ headerOf g b
 equal-headers f g a b start back secret observable same =
     let o = f .observable in
@@ -51,7 +52,8 @@ preamble-none bits {d} e zeroed =
     on-done (front bits 0) _ e λ f n1 e1 r1.
     on-done (symbols (symbolCount (f .fixed)) bits n1) _ r1 λ given n2 e2 r2.
     let s : record { front = f; symbols = given } ≡ d = same-done r2 .0 in
-    let none : symbolCount (f .fixed) ≡ 0 = count-none (f .fixed .symbols) (f .fixed .topevent + 1) (ap (λ (x : Preamble). x .front .fixed .symbols) s ∙ zeroed) in
+    let none : symbolCount (f .fixed) ≡ 0 =
+    count-none (f .fixed .symbols) (f .fixed .topevent + 1) (ap (λ (x : Preamble). x .front .fixed .symbols) s ∙ zeroed) in
     sym (ap (λ (x : Preamble). x .symbols) s) ∙ sym (same-done (subst (λ (k : ℕ). symbols k bits n1 ≡ done given n2) none e2) .0)
 
 -- WITHOUT SYMBOLS IN THE ENCODING the decoded automaton is one without symbols: each observable event has its own number

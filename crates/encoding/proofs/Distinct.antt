@@ -40,7 +40,8 @@ unfolding without addUnless
 without-fewer x [] h = absurd (false≢true h)
 without-fewer x (y ∷ ys) h = go (without-fewer x ys) (sameTransition x y) h
   where
-    go : (listed x ys ≡ true → length (without x ys) < length ys) → (b : Bool) → b || listed x ys ≡ true → length (addUnless b y (without x ys)) < suc (length ys)
+    go : (listed x ys ≡ true → length (without x ys) < length ys) → (b : Bool) → b || listed x ys ≡ true
+        → length (addUnless b y (without x ys)) < suc (length ys)
     go later true h = omega (arith, without-most x ys)
     go later false h = omega (arith, later h)
 
@@ -53,7 +54,8 @@ without-has : (x u : Transition) (ts : List Transition) → listed u ts ≡ true
 unfolding without addUnless
 without-has x u [] h n = h
 without-has x u (y ∷ ys) h n =
-    ⊎-elim first (λ (i : listed u ys ≡ true). add-unless-later (sameTransition x y) u y (without x ys) (without-has x u ys i n)) (or-split (sameTransition u y) (listed u ys) h)
+    ⊎-elim first (λ (i : listed u ys ≡ true). add-unless-later (sameTransition x y) u y (without x ys) (without-has x u ys i n))
+    (or-split (sameTransition u y) (listed u ys) h)
   where
     go : (b : Bool) → sameTransition x u ≡ b → listed u (addUnless b u (without x ys)) ≡ true
     go true e = absurd (n e)
@@ -76,7 +78,8 @@ pub distinct-snoc : (ts : List Transition) (t : Transition) → Distinct ts → 
 distinct-snoc [] t d n = (refl, tt)
 distinct-snoc (x ∷ xs) t d n =
     let later : listed t xs ≡ true → ⊥ = λ h. false≢true (sym n ∙ later-listed t x xs h) in
-    let first : sameTransition x t ≡ true → ⊥ = λ s. false≢true (sym n ∙ subst (λ (z : Transition). listed t (z ∷ xs) ≡ true) (sym (same-equal x t s)) (first-listed t xs)) in
+    let first : sameTransition x t ≡ true → ⊥ =
+    λ s. false≢true (sym n ∙ subst (λ (z : Transition). listed t (z ∷ xs) ≡ true) (sym (same-equal x t s)) (first-listed t xs)) in
     (listed-snoc x xs t ∙ rw (d .0, unless-true (sameTransition x t) first), distinct-snoc xs t (d .1) (unless-true (listed t xs) later))
 
 transitions-counted : (s e : ℕ) (bits : List ℕ) (at n : ℕ) {ts : List Transition} {next : ℕ} → transitions s e n bits at ≡ done ts next → Counted n ts
@@ -86,7 +89,10 @@ transitions-counted s e bits at (suc n) r =
     let l = transitions-read s e n bits at r in
     let before = transitions-counted s e bits at n (l .earlier-read) in
     let counted : Counted (suc n) (l .earlier ++ (l .last ∷ [])) =
-    record { once = distinct-snoc (l .earlier) (l .last) (before .once) (l .new); number = omega (arith, length-append (l .earlier) (l .last ∷ []), before .number) } in
+    record {
+      once = distinct-snoc (l .earlier) (l .last) (before .once) (l .new);
+      number = omega (arith, length-append (l .earlier) (l .last ∷ []), before .number);
+    } in
     subst (Counted (suc n)) (l .all) counted
 
 -- no transition is listed twice, and as many are listed as the encoding says
@@ -114,7 +120,15 @@ some-number (t ∷ ts) = go (some-number ts) (listed t ts) refl
         again : (u : Transition) (b : Bool) → sameTransition u t ≡ b → listed u ts ≡ b || listed u ts
         again u true e = subst (λ (z : Transition). listed z ts ≡ true) (sym (same-equal u t e)) h
         again u false e = refl
-    go (n, x) false h = (suc n, record { each = t ∷ x .each; once = (x .same t ∙ h, x .once); same = λ u. ap (λ (b : Bool). sameTransition u t || b) (x .same u); number = ap suc (x .number) })
+    go (n, x) false h = (
+      suc n,
+      record {
+        each = t ∷ x .each;
+        once = (x .same t ∙ h, x .once);
+        same = λ u. ap (λ (b : Bool). sameTransition u t || b) (x .same u);
+        number = ap suc (x .number);
+      },
+    )
 
 -- a list without repeats has as many as it has transitions
 distinct-number : (ts : List Transition) → Distinct ts → Different ts (length ts)

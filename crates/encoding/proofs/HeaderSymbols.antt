@@ -28,9 +28,11 @@ unfolding headerSymbols
 header-length observable given = each-length (symbolFor observable given) 0 32
 
 -- an array with these symbols is the header's
-pub header-is : (observable : ℕ) (given l : List ℕ) → length l ≡ 32 → ((e : ℕ) → e < 32 → getD l e 0 ≡ symbolFor observable given e) → l ≡ headerSymbols observable given
+pub header-is : (observable : ℕ) (given l : List ℕ) → length l ≡ 32 → ((e : ℕ) → e < 32 → getD l e 0 ≡ symbolFor observable given e)
+    → l ≡ headerSymbols observable given
 header-is observable given l size each =
-    ext-getD 0 l (headerSymbols observable given) (size ∙ sym (header-length observable given)) (λ e h. each e (omega arith) ∙ sym (header-at observable given e (omega arith)))
+    ext-getD 0 l (headerSymbols observable given) (size ∙ sym (header-length observable given))
+    (λ e h. each e (omega arith) ∙ sym (header-at observable given e (omega arith)))
 
 -- an observable event's is the one that is listed for it
 pub symbol-observable : (observable : ℕ) (given : List ℕ) (e : ℕ) → In e observable → symbolFor observable given e ≡ givenSymbol given e
@@ -63,7 +65,8 @@ unfolding symbolsAt
 symbols-at bits at zero e h = absurd (omega arith)
 symbols-at bits at (suc n) e h = go (decLt e n) (λ l. symbols-at bits at n e l)
   where
-    go : Dec (e < n) → (e < n → getD (symbolsAt bits at n) e 0 ≡ numberAt bits (at + e * 5) 5) → getD (symbolsAt bits at (suc n)) e 0 ≡ numberAt bits (at + e * 5) 5
+    go : Dec (e < n) → (e < n → getD (symbolsAt bits at n) e 0 ≡ numberAt bits (at + e * 5) 5)
+        → getD (symbolsAt bits at (suc n)) e 0 ≡ numberAt bits (at + e * 5) 5
     go (yes l) ih = List·getD-append (symbolsAt bits at n) (numberAt bits (at + n * 5) 5 ∷ []) 0 e (omega (arith, symbols-length bits at n)) ∙ ih l
     go (no l) ih =
         let same : n ≡ e = omega arith in
@@ -87,7 +90,8 @@ symbol-listed bits at n e h = symbol-some (symbolsAt bits at n) e (omega (arith,
 pub symbol-behind : (bits : List ℕ) (at n e : ℕ) → (n ≡ 0 → ⊥) → n ≤ e → givenSymbol (symbolsAt bits at n) e ≡ 0
 symbol-behind bits at n e z h =
     let some : n ≡ 0 → ⊥ = z in
-    symbol-some (symbolsAt bits at n) e (omega (arith, symbols-length bits at n)) ∙ List·getD-eq-default (symbolsAt bits at n) 0 (omega (arith, symbols-length bits at n))
+    symbol-some (symbolsAt bits at n) e (omega (arith, symbols-length bits at n))
+    ∙ List·getD-eq-default (symbolsAt bits at n) 0 (omega (arith, symbols-length bits at n))
 
 -- how many symbols are listed
 pub count-none : (b n : ℕ) → b ≡ 0 → countIf b n ≡ 0
@@ -99,8 +103,10 @@ count-some zero n z = absurd (z refl)
 count-some (suc b) n z = refl
 
 -- the header, from what was found
-pub header-made : (bits : List ℕ) (f : Front) (at n : ℕ) (l : List ℕ) → at ≡ frontEnd f → n ≡ symbolCount (f .fixed) → l ≡ headerSymbols (f .observable) (symbolsAt bits at n)
-    → _≡_ {A = Header} (record { initial = f .fixed .initial; k = f .fixed .k; secret = f .secret; observable = f .observable; symbols = l }) (headerOf f (givenSymbols bits f))
+pub header-made : (bits : List ℕ) (f : Front) (at n : ℕ) (l : List ℕ) → at ≡ frontEnd f → n ≡ symbolCount (f .fixed)
+    → l ≡ headerSymbols (f .observable) (symbolsAt bits at n)
+    → _≡_ {A = Header} (record { initial = f .fixed .initial; k = f .fixed .k; secret = f .secret; observable = f .observable; symbols = l })
+    (headerOf f (givenSymbols bits f))
 header-made bits f at n l a c e =
     ap (λ (s : List ℕ). record { initial = f .fixed .initial; k = f .fixed .k; secret = f .secret; observable = f .observable; symbols = s })
     (e ∙ ap₂ (λ (x y : ℕ). headerSymbols (f .observable) (symbolsAt bits x y)) a c)

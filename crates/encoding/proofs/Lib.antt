@@ -4,8 +4,12 @@ pub mod Ended
 pub mod Refusing
 pub mod HeaderSymbols
 pub mod Stored
+pub mod Carried
+pub mod Filling
+pub mod Again
 pub mod Promise
--- Theorems about the definitions: one decoding only, no transition twice, and what a decoded table and a decoded header's symbols mean. (01's starred encodings are rows of the
+-- Theorems about the definitions: one decoding only, no transition twice, and what a decoded table and a decoded header's symbols mean. (01's starred encodings
+-- are rows of the
 -- table in `examples`.)
 pub mod Only
 pub mod Distinct

@@ -48,7 +48,8 @@ later-listed t x ts h = rw (h, or-true)
 -- one transition more, at the end
 pub listed-snoc : (t : Transition) (xs : List Transition) (x : Transition) → listed t (xs ++ (x ∷ [])) ≡ listed t xs || sameTransition t x
 listed-snoc t [] x = or-false (sameTransition t x)
-listed-snoc t (y ∷ ys) x = ap (λ (b : Bool). sameTransition t y || b) (listed-snoc t ys x) ∙ sym (or-assoc (sameTransition t y) (listed t ys) (sameTransition t x))
+listed-snoc t (y ∷ ys) x = ap (λ (b : Bool). sameTransition t y || b) (listed-snoc t ys x)
+    ∙ sym (or-assoc (sameTransition t y) (listed t ys) (sameTransition t x))
 
 -- and so among those that stand in bits
 pub listed-none : (t : Transition) (bits : List ℕ) (at : ℕ) → listed t (transitionsAt bits at 0) ≡ false
@@ -65,7 +66,8 @@ pub listed-stays : (t : Transition) (bits : List ℕ) (at i : ℕ) → sameTrans
     → (n : ℕ) → i < n → listed t (transitionsAt bits at n) ≡ true
 listed-stays t bits at i s zero l = absurd (omega arith)
 listed-stays t bits at i s (suc n) l =
-    ⊎-elim (λ (q : i ≡ n). rw (← q, listed-more t bits at i, s, or-true)) (λ (q : i < n). rw (listed-more t bits at n, listed-stays t bits at i s n q)) (eq-or-lt-of-le (le-of-suc-le-suc l))
+    ⊎-elim (λ (q : i ≡ n). rw (← q, listed-more t bits at i, s, or-true)) (λ (q : i < n). rw (listed-more t bits at n, listed-stays t bits at i s n q))
+    (eq-or-lt-of-le (le-of-suc-le-suc l))
 
 -- a transition's three fields as one number
 abbrev packed : Transition → ℕ
@@ -88,7 +90,8 @@ same-bits bs p q hp hq = go (ℕ-discrete (numberAt bits p 17) (numberAt bits q 
     at-q : numberAt bits q 17 ≡ packed (transitionAt bits q)
     at-q = read-packed bs q hq
 
-    go : Dec (numberAt bits p 17 ≡ numberAt bits q 17) → eqb (numberAt bits p 17) (numberAt bits q 17) ≡ sameTransition (transitionAt bits q) (transitionAt bits p)
+    go : Dec (numberAt bits p 17 ≡ numberAt bits q 17) → eqb (numberAt bits p 17) (numberAt bits q 17)
+        ≡ sameTransition (transitionAt bits q) (transitionAt bits p)
     go (yes e) =
         let event-p = number-lt bs (p + 6) 5 (omega arith) in
         let to-p = number-lt bs (p + 6 + 5) 6 (omega arith) in

@@ -96,7 +96,8 @@ module _ (x : ℕ) (other : refusing x ≡ false) (bits : List ℕ) where
 pub decoding-never : (x : ℕ) → refusing x ≡ false → (12 ≡ x → ⊥) → (9 ≡ x → ⊥) → {bytes table : List ℕ} {h : Header} {n : ℕ} {after : List ℕ}
     → Decoding bytes table h (refuse n) after → n ≡ x → ⊥
 decoding-never x other unrepeated sized (Decoding.malformed bad) = sized
-decoding-never x other unrepeated sized {bytes = bytes} (Decoding.refused size n e) = subst (λ (p : Parsed Encoding). Never x p) e (encoding-never x other (bitsOf bytes) unrepeated 0)
+decoding-never x other unrepeated sized {bytes = bytes} (Decoding.refused size n e) = subst (λ (p : Parsed Encoding). Never x p) e
+    (encoding-never x other (bitsOf bytes) unrepeated 0)
 
 -- REFUSAL 2 NO LONGER OCCURS (02, S-2)
 pub never-two : (bits : List ℕ) → Never 2 (encoding bits 0)

@@ -32,7 +32,8 @@ transitions-again s e zero bits at r = let z : _≡_ {A = ℕ} 0 1 = cc in absur
 transitions-again s e (suc n) bits at r = go (transitions s e n bits at) refl (transitions-again s e n bits at) r
   where
     go : (p : Parsed (List Transition)) → transitions s e n bits at ≡ p → (transitions s e n bits at ≡ refused 12 → Again s e n bits at)
-        → andThen p (λ earlier next. _>>=_ (transition s e) (λ last. _>>_ (demand (not (listed last earlier)) 12) (give (earlier ++ (last ∷ [])))) bits next) ≡ refused 12
+        → andThen p (λ earlier next. _>>=_ (transition s e) (λ last. _>>_ (demand (not (listed last earlier)) 12) (give (earlier ++ (last ∷ [])))) bits next)
+        ≡ refused 12
         → Again s e (suc n) bits at
     go (refused x) is before r =
         let a = before (is ∙ r) in
@@ -66,10 +67,18 @@ same-number {x = x} e = let n : x ≡ 12 = cc in ap refused n
 
 behind : (bits : List ℕ) (f : Preamble) (start : ℕ) → preamble bits 0 ≡ done f start
     → (p : Parsed (List Transition)) → transitions (f .front .fixed .topstate) (f .front .fixed .topevent) (f .front .fixed .count) bits start ≡ p
-    → _≡_ {A = Parsed Encoding} (andThen p (λ ts next. _>>_ ending (give (record { front = f .front; symbols = f .symbols; transitions = ts })) bits next)) (refused 12) → Repeats bits
-behind bits f start e1 (done ts p) is r = on-refused 12 (ending bits p) _ (ending-never 12 refl bits p) r λ u next e2 r2. let z : _≡_ {A = ℕ} 0 1 = cc in absurd (omega arith)
+    → _≡_ {A = Parsed Encoding} (andThen p (λ ts next. _>>_ ending (give (record { front = f .front; symbols = f .symbols; transitions = ts })) bits next))
+    (refused 12) → Repeats bits
+behind bits f start e1 (done ts p) is r = on-refused 12 (ending bits p) _ (ending-never 12 refl bits p) r λ u next e2 r2.
+    let z : _≡_ {A = ℕ} 0 1 = cc in absurd (omega arith)
 behind bits f start e1 (refused x) is r =
-    record { read = f; start = start; preamble-read = e1; again = transitions-again (f .front .fixed .topstate) (f .front .fixed .topevent) (f .front .fixed .count) bits start (is ∙ same-number r) }
+    record {
+      read = f;
+      start = start;
+      preamble-read = e1;
+      again = transitions-again (f .front .fixed .topstate) (f .front .fixed .topevent)
+          (f .front .fixed .count) bits start (is ∙ same-number r);
+    }
 
 repeats : (bits : List ℕ) → encoding bits 0 ≡ refused 12 → Repeats bits
 unfolding encoding

@@ -1,18 +1,17 @@
 // Decodes an automaton (01: description): its header, and its transitions into a lent table of 2,048 words.
-// The whole encoding is checked first, so that a refusal leaves the table as it was; then the table is cleared and filled.
-// Every packed field is read through the Reader of `bitfields`. Only `decode` is an entry: it demands nothing of its caller.
+// The whole encoding is checked first (`first_pass`), so that a refusal leaves the table as it was; then the table is cleared and filled (`second_pass`).
+// Each pass makes one Reader of `bitfields` where it begins, which goes from field to field. Only `decode` is an entry: it demands nothing of its caller.
+mod preamble; // the fields before the transitions
+mod transitions; // the transitions, one after another
+mod first_pass; // all of an encoding is in order
+mod second_pass; // what it says is stored
+
 use automaton::Header;
-use bitfields::Field;
-use bitfields::Flags;
+use first_pass::check_bytes;
 use refusal::Refusal;
+use second_pass::read_bytes;
 ghost use mathlib.Core.Path.{_≡_};
-ghost use Prim.Native.Nat.{_+_, _*_, _≤_, _<_};
 ghost use lib.ListN.{length, replicate};
-ghost use Rattle.bitfields.specs.Bits.{bitsOf};
-ghost use Rattle.encoding.specs.Transitions.{listed, transitionAt, transitionsAt, symbolsAt};
-ghost use Rattle.encoding.specs.Encoding.{fixed, front, symbolCount, preamble, transition, transitions, ending, encoding};
-ghost use Rattle.encoding.specs.Table.{mark, tableOf};
-ghost use Rattle.encoding.specs.Answers.{fixedMeans, frontMeans, preambleMeans, checkedMeans, encodingMeans, frontEnd, preambleEnd, givenSymbols, symbolFor, headerSymbols, headerOf, FixedSmall, FrontSmall};
 ghost use Rattle.encoding.specs.Decoding.{Decoding, refusedBy, answerMeans};
 
 // The fields that each encoding starts with: 32 bits.
@@ -59,212 +58,11 @@ pub struct Decoded {
     pub answer: Answer,
 }
 
-fn read_fixed(bytes: &[u8]) -> FixedAnswer
-    ensures { λ r. ⌜ fixedMeans r ≡ fixed (bitsOf (now (bytes .entry))) 0 ⌝ }
-{
-    let Field::Value(topstate) = bitfields::read_field(bytes, 0, 6) else {
-        return FixedAnswer::Refused(Refusal::Truncated);
-    };
-    let Field::Value(topevent) = bitfields::read_field(bytes, 6, 5) else {
-        return FixedAnswer::Refused(Refusal::Truncated);
-    };
-    let Field::Value(k) = bitfields::read_field(bytes, 11, 4) else {
-        return FixedAnswer::Refused(Refusal::Truncated);
-    };
-    let Field::Value(initial) = bitfields::read_field(bytes, 15, 6) else {
-        return FixedAnswer::Refused(Refusal::Truncated);
-    };
-    if topstate < initial {
-        return FixedAnswer::Refused(Refusal::StateOutOfRange);
-    }
-    let Field::Value(count) = bitfields::read_field(bytes, 21, 10) else {
-        return FixedAnswer::Refused(Refusal::Truncated);
-    };
-    let Field::Value(symbols) = bitfields::read_field(bytes, 31, 1) else {
-        return FixedAnswer::Refused(Refusal::Truncated);
-    };
-    FixedAnswer::Value(Fixed {
-        topstate,
-        topevent,
-        k,
-        initial,
-        count,
-        symbols,
-    })
-}
-
-fn read_front(bytes: &[u8]) -> FrontAnswer
-    ensures { λ r. ⌜ frontMeans r ≡ front (bitsOf (now (bytes .entry))) 0 ⌝ }
-{
-    match read_fixed(bytes) {
-        FixedAnswer::Refused(r) => FrontAnswer::Refused(r),
-        FixedAnswer::Value(f) => {
-            let Flags::Value(secret) = bitfields::read_flags(bytes, 32, f.topstate + 1) else {
-                return FrontAnswer::Refused(Refusal::Truncated);
-            };
-            let Flags::Value(observable) = bitfields::read_flags(
-                bytes,
-                32 + (f.topstate + 1),
-                f.topevent + 1,
-            ) else {
-                return FrontAnswer::Refused(Refusal::Truncated);
-            };
-            FrontAnswer::Value(Front {
-                fixed: f,
-                secret,
-                observable,
-            })
-        }
-    }
-}
-
-// How many symbols are listed: none, or one for each event up to the top event.
-fn symbol_count(fixed: Fixed) -> usize
-    requires { ⌜ FixedSmall fixed ⌝ }
-    ensures { λ r. ⌜ r ≡ symbolCount fixed ⌝ }
-{
-    if fixed.symbols == 0 {
-        return 0;
-    }
-    fixed.topevent + 1
-}
-
-// The position after the observable bits, where the symbols stand.
-fn front_end(front: Front) -> usize
-    requires { ⌜ FrontSmall front ⌝ }
-    ensures { λ r. ⌜ r ≡ frontEnd front ⌝ }
-{
-    let fixed = front.fixed;
-    32 + (fixed.topstate + 1) + (fixed.topevent + 1)
-}
-
-// The position of the first transition.
-fn preamble_end(front: Front) -> usize
-    requires { ⌜ FrontSmall front ⌝ }
-    ensures { λ r. ⌜ r ≡ preambleEnd front ⌝ }
-{
-    front_end(front) + symbol_count(front.fixed) * 5
-}
-
-// The front and the symbols behind it. A symbol of 5 bits needs no check of its own, only the bits.
-fn read_preamble(bytes: &[u8]) -> FrontAnswer
-    ensures { λ r. ⌜ preambleMeans (bitsOf (now (bytes .entry))) r ≡ preamble (bitsOf (now (bytes .entry))) 0 ⌝ }
-{
-    match read_front(bytes) {
-        FrontAnswer::Refused(r) => FrontAnswer::Refused(r),
-        FrontAnswer::Value(f) => {
-            let end = preamble_end(f);
-            if bytes.len() < (end + 7) / 8 {
-                return FrontAnswer::Refused(Refusal::Truncated);
-            }
-            FrontAnswer::Value(f)
-        }
-    }
-}
-
-// The transition at a position, each field with its own check.
-fn check_transition(bytes: &[u8], at: usize, topstate: usize, topevent: usize) -> Checked
-    requires { ⌜ at ≤ 65536 ⌝ }
-    ensures { λ r. ⌜ checkedMeans (transitionAt (bitsOf (now (bytes .entry))) at) (at + 6 + 5 + 6) r ≡ transition topstate topevent (bitsOf (now (bytes .entry))) at ⌝ }
-{
-    let Field::Value(from) = bitfields::read_field(bytes, at, 6) else {
-        return Checked::Refused(Refusal::Truncated);
-    };
-    if topstate < from {
-        return Checked::Refused(Refusal::StateOutOfRange);
-    }
-    let at_event = at + 6;
-    let Field::Value(event) = bitfields::read_field(bytes, at_event, 5) else {
-        return Checked::Refused(Refusal::Truncated);
-    };
-    if topevent < event {
-        return Checked::Refused(Refusal::EventOutOfRange);
-    }
-    let at_to = at_event + 5;
-    let Field::Value(to) = bitfields::read_field(bytes, at_to, 6) else {
-        return Checked::Refused(Refusal::Truncated);
-    };
-    if topstate < to {
-        return Checked::Refused(Refusal::StateOutOfRange);
-    }
-    Checked::Valid
-}
-
-// Whether transition `n` of those from `at` on is the same as an earlier one. The 17 bits of each are compared as one number.
-fn repeated(bytes: &[u8], at: usize, n: usize) -> bool
-    requires { ⌜ (at ≤ 1024) × (n ≤ 1023) × (at + n * 17 + 17 ≤ length (bitsOf (now bytes))) ⌝ }
-    ensures { λ r. ⌜ r ≡ listed (transitionAt (bitsOf (now (bytes .entry))) (at + n * 17)) (transitionsAt (bitsOf (now (bytes .entry))) at n) ⌝ }
-{
-    let last = bitfields::read_number(bytes, at + n * 17, 17);
-    let mut i: usize = 0;
-    while i < n {
-        if bitfields::read_number(bytes, at + i * 17, 17) == last {
-            return true;
-        }
-        i += 1;
-    }
-    false
-}
-
-// The transitions from `at` on, one after another: each with its own checks, and then against all before it.
-fn check_transitions(
-    bytes: &[u8],
-    at: usize,
-    topstate: usize,
-    topevent: usize,
-    count: usize,
-) -> Checked
-    requires { ⌜ (at ≤ 1024) × (count ≤ 1023) ⌝ }
-    ensures { λ r. ⌜ checkedMeans (transitionsAt (bitsOf (now (bytes .entry))) at count) (at + count * 17) r ≡ transitions topstate topevent count (bitsOf (now (bytes .entry))) at ⌝ }
-{
-    let mut p = at;
-    let mut i: usize = 0;
-    while i < count {
-        if let Checked::Refused(r) = check_transition(bytes, p, topstate, topevent) {
-            return Checked::Refused(r);
-        }
-        if repeated(bytes, at, i) {
-            return Checked::Refused(Refusal::RepeatedTransition);
-        }
-        p += 17;
-        i += 1;
-    }
-    Checked::Valid
-}
-
-// Zero bits to the end of the byte, and no further byte.
-fn check_ending(bytes: &[u8], at: usize) -> Checked
-    requires { ⌜ (at ≤ 65536) × (at ≤ length (bitsOf (now bytes))) ⌝ }
-    ensures { λ r. ⌜ checkedMeans tt at r ≡ ending (bitsOf (now (bytes .entry))) at ⌝ }
-{
-    if (at + 7) / 8 < bytes.len() {
-        return Checked::Refused(Refusal::TrailingData);
-    }
-    let rest = bytes.len() * 8 - at;
-    if bitfields::read_number(bytes, at, rest) != 0 {
-        return Checked::Refused(Refusal::TrailingData);
-    }
-    Checked::Valid
-}
-
-// The first pass: the whole encoding is in order. Nothing is written.
-fn check(bytes: &[u8]) -> FrontAnswer
-    ensures { λ r. ⌜ encodingMeans (bitsOf (now (bytes .entry))) r ≡ encoding (bitsOf (now (bytes .entry))) 0 ⌝ }
-{
-    match read_preamble(bytes) {
-        FrontAnswer::Refused(r) => FrontAnswer::Refused(r),
-        FrontAnswer::Value(f) => {
-            let fixed = f.fixed;
-            let at = preamble_end(f);
-            match check_transitions(bytes, at, fixed.topstate, fixed.topevent, fixed.count) {
-                Checked::Refused(r) => FrontAnswer::Refused(r),
-                Checked::Valid => match check_ending(bytes, at + fixed.count * 17) {
-                    Checked::Refused(r) => FrontAnswer::Refused(r),
-                    Checked::Valid => FrontAnswer::Value(f),
-                },
-            }
-        }
-    }
+// The numbers of a transition.
+struct ListedTransition {
+    from: usize,
+    event: usize,
+    to: usize,
 }
 
 fn clear(table: &mut [u64])
@@ -274,79 +72,6 @@ fn clear(table: &mut [u64])
     while i < table.len() {
         table[i] = 0;
         i += 1;
-    }
-}
-
-// Sets the bit of the transition at a position.
-fn place(bytes: &[u8], at: usize, table: &mut [u64])
-    requires { ⌜ (at ≤ 65536) × (at + 17 ≤ length (bitsOf (now bytes))) × (length (now table) ≡ 2048) ⌝ }
-    ensures { λ _. ⌜ now (table .exit) ≡ mark (now (table .entry)) (transitionAt (bitsOf (now (bytes .entry))) at) ⌝ }
-{
-    let from = bitfields::read_number(bytes, at, 6);
-    let event = bitfields::read_number(bytes, at + 6, 5);
-    let to = bitfields::read_number(bytes, at + 6 + 5, 6);
-    let word = 64 * event + from;
-    table[word] |= 1u64 << to;
-}
-
-// The second pass: the table of the `count` transitions from `at` on.
-fn fill(bytes: &[u8], at: usize, count: usize, table: &mut [u64])
-    requires { ⌜ (at ≤ 1024) × (count ≤ 1023) × (at + count * 17 ≤ length (bitsOf (now bytes))) × (length (now table) ≡ 2048) ⌝ }
-    ensures { λ _. ⌜ now (table .exit) ≡ tableOf (transitionsAt (bitsOf (now (bytes .entry))) at count) ⌝ }
-{
-    clear(table);
-    let mut placed: usize = 0;
-    while placed < count {
-        place(bytes, at + placed * 17, table);
-        placed += 1;
-    }
-}
-
-// The symbol that the header holds for an event: 0 where it is not observable, its own number where no symbols are listed.
-fn symbol_at(bytes: &[u8], at: usize, n: usize, observable: u64, e: usize) -> u8
-    requires { ⌜ (e < 32) × (at ≤ 1024) × (n ≤ 32) × (at + n * 5 ≤ length (bitsOf (now bytes))) ⌝ }
-    ensures { λ r. ⌜ r ≡ symbolFor observable (symbolsAt (bitsOf (now (bytes .entry))) at n) e ⌝ }
-{
-    if !stateset::member(observable, e) {
-        return 0;
-    }
-    if n == 0 {
-        return e as u8;
-    }
-    if n <= e {
-        return 0;
-    }
-    bitfields::read_number(bytes, at + e * 5, 5) as u8
-}
-
-// The symbols of all 32 events.
-fn all_symbols(bytes: &[u8], at: usize, n: usize, observable: u64) -> [u8; 32]
-    requires { ⌜ (at ≤ 1024) × (n ≤ 32) × (at + n * 5 ≤ length (bitsOf (now bytes))) ⌝ }
-    ensures { λ r. ⌜ r ≡ headerSymbols observable (symbolsAt (bitsOf (now (bytes .entry))) at n) ⌝ }
-{
-    let mut symbols = [0u8; 32];
-    let mut e: usize = 0;
-    while e < 32 {
-        symbols[e] = symbol_at(bytes, at, n, observable, e);
-        e += 1;
-    }
-    symbols
-}
-
-fn header_of(bytes: &[u8], front: Front) -> Header
-    requires { ⌜ FrontSmall front × (preambleEnd front ≤ length (bitsOf (now bytes))) ⌝ }
-    ensures { λ r. ⌜ r ≡ headerOf front (givenSymbols (bitsOf (now (bytes .entry))) front) ⌝ }
-{
-    let fixed = front.fixed;
-    let at = front_end(front);
-    let n = symbol_count(fixed);
-    let symbols = all_symbols(bytes, at, n, front.observable);
-    Header {
-        initial: fixed.initial as u8,
-        k: fixed.k as u8,
-        secret: front.secret,
-        observable: front.observable as u32,
-        symbols: symbols,
     }
 }
 
@@ -372,13 +97,13 @@ pub fn decode(bytes: &[u8], table: &mut [u64]) -> Decoded
     if table.len() != 2048 {
         return refused(Refusal::Malformed);
     }
-    match check(bytes) {
+    match check_bytes(bytes) {
         FrontAnswer::Refused(r) => refused(r),
         FrontAnswer::Value(f) => {
-            let fixed = f.fixed;
-            fill(bytes, preamble_end(f), fixed.count, table);
+            clear(table);
+            let header = read_bytes(bytes, f, table);
             Decoded {
-                header: header_of(bytes, f),
+                header: header,
                 answer: Answer::Accepted,
             }
         }

@@ -1,0 +1,58 @@
+-- Laws of the second pass: the table of the transitions so far, and of one more; and where the reader of it stands. Assumes nothing.
+use Prim.Native.Nat.{ℕ, _+_, _*_, _≤_, _<_}
+use mathlib.Core.Path.{_≡_, sym, subst, _∙_}
+use mathlib.Core.List.{List}
+use native.Mathlib.Omega.{arith}
+use native.Mathlib.Numerals.{add-one}
+use denote.Ref.{RefT, now}
+use lib.ListN.{length, replicate}
+use Rattle.bitfields.specs.Bits.{bitsOf, numberAt}
+use Rattle.bitfields.specs.declared.Reader.{Reader}
+use Rattle.bitfields.proofs.Bits.{number-lt}
+use Rattle.encoding.specs.Transitions.{transitionAt, transitionsAt}
+use Rattle.encoding.specs.Table.{mark, tableOf}
+use Rattle.encoding.specs.Encoding.{symbolCount}
+use Rattle.encoding.specs.Answers.{frontEnd, preambleEnd, FrontSmall}
+use Rattle.encoding.specs.declared.Front.{Front}
+use Rattle.encoding.specs.declared.ListedTransition.{ListedTransition}
+use Rattle.encoding.proofs.Ended.{symbols-few}
+use Rattle.encoding.proofs.Stored.{table-none, table-more}
+use Rattle.encoding.proofs.Carried.{moved}
+
+pub none-filled : (bits : List ℕ) (at : ℕ) → replicate 2048 0 ≡ tableOf (transitionsAt bits at 0)
+none-filled bits at = rw table-none
+
+pub more-filled : (bits : List ℕ) (at i : ℕ) (zs : List ℕ) (t : ListedTransition) → zs ≡ tableOf (transitionsAt bits at i) → t .from
+    ≡ numberAt bits (at + i * 17) 6 → t .event ≡ numberAt bits (at + i * 17 + 6) 5
+    → t .to ≡ numberAt bits (at + i * 17 + 6 + 5) 6 → {ws : List ℕ} → ws ≡ mark zs (record { from = t .from; event = t .event; to = t .to }) → ws
+    ≡ tableOf (transitionsAt bits at (i + 1))
+more-filled bits at i zs t z f e o {ws} w =
+    let same : mark zs (record { from = t .from; event = t .event; to = t .to }) ≡ mark (tableOf (transitionsAt bits at i)) (transitionAt bits (at + i * 17)) =
+    λ k. mark (z k) (record { from = f k; event = e k; to = o k }) in
+    w ∙ same ∙ rw (add-one i, table-more)
+
+pub place-small : (r : Reader) (t : ListedTransition) (bs : List ℕ) → r .position + 17 ≤ length (bitsOf bs)
+    → (t .from ≡ numberAt (bitsOf bs) (r .position) 6) × (t .event ≡ numberAt (bitsOf bs) (r .position + 6) 5)
+    × (t .to ≡ numberAt (bitsOf bs) (r .position + 6 + 5) 6)
+    → (t .from < 64) × (t .event < 32) × (t .to < 64)
+place-small r
+    t bs l e = omega
+    (arith, e, number-lt bs (r .position) 6 (omega arith), number-lt bs (r .position + 6) 5 (omega arith), number-lt bs (r .position + 6 + 5) 6 (omega arith))
+
+-- how far the reader of the second pass goes
+pub second-small : (f : Front) → FrontSmall f → (frontEnd f ≤ 128) × (symbolCount (f .fixed) ≤ 32) × (f .fixed .count ≤ 1023)
+second-small f s = (omega (arith, s .fixed .topstate, s .fixed .topevent), symbols-few (f .fixed) (s .fixed), omega (arith, s .fixed .count))
+
+-- it comes to the first transition, and what it fills from there
+pub fill-ready : (r : Reader) (n : ℕ) (b : RefT (List ℕ)) (f : Front) → FrontSmall f → preambleEnd f + f .fixed .count * 17 ≤ length (bitsOf (now b))
+    → r .bytes ≡ b → r .position ≡ preambleEnd f → n ≡ f .fixed .count → (r .position ≤ 1024) × (n ≤ 1023)
+    × (r .position + n * 17 ≤ length (bitsOf (now (r .bytes))))
+fill-ready r n b f s h e p q =
+    let x = second-small f s in
+    (omega (arith, p, x), omega (arith, q, x), subst (λ (y : RefT (List ℕ)). r .position + n * 17 ≤ length (bitsOf (now y))) (sym e) (omega (arith, p, q, h)))
+
+pub fill-done : (r : Reader) (n : ℕ) (b : RefT (List ℕ)) (at m : ℕ) → r .bytes ≡ b → r .position ≡ at → n ≡ m
+    → {zs : List ℕ} → zs ≡ tableOf (transitionsAt (bitsOf (now (r .bytes))) (r .position) n) → zs ≡ tableOf (transitionsAt (bitsOf (now b)) at m)
+fill-done r n b at m e p q {zs} h =
+    subst (λ (k : ℕ). zs ≡ tableOf (transitionsAt (bitsOf (now b)) at k)) q
+    (moved (λ (x : RefT (List ℕ)) (y : ℕ). zs ≡ tableOf (transitionsAt (bitsOf (now x)) y n)) r e p h)

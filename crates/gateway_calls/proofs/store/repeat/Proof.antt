@@ -1,8 +1,8 @@
--- `gateway_calls::repeat` is safe and ends.
+-- `gateway_calls::store::repeat` is safe and ends.
 use Prim.Native.Nat.{_≤_, _-_}
 use borrow.Author.Needs.{needs}
-use Rattle.gateway_calls.proofs.repeat.Statement.{statement}
-use Rattle.gateway_calls.proofs.repeat.Tie as tie
+use Rattle.gateway_calls.proofs.store.repeat.Statement.{statement}
+use Rattle.gateway_calls.proofs.store.repeat.Tie as tie
 
 abbrev Inv-loop : tie.InvT-loop
 Inv-loop memory₀ slot from word times i₀ memory i = i ≤ times

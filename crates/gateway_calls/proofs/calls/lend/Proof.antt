@@ -1,10 +1,10 @@
--- `gateway_calls::lend` is safe: a size is at most a slot's, which is the length of each copy.
+-- `gateway_calls::calls::lend` is safe: a size is at most a slot's, which is the length of each copy.
 use Prim.Native.Nat.{ℕ, _≤_}
 use mathlib.Core.Path.{_≡_}
 use native.Mathlib.Omega.{arith}
 use borrow.Author.Needs.{needs}
-use Rattle.gateway_calls.proofs.lend.Statement.{statement}
-use Rattle.gateway_calls.proofs.lend.Tie as tie
+use Rattle.gateway_calls.proofs.calls.lend.Statement.{statement}
+use Rattle.gateway_calls.proofs.calls.lend.Tie as tie
 
 fits : {n l : ℕ} → n ≤ 4096 → 4096 ≡ l → n ≤ l
 fits small size = omega arith
@@ -40,7 +40,9 @@ part-apply-start : tie.Need-part-apply-start
 part-apply-start c = least
 
 part-apply-end : tie.Need-part-apply-end
-part-apply-end c = fits (c .before .before .before .before .before .size-of .ensures) (c .before .before .before .before .before .before .before .before .before .before .before .before .before .pre .0)
+part-apply-end c =
+    let sized = c .before .before .before .before .before in
+    fits (sized .size-of .ensures) (sized .before .before .before .before .before .before .before .before .pre .0)
 
 sub-apply-2 : tie.Need-sub-apply-2
 sub-apply-2 c = least
@@ -49,7 +51,9 @@ part-apply-start-2 : tie.Need-part-apply-start-2
 part-apply-start-2 c = least
 
 part-apply-end-2 : tie.Need-part-apply-end-2
-part-apply-end-2 c = fits (c .before .before .before .before .before .size-of2 .ensures) (c .before .before .before .before .before .before .before .before .before .before .before .before .before .before .pre .1)
+part-apply-end-2 c =
+    let sized = c .before .before .before .before .before in
+    fits (sized .size-of2 .ensures) (sized .before .before .before .before .before .before .before .before .before .pre .1)
 
 sub-apply-3 : tie.Need-sub-apply-3
 sub-apply-3 c = least
@@ -58,7 +62,9 @@ part-apply-start-3 : tie.Need-part-apply-start-3
 part-apply-start-3 c = least
 
 part-apply-end-3 : tie.Need-part-apply-end-3
-part-apply-end-3 c = fits (c .before .before .before .before .before .size-of3 .ensures) (c .before .before .before .before .before .before .before .before .before .before .before .before .before .before .before .pre .2)
+part-apply-end-3 c =
+    let sized = c .before .before .before .before .before in
+    fits (sized .size-of3 .ensures) (sized .before .before .before .before .before .before .before .before .before .before .pre .2)
 
 sub-apply-4 : tie.Need-sub-apply-4
 sub-apply-4 c = least
@@ -67,7 +73,9 @@ part-apply-start-4 : tie.Need-part-apply-start-4
 part-apply-start-4 c = least
 
 part-apply-end-4 : tie.Need-part-apply-end-4
-part-apply-end-4 c = fits (c .before .before .before .before .before .size-of4 .ensures) (c .before .before .before .before .before .before .before .before .before .before .before .before .before .before .before .before .pre .3)
+part-apply-end-4 c =
+    let sized = c .before .before .before .before .before in
+    fits (sized .size-of4 .ensures) (sized .before .before .before .before .before .before .before .before .before .before .before .pre .3)
 
 sub-apply-5 : tie.Need-sub-apply-5
 sub-apply-5 c = least
@@ -76,7 +84,9 @@ part-apply-start-5 : tie.Need-part-apply-start-5
 part-apply-start-5 c = least
 
 part-apply-end-5 : tie.Need-part-apply-end-5
-part-apply-end-5 c = fits (c .before .before .before .before .before .size-of5 .ensures) (c .before .before .before .before .before .before .before .before .before .before .before .before .before .before .before .before .before .pre .4)
+part-apply-end-5 c =
+    let sized = c .before .before .before .before .before in
+    fits (sized .size-of5 .ensures) (sized .before .before .before .before .before .before .before .before .before .before .before .before .pre .4)
 
 sub-apply-6 : tie.Need-sub-apply-6
 sub-apply-6 c = least
@@ -85,7 +95,9 @@ part-apply-start-6 : tie.Need-part-apply-start-6
 part-apply-start-6 c = least
 
 part-apply-end-6 : tie.Need-part-apply-end-6
-part-apply-end-6 c = fits (c .before .before .before .before .before .size-of6 .ensures) (c .before .before .before .before .before .before .before .before .before .before .before .before .before .before .before .before .before .before .pre .5)
+part-apply-end-6 c =
+    let sized = c .before .before .before .before .before in
+    fits (sized .size-of6 .ensures) (sized .before .before .before .before .before .before .before .before .before .before .before .before .before .pre .5)
 
 apply-requires : tie.Need-apply-requires
 apply-requires c κs = tt

@@ -1,10 +1,10 @@
--- `gateway_calls::copy_of` is safe and ends.
+-- `gateway_calls::store::copy_of` is safe and ends.
 use Prim.Native.Nat.{_≤_, _-_}
 use mathlib.Core.Path.{_≡_}
 use lib.ListN.{length}
 use borrow.Author.Needs.{needs}
-use Rattle.gateway_calls.proofs.copy_of.Statement.{statement}
-use Rattle.gateway_calls.proofs.copy_of.Tie as tie
+use Rattle.gateway_calls.proofs.store.copy_of.Statement.{statement}
+use Rattle.gateway_calls.proofs.store.copy_of.Tie as tie
 
 abbrev Inv-loop : tie.InvT-loop
 Inv-loop memory slot bytes₀ i₀ bytes i = (length bytes ≡ 4096) × (i ≤ 4096)

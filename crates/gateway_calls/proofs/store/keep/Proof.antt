@@ -1,8 +1,8 @@
--- `gateway_calls::keep` is safe and ends.
+-- `gateway_calls::store::keep` is safe and ends.
 use Prim.Native.Nat.{_≤_, _-_}
 use borrow.Author.Needs.{needs}
-use Rattle.gateway_calls.proofs.keep.Statement.{statement}
-use Rattle.gateway_calls.proofs.keep.Tie as tie
+use Rattle.gateway_calls.proofs.store.keep.Statement.{statement}
+use Rattle.gateway_calls.proofs.store.keep.Tie as tie
 
 abbrev Inv-loop : tie.InvT-loop
 Inv-loop memory₀ slot bytes i₀ memory i = i ≤ 4096

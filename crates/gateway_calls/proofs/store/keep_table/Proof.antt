@@ -1,8 +1,8 @@
--- `gateway_calls::keep_table` is safe and ends.
+-- `gateway_calls::store::keep_table` is safe and ends.
 use Prim.Native.Nat.{_≤_, _-_}
 use borrow.Author.Needs.{needs}
-use Rattle.gateway_calls.proofs.keep_table.Statement.{statement}
-use Rattle.gateway_calls.proofs.keep_table.Tie as tie
+use Rattle.gateway_calls.proofs.store.keep_table.Statement.{statement}
+use Rattle.gateway_calls.proofs.store.keep_table.Tie as tie
 
 abbrev Inv-loop : tie.InvT-loop
 Inv-loop memory₀ words i₀ memory i = i ≤ 4096

@@ -1,35 +1,35 @@
--- `gateway_calls::run_at` is safe and ends.
-use Prim.Native.Nat.{_≤_, _<_, _-_}
+-- `gateway_calls::store::matches` is safe and ends.
+use Prim.Native.Nat.{_≤_, _-_}
 use borrow.Author.Needs.{needs}
-use Rattle.gateway_calls.proofs.run_at.Statement.{statement}
-use Rattle.gateway_calls.proofs.run_at.Tie as tie
+use Rattle.gateway_calls.proofs.store.matches.Statement.{statement}
+use Rattle.gateway_calls.proofs.store.matches.Tie as tie
 
 abbrev Inv-loop : tie.InvT-loop
-Inv-loop memory slot at size i₀ i = (at < i) × (i ≤ size)
+Inv-loop memory slot from other there at n i₀ i = i ≤ n
 
 abbrev μ-loop : tie.MeasureT-loop
-μ-loop memory slot at size i₀ i = size - i
-
-add-i : tie.Need-add-i Inv-loop μ-loop
-add-i c = search needs
+μ-loop memory slot from other there at n i₀ i = n - i
 
 loop-holds : tie.Need-loop-holds Inv-loop μ-loop
 loop-holds c = search needs
 
+add-word-of : tie.Need-add-word-of Inv-loop μ-loop
+add-word-of c = search needs
+
 word-of-requires : tie.Need-word-of-requires Inv-loop μ-loop
 word-of-requires c κs = search needs
+
+add-word-of-2 : tie.Need-add-word-of-2 Inv-loop μ-loop
+add-word-of-2 c = search needs
 
 word-of-requires-2 : tie.Need-word-of-requires-2 Inv-loop μ-loop
 word-of-requires-2 c κs = search needs
 
-sub-result : tie.Need-sub-result Inv-loop μ-loop
-sub-result c = search needs
-
 returns : tie.Need-returns Inv-loop μ-loop
 returns c = search needs
 
-add-i-2 : tie.Need-add-i-2 Inv-loop μ-loop
-add-i-2 c = search needs
+add-i : tie.Need-add-i Inv-loop μ-loop
+add-i c = search needs
 
 loop-less : tie.Need-loop-less Inv-loop μ-loop
 loop-less c = search needs
@@ -37,26 +37,22 @@ loop-less c = search needs
 loop-again : tie.Need-loop-again Inv-loop μ-loop
 loop-again c = search needs
 
-sub-result-2 : tie.Need-sub-result-2 Inv-loop μ-loop
-sub-result-2 c = search needs
-
 returns-2 : tie.Need-returns-2 Inv-loop μ-loop
 returns-2 c = search needs
 
-pub run-at-spec : {M : Type 1} → statement M
-run-at-spec =
+pub matches-spec : {M : Type 1} → statement M
+matches-spec =
     tie.close
     (tie.spec
     Inv-loop
     μ-loop
-    add-i
     loop-holds
+    add-word-of
     word-of-requires
+    add-word-of-2
     word-of-requires-2
-    sub-result
     returns
-    add-i-2
+    add-i
     loop-less
     loop-again
-    sub-result-2
     returns-2)

@@ -1,8 +1,8 @@
--- `gateway_calls::show_runs` is safe and ends.
+-- `gateway_calls::print::show_runs` is safe and ends.
 use Prim.Native.Nat.{_≤_, _-_}
 use borrow.Author.Needs.{needs}
-use Rattle.gateway_calls.proofs.show_runs.Statement.{statement}
-use Rattle.gateway_calls.proofs.show_runs.Tie as tie
+use Rattle.gateway_calls.proofs.print.show_runs.Statement.{statement}
+use Rattle.gateway_calls.proofs.print.show_runs.Tie as tie
 
 abbrev Inv-loop : tie.InvT-loop
 Inv-loop memory slot size before₀ at₀ before at = at ≤ size

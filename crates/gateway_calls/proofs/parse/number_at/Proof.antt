@@ -1,9 +1,9 @@
--- `gateway_calls::number_at` is safe and ends.
+-- `gateway_calls::parse::number_at` is safe and ends.
 use Prim.Native.Nat.{_≤_, _-_}
 use lib.ListN.{length}
 use borrow.Author.Needs.{needs}
-use Rattle.gateway_calls.proofs.number_at.Statement.{statement}
-use Rattle.gateway_calls.proofs.number_at.Tie as tie
+use Rattle.gateway_calls.proofs.parse.number_at.Statement.{statement}
+use Rattle.gateway_calls.proofs.parse.number_at.Tie as tie
 
 abbrev Inv-loop : tie.InvT-loop
 Inv-loop line at base value₀ i₀ value i = at ≤ i

@@ -1,9 +1,9 @@
--- `gateway_calls::line_end` is safe and ends.
+-- `gateway_calls::parse::line_end` is safe and ends.
 use Prim.Native.Nat.{_≤_, _-_}
 use lib.ListN.{length}
 use borrow.Author.Needs.{needs}
-use Rattle.gateway_calls.proofs.line_end.Statement.{statement}
-use Rattle.gateway_calls.proofs.line_end.Tie as tie
+use Rattle.gateway_calls.proofs.parse.line_end.Statement.{statement}
+use Rattle.gateway_calls.proofs.parse.line_end.Tie as tie
 
 abbrev Inv-loop : tie.InvT-loop
 Inv-loop input from i₀ i = (from ≤ i) × (i ≤ length input)

@@ -1,9 +1,9 @@
--- `gateway_calls::word_at` is safe and ends.
+-- `gateway_calls::parse::word_at` is safe and ends.
 use Prim.Native.Nat.{_≤_, _-_}
 use lib.ListN.{length}
 use borrow.Author.Needs.{needs}
-use Rattle.gateway_calls.proofs.word_at.Statement.{statement}
-use Rattle.gateway_calls.proofs.word_at.Tie as tie
+use Rattle.gateway_calls.proofs.parse.word_at.Statement.{statement}
+use Rattle.gateway_calls.proofs.parse.word_at.Tie as tie
 
 abbrev Inv-loop : tie.InvT-loop
 Inv-loop line at value₀ i₀ value i = at ≤ i

@@ -1,10 +1,10 @@
--- `gateway_calls::table_of` is safe and ends.
+-- `gateway_calls::store::table_of` is safe and ends.
 use Prim.Native.Nat.{_≤_, _-_}
 use mathlib.Core.Path.{_≡_}
 use lib.ListN.{length}
 use borrow.Author.Needs.{needs}
-use Rattle.gateway_calls.proofs.table_of.Statement.{statement}
-use Rattle.gateway_calls.proofs.table_of.Tie as tie
+use Rattle.gateway_calls.proofs.store.table_of.Statement.{statement}
+use Rattle.gateway_calls.proofs.store.table_of.Tie as tie
 
 abbrev Inv-loop : tie.InvT-loop
 Inv-loop memory words₀ i₀ words i = (length words ≡ 4096) × (i ≤ 4096)

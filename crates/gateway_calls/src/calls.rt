@@ -1,0 +1,176 @@
+// The functions: what each is lent, and its call. One is added by its word, what it is lent in `slots_of`, and its call in `apply`.
+use super::store;
+ghost use mathlib.Core.Path.{_≡_};
+ghost use lib.ListN.{length};
+
+// The words of the commands, as `word_at` reads them: their last eight letters.
+pub const OPEN_WORD: u64 = 0x6f70656e;
+
+pub const DECODE: u64 = 0x6465636f6465;
+
+const FRESH: u64 = 0x6672657368;
+
+const ACCEPT: u64 = 0x616363657074;
+
+const START: u64 = 0x7374617274;
+
+pub const OFFER: u64 = 0x6f66666572;
+
+// What a function is lent: slots to read, those to write to, and whether it takes a byte.
+pub struct Slots {
+    pub input: usize,
+    pub also: usize,
+    pub first: usize,
+    pub second: usize,
+    pub third: usize,
+    pub byte: bool,
+}
+
+// What each function is lent, beside the table.
+pub fn slots_of(call: u64) -> Slots {
+    let mut slots = Slots {
+        input: store::HEADER,
+        also: store::NONE,
+        first: store::NONE,
+        second: store::NONE,
+        third: store::NONE,
+        byte: true,
+    };
+    if call == DECODE {
+        slots.input = store::ENCODING;
+        slots.first = store::HEADER;
+        slots.byte = false;
+    }
+    if call == FRESH {
+        slots.also = store::FURTHER;
+        slots.first = store::ESTIMATOR;
+        slots.second = store::JUDGEMENT;
+        slots.byte = false;
+    }
+    if call == ACCEPT {
+        slots.first = store::ESTIMATOR;
+        slots.second = store::JUDGEMENT;
+    }
+    if call == START {
+        slots.also = store::FURTHER;
+        slots.first = store::ENFORCER;
+    }
+    if call == OFFER {
+        slots.first = store::ENFORCER;
+        slots.second = store::OUTPUT;
+        slots.third = store::RELEASE;
+    }
+    slots
+}
+
+// The functions, by how many slices they write to.
+fn apply1(
+    call: u64,
+    byte: u8,
+    table: &mut [u64],
+    input: &[u8],
+    also: &[u8],
+    first: &mut [u8],
+) -> u8 {
+    if call == DECODE {
+        return gateway::opacity_decode(input, table, first);
+    }
+    gateway::opacity_start(table, input, byte, also, first)
+}
+
+fn apply2(
+    call: u64,
+    byte: u8,
+    table: &[u64],
+    input: &[u8],
+    also: &[u8],
+    first: &mut [u8],
+    second: &mut [u8],
+) -> u8 {
+    if call == FRESH {
+        return gateway::opacity_fresh(table, input, also, first, second);
+    }
+    gateway::opacity_accept(table, input, byte, first, second)
+}
+
+fn apply(
+    slots: Slots,
+    call: u64,
+    byte: u8,
+    table: &mut [u64],
+    input: &[u8],
+    also: &[u8],
+    first: &mut [u8],
+    second: &mut [u8],
+    third: &mut [u8],
+) -> u8 {
+    if slots.second == store::NONE {
+        return apply1(call, byte, table, input, also, first);
+    }
+    if slots.third == store::NONE {
+        return apply2(call, byte, table, input, also, first, second);
+    }
+    gateway::opacity_offer(table, input, byte, first, second, third)
+}
+
+// Lends the first elements of copies, by the sizes of their slots.
+fn lend(
+    call: u64,
+    byte: u8,
+    sizes: &[usize; 10],
+    table: &mut [u64],
+    input: &[u8],
+    also: &[u8],
+    first: &mut [u8],
+    second: &mut [u8],
+    third: &mut [u8],
+) -> u8
+    requires { ⌜ (4096 ≡ length (now table)) × (4096 ≡ length (now input)) × (4096 ≡ length (now also))
+        × (4096 ≡ length (now first)) × (4096 ≡ length (now second)) × (4096 ≡ length (now third)) ⌝ }
+{
+    let slots = slots_of(call);
+    let words = store::size_of(sizes, store::TABLE);
+    let n = store::size_of(sizes, slots.input);
+    let m = store::size_of(sizes, slots.also);
+    let n1 = store::size_of(sizes, slots.first);
+    let n2 = store::size_of(sizes, slots.second);
+    let n3 = store::size_of(sizes, slots.third);
+    apply(
+        slots,
+        call,
+        byte,
+        &mut table[0..words],
+        &input[0..n],
+        &also[0..m],
+        &mut first[0..n1],
+        &mut second[0..n2],
+        &mut third[0..n3],
+    )
+}
+
+// A call: its answer, after which the memory is as the function left it.
+pub fn answer_of(call: u64, byte: u8, memory: &mut [u64; 40960], sizes: &[usize; 10]) -> u8 {
+    let slots = slots_of(call);
+    let mut table = store::table_of(memory);
+    let input = store::copy_of(memory, slots.input);
+    let also = store::copy_of(memory, slots.also);
+    let mut first = store::copy_of(memory, slots.first);
+    let mut second = store::copy_of(memory, slots.second);
+    let mut third = store::copy_of(memory, slots.third);
+    let answer = lend(
+        call,
+        byte,
+        sizes,
+        &mut table,
+        &input,
+        &also,
+        &mut first,
+        &mut second,
+        &mut third,
+    );
+    store::keep_table(memory, &table);
+    store::keep(memory, slots.first, &first);
+    store::keep(memory, slots.second, &second);
+    store::keep(memory, slots.third, &third);
+    answer
+}

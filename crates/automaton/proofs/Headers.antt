@@ -8,7 +8,7 @@ use lib.ListN.{getD}
 use Rattle.stateset.specs.Set.{In}
 use Rattle.stateset.proofs.Bits.{in-lt}
 use Rattle.stateset.proofs.Tests.{test-as, same?, some?}
-use Rattle.automaton.specs.Run.{automatonOf, showsBy, Observable, Sound}
+use Rattle.automaton.specs.Run.{automatonOf, showsBy, Observable, WellFormed}
 use Rattle.automaton.specs.declared.Header.{Header}
 use Rattle.automaton.specs.Symbols.{
   WithoutSymbols,
@@ -68,8 +68,8 @@ module _ (t : List ℕ) (h h′ : Header) (s : SameButSymbols (automatonOf t h) 
       record { event = e; event-small = small; event-observable = i; first = refl; second = w .own e small (in-same _ _ s e i) }
 
   -- refusal 9: where the second has no symbols, it is an automaton if the first is one
-  pub own-sound : WithoutSymbols (automatonOf t h′) → h′ .observable < 2 ^ 32 → h .k ≡ h′ .k → Sound t h → Sound t h′
-  own-sound w small k x =
+  pub own-well-formed : WithoutSymbols (automatonOf t h′) → h′ .observable < 2 ^ 32 → h .k ≡ h′ .k → WellFormed t h → WellFormed t h′
+  own-well-formed w small k x =
       record {
         words = x .words;
         back = omega (arith, x .back);
@@ -86,7 +86,7 @@ module _ (t : List ℕ) where
       let x = observable-event h byte o in
       subst (λ (n : ℕ). Observable h′ n) (sym (g .symbols-are (x .0) (x .2)) ∙ x .3) (event-observable h′ (x .0) (x .1) (in-same _ _ (g .same) (x .0) (x .2)))
 
-  sound-to : (h h′ : Header) → SameSymbols (automatonOf t h) (automatonOf t h′) → h .k ≡ h′ .k → Sound t h → Sound t h′
+  sound-to : (h h′ : Header) → SameSymbols (automatonOf t h) (automatonOf t h′) → h .k ≡ h′ .k → WellFormed t h → WellFormed t h′
   sound-to h h′ g k x =
       record {
         words = x .words;
@@ -101,8 +101,8 @@ module _ (t : List ℕ) where
     pub same-observable : (byte : ℕ) → Observable h byte ↔ Observable h′ byte
     same-observable byte = (observable-to h h′ g byte, observable-to h′ h (same-back _ _ g) byte)
 
-    pub same-sound : h .k ≡ h′ .k → Sound t h ↔ Sound t h′
-    same-sound k = (sound-to h h′ g k, sound-to h′ h (same-back _ _ g) (sym k))
+    pub same-well-formed : h .k ≡ h′ .k → WellFormed t h ↔ WellFormed t h′
+    same-well-formed k = (sound-to h h′ g k, sound-to h′ h (same-back _ _ g) (sym k))
 
 -- what is the same under a header with other symbols for unobservable events is the same under any two headers that differ there alone
 abbrev pub relabelled : Header → List ℕ → Header
@@ -127,7 +127,7 @@ observable? h byte =
     (some? (λ e. showsBy (h .observable) (h .symbols) e ≡ byte ∷ []) (λ e. same? (showsBy (h .observable) (h .symbols) e) (byte ∷ [])) 32)
 
 -- so each list of bytes under the one header has a list under the other that corresponds to it
-module _ (t : List ℕ) (h h′ : Header) (s : SameButSymbols (automatonOf t h) (automatonOf t h′)) (sound : Sound t h′) where
+module _ (t : List ℕ) (h h′ : Header) (s : SameButSymbols (automatonOf t h) (automatonOf t h′)) (sound : WellFormed t h′) where
   pub same-byte : (x : ℕ) → (y : ℕ) × SameByte t h h′ x y
   same-byte x = go (observable? h x)
     where
@@ -160,7 +160,7 @@ module _ (t : List ℕ) (h h′ : Header) (s : SameButSymbols (automatonOf t h) 
   same-bytes-back xs ys (both {x = x} {y = y} {xs = rest} {ys = rest′} b pairs) = both (same-byte-back x y b) (same-bytes-back rest rest′ pairs)
 
 -- so each list of events, offered without symbols, is paired with a list of symbols
-pub event-bytes : (t : List ℕ) (h h′ : Header) → SameButSymbols (automatonOf t h) (automatonOf t h′) → Sound t h
+pub event-bytes : (t : List ℕ) (h h′ : Header) → SameButSymbols (automatonOf t h) (automatonOf t h′) → WellFormed t h
     → (ys : List ℕ) → (xs : List ℕ) × Pairs (SameByte t h h′) xs ys
 event-bytes t h h′ s sound ys =
     let back = but-back _ _ s in

@@ -13,7 +13,7 @@ use lib.Count.{trailingZeros}
 use lib.Seq.{getD-set-same, getD-set-other}
 use Rattle.stateset.specs.Set.{In, Is}
 use Rattle.stateset.proofs.Bits.{Taken, in-lt, empty, trailing-in, one-shl, with-is}
-use Rattle.automaton.specs.Run.{Automaton, automatonOf, Observable, SmallSymbols, Sound}
+use Rattle.automaton.specs.Run.{Automaton, automatonOf, Observable, SmallSymbols, WellFormed}
 use Rattle.automaton.specs.declared.Header.{Header}
 use Rattle.automaton.specs.Reaching.{Showing}
 use Rattle.automaton.proofs.Entering.{shows-one, only-shows, symbol-small}
@@ -114,5 +114,5 @@ module _ (t : List ℕ) (h : Header) (byte events : ℕ) (s : Showing (automaton
   pub none-observable : events ≡ 0 → Observable h byte → ⊥
   none-observable z o = empty (o .event) events z (s .whole (o .event) (o .event-small, o .shows-it))
 
-pub observable-small : (t : List ℕ) (h : Header) (byte : ℕ) → Sound t h → Observable h byte → byte ≤ 31
+pub observable-small : (t : List ℕ) (h : Header) (byte : ℕ) → WellFormed t h → Observable h byte → byte ≤ 31
 observable-small t h byte sound o = symbol-small (automatonOf t h) (sound .symbols-small) byte (o .event) (o .shows-it)

@@ -5,7 +5,7 @@ ghost use mathlib.Core.List.{List, [], _∷_, _++_};
 ghost use Prim.Native.Nat.{ℕ, _+_, _-_, _*_, _<_, _≤_, max};
 ghost use lib.ListN.{length, getD, take, drop, replicate};
 ghost use Rattle.stateset.specs.Set.{In, Is, Decided};
-ghost use Rattle.automaton.specs.Run.{Automaton, automatonOf, SmallSymbols, Sound};
+ghost use Rattle.automaton.specs.Run.{Automaton, automatonOf, SmallSymbols, WellFormed};
 ghost use Rattle.automaton.specs.Reaching.{Enters, Arrives, Leaves, Showing, BySymbol, Listed, Known, Gained, Closed, Entered};
 ghost use Rattle.relation.specs.Relation.{Image, Preimage, Sub, setAt};
 
@@ -87,8 +87,8 @@ fn small_symbols(header: Header) -> bool
 }
 
 // Whether the table and the header are an automaton.
-pub fn sound(table: &[u64], header: Header) -> bool
-    ensures { λ r. ⌜ Decided r (Sound (now (table .entry)) header) ⌝ }
+pub fn well_formed(table: &[u64], header: Header) -> bool
+    ensures { λ r. ⌜ Decided r (WellFormed (now (table .entry)) header) ⌝ }
 {
     if table.len() != 2048 {
         return false;

@@ -7,7 +7,7 @@ use mathlib.Core.Logic.{_⊎_, inl, inr, _↔_}
 use Prim.Native.Nat.{ℕ, _+_, _-_, _≤_, _<_, _^_}
 use native.Mathlib.Omega.{arith}
 use lib.ListN.{length, take, drop}
-use Rattle.automaton.specs.Run.{Automaton, automatonOf, Sound}
+use Rattle.automaton.specs.Run.{Automaton, automatonOf, WellFormed}
 use Rattle.automaton.specs.Symbols.{
   WithoutSymbols,
   Distinct,
@@ -37,7 +37,7 @@ use Rattle.automaton.proofs.Spelling.{
   same-agree,
 }
 use Rattle.automaton.proofs.Agreeing.{possible-agree, impossible-agree, size-agree}
-use Rattle.automaton.proofs.Headers.{both-observable, own-sound, same-observable, same-sound, relabelled, same-header}
+use Rattle.automaton.proofs.Headers.{both-observable, own-well-formed, same-observable, same-well-formed, relabelled, same-header}
 use Rattle.opacity.specs.declared.Notion.{Notion}
 use Rattle.opacity.specs.declared.Secret.{Secret}
 use Rattle.opacity.specs.declared.Further.{Further}
@@ -50,7 +50,7 @@ use Rattle.enforcer.specs.SafePrefix.{SafeForAll}
 use Rattle.lists.specs.Calls.{done, next}
 use Rattle.enforcer.specs.Queues.{Longest}
 use Rattle.enforcer.specs.Enforcers.{secretsIn}
-use Rattle.enforcer.specs.Offerings.{Begun, Said, refused, released, not-started, started, OpensAsLeak, Starting, Offering}
+use Rattle.enforcer.specs.Offerings.{StartOutcome, OfferOutcome, refused, released, not-started, started, OpensAsLeak, Starting, Offering}
 use Rattle.enforcer.specs.Offers.{
   Offer,
   Offered,
@@ -121,11 +121,11 @@ module _ (t : List ℕ) (h h′ : Header) (like : Alike (automatonOf t h) (autom
     through-too (of-none never never′) y = absurd (never (y .observable))
 
     -- what is taken in has the same event behind it, and the answers are equal once their counts are
-    record JudgedAlike (r r′ : Said) : Type 0 where
+    record JudgedAlike (r r′ : OfferOutcome) : Type 0 where
       taken : Same (takenBy r (o .byte)) (takenBy r′ (o′ .byte))
       says : countBy r ≡ countBy r′ → r ≡ r′
 
-    judged-alike : (r r′ : Said) → Answered t h a o r → Answered t h′ b o′ r′ → JudgedAlike r r′
+    judged-alike : (r r′ : OfferOutcome) → Answered t h a o r → Answered t h′ b o′ r′ → JudgedAlike r r′
     judged-alike (refused m) (refused n) y z =
         record {
           taken = no-events _ _;
@@ -155,7 +155,7 @@ module _ (t : List ℕ) (h h′ : Header) (like : Alike (automatonOf t h) (autom
         (alike-longest _ _ like a b x (secretsOf h f) notion (length a - s .count) (g .grown .queue .longest)) in
         one-longest S b (length a - s .count) (length b - s′ .count) l (g′ .grown .queue .longest)
 
-    module _ (sound : Sound t h) (sound′ : Sound t h′) where
+    module _ (sound : WellFormed t h) (sound′ : WellFormed t h′) where
       abbrev AfterA : List ℕ → Enforcer → Type 0
       AfterA a s = After notion t h f a s
 
@@ -223,7 +223,7 @@ alike-offers notion t h h′ f like secret k s s′ os os′ e e′ start start�
 
 -- a start's answer by the first reason that there is for it, in the order of the refusal table: what is asked of the automaton, how many further secrets,
 -- their look-backs, and the verdicts of the empty trace
-module _ (p : Automaton) (cs : List Secret) (f : Further) (notion : Notion) (r : Begun) where
+module _ (p : Automaton) (cs : List Secret) (f : Further) (notion : Notion) (r : StartOutcome) where
   abbrev Opens : Type 0
   Opens = (OpensAsLeak notion p cs × (r ≡ not-started 8)) ⊎ (ForEach cs (λ i c. Tells notion p c [] none) × (r ≡ started))
 
@@ -236,8 +236,8 @@ module _ (p : Automaton) (cs : List Secret) (f : Further) (notion : Notion) (r :
   abbrev Reasons : Type 0 → Type 0
   Reasons So = ((So → ⊥) × (r ≡ not-started 9)) ⊎ (So × Counts)
 
-reasons : (t : List ℕ) (h : Header) (f : Further) (notion : Notion) (r : Begun) (s : Enforcer) → Starting t h f notion r s
-    → Reasons (automatonOf t h) (secretsOf h f) f notion r (Sound t h)
+reasons : (t : List ℕ) (h : Header) (f : Further) (notion : Notion) (r : StartOutcome) (s : Enforcer) → Starting t h f notion r s
+    → Reasons (automatonOf t h) (secretsOf h f) f notion r (WellFormed t h)
 reasons t h f notion r s (Starting.malformed bad out) = inl (bad, refl)
 reasons t h f notion r s (Starting.too-many-secrets so many out) = inr (so, inl (many, refl))
 reasons t h f notion r s (Starting.look-back-too-large so few large out) = inr (so, inr (few, inl (large, refl)))
@@ -245,7 +245,7 @@ reasons t h f notion r s (Starting.initial-leak so allowed opens out) = inr (so,
 reasons t h f notion r s (Starting.ready so allowed silent same g) = inr (so, inr (allowed .few, inr (allowed, inr (silent, refl))))
 
 -- two answers are the same where the reason holds of both, or of neither and those behind it agree
-first-alike : {P P′ Q Q′ : Type 0} (r r′ n : Begun) → (P × (r ≡ n)) ⊎ Q → (P′ × (r′ ≡ n)) ⊎ Q′ → (P → Q′ → ⊥) → (Q → P′ → ⊥) → (Q → Q′ → r ≡ r′) → r ≡ r′
+first-alike : {P P′ Q Q′ : Type 0} (r r′ n : StartOutcome) → (P × (r ≡ n)) ⊎ Q → (P′ × (r′ ≡ n)) ⊎ Q′ → (P → Q′ → ⊥) → (Q → P′ → ⊥) → (Q → Q′ → r ≡ r′) → r ≡ r′
 first-alike r r′ n (inl x) (inl y) here there rest = x .1 ∙ sym (y .1)
 first-alike r r′ n (inl x) (inr y) here there rest = absurd (here (x .0) y)
 first-alike r r′ n (inr x) (inl y) here there rest = absurd (there x (y .0))
@@ -258,7 +258,7 @@ apart notion p secret a b =
     let z : _≡_ {A = ℕ} 0 1 = cc in
     omega arith
 
-module _ (p q : Automaton) (like : Alike p q) (f : Further) (cs : List Secret) (notion : Notion) (r r′ : Begun) where
+module _ (p q : Automaton) (like : Alike p q) (f : Further) (cs : List Secret) (notion : Notion) (r r′ : StartOutcome) where
   -- the verdict of the empty trace is the same
   same-empty : (secret : Secret) (v : Steps) → Tells notion p secret [] v ↔ Tells notion q secret [] v
   same-empty secret v = alike-tells p q like [] [] (no-events p q) secret notion v
@@ -280,23 +280,23 @@ module _ (p q : Automaton) (like : Alike p q) (f : Further) (cs : List Secret) (
 
 -- starts are refused alike: 9 where the headers are automata alike, 13 and 14 by the further secrets, 8 by the verdicts of the empty trace
 pub alike-starts : (notion : Notion) (t : List ℕ) (h h′ : Header) (f : Further) → Alike (automatonOf t h) (automatonOf t h′) → h .secret ≡ h′ .secret → h .k ≡ h′ .k
-    → Sound t h ↔ Sound t h′ → (r r′ : Begun) (s s′ : Enforcer) → Starting t h f notion r s → Starting t h′ f notion r′ s′ → r ≡ r′
+    → WellFormed t h ↔ WellFormed t h′ → (r r′ : StartOutcome) (s s′ : Enforcer) → Starting t h f notion r s → Starting t h′ f notion r′ s′ → r ≡ r′
 alike-starts notion t h h′ f like secret k sounds r r′ s s′ x y =
     first-alike r r′ (not-started 9) (reasons t h f notion r s x)
-    (subst (λ (cs : List Secret). Reasons (automatonOf t h′) cs f notion r′ (Sound t h′)) (sym (same-own h h′ f secret k)) (reasons t h′ f notion r′ s′ y))
+    (subst (λ (cs : List Secret). Reasons (automatonOf t h′) cs f notion r′ (WellFormed t h′)) (sym (same-own h h′ f secret k)) (reasons t h′ f notion r′ s′ y))
     (λ bad z. bad (sounds .1 (z .0))) (λ z bad. bad (sounds .0 (z .0)))
     (λ a b. counts-alike _ _ like f (secretsOf h f) notion r r′ (a .1) (b .1))
 
-started-sound : (notion : Notion) (t : List ℕ) (h : Header) (f : Further) (s : Enforcer) → Starting t h f notion started s → Sound t h
+started-sound : (notion : Notion) (t : List ℕ) (h : Header) (f : Further) (s : Enforcer) → Starting t h f notion started s → WellFormed t h
 started-sound notion t h f s x = started-after notion t h f s x .0
 
 -- so where no two observable events share a symbol: a start with symbols and one without are answered alike, and what is then accepted and released is
 -- the symbols of what is without symbols
 module _ (notion : Notion) (t : List ℕ) (h h′ : Header) (f : Further) (d : Distinct (automatonOf t h)) (w : WithoutSymbols (automatonOf t h′))
     (same : SameButSymbols (automatonOf t h) (automatonOf t h′)) (secret : h .secret ≡ h′ .secret) (k : h .k ≡ h′ .k) (small : h .observable < 2 ^ 32) where
-  pub distinct-starts : Sound t h → (r r′ : Begun) (s s′ : Enforcer) → Starting t h f notion r s → Starting t h′ f notion r′ s′ → r ≡ r′
+  pub distinct-starts : WellFormed t h → (r r′ : StartOutcome) (s s′ : Enforcer) → Starting t h f notion r s → Starting t h′ f notion r′ s′ → r ≡ r′
   distinct-starts so r r′ s s′ x y =
-      let so′ = own-sound t h h′ same w (omega (arith, same .observable)) k so in
+      let so′ = own-well-formed t h h′ same w (omega (arith, same .observable)) k so in
       alike-starts notion t h h′ f (distinct-alike _ _ d w same) secret k (λ z. so′, λ z. so) r r′ s s′ x y
 
   follow : (s s′ : Enforcer) → Starting t h f notion started s → Starting t h′ f notion started s′ → OffersFollow t h h′ s s′
@@ -305,17 +305,17 @@ module _ (notion : Notion) (t : List ℕ) (h h′ : Header) (f : Further) (d : D
       (x, spelled-own _ _ _ _ w same (x .accepted) .1, spelled-own _ _ _ _ w same (x .released) .1)
 
   -- the one with symbols has started
-  pub distinct-offers : (r′ : Begun) (s s′ : Enforcer) → Starting t h f notion started s → Starting t h′ f notion r′ s′ → (r′ ≡ started) × OffersFollow t h h′ s s′
+  pub distinct-offers : (r′ : StartOutcome) (s s′ : Enforcer) → Starting t h f notion started s → Starting t h′ f notion r′ s′ → (r′ ≡ started) × OffersFollow t h h′ s s′
   distinct-offers r′ s s′ x y =
       let e = sym (distinct-starts (started-sound notion t h f s x) started r′ s s′ x y) in
-      (e, follow s s′ x (subst (λ (r : Begun). Starting t h′ f notion r s′) e y))
+      (e, follow s s′ x (subst (λ (r : StartOutcome). Starting t h′ f notion r s′) e y))
 
   -- the one without symbols has
-  pub distinct-offers-back : Sound t h → (r : Begun) (s s′ : Enforcer) → Starting t h f notion r s → Starting t h′ f notion started s′
+  pub distinct-offers-back : WellFormed t h → (r : StartOutcome) (s s′ : Enforcer) → Starting t h f notion r s → Starting t h′ f notion started s′
       → (r ≡ started) × OffersFollow t h h′ s s′
   distinct-offers-back so r s s′ x y =
       let e = distinct-starts so r started s s′ x y in
-      (e, follow s s′ (subst (λ (r : Begun). Starting t h f notion r s) e x) y)
+      (e, follow s s′ (subst (λ (r : StartOutcome). Starting t h f notion r s) e x) y)
 
 -- ---- an unobservable event's symbol counts for nothing
 
@@ -323,11 +323,11 @@ module _ (t : List ℕ) (h : Header) (symbols : List ℕ) (g : SameSymbols (auto
   abbrev other : Header
   other = relabelled h symbols
 
-  sound-to : Sound t h → Sound t other
-  sound-to so = same-sound t h other g refl .0 so
+  sound-to : WellFormed t h → WellFormed t other
+  sound-to so = same-well-formed t h other g refl .0 so
 
-  starting-to : (f : Further) (notion : Notion) (r : Begun) (s : Enforcer) → Starting t h f notion r s → Starting t other f notion r s
-  starting-to f notion r s (Starting.malformed bad out) = Starting.malformed (λ so. bad (same-sound t h other g refl .1 so)) out
+  starting-to : (f : Further) (notion : Notion) (r : StartOutcome) (s : Enforcer) → Starting t h f notion r s → Starting t other f notion r s
+  starting-to f notion r s (Starting.malformed bad out) = Starting.malformed (λ so. bad (same-well-formed t h other g refl .1 so)) out
   starting-to f notion r s (Starting.too-many-secrets so many out) = Starting.too-many-secrets (sound-to so) many out
   starting-to f notion r s (Starting.look-back-too-large so few large out) = Starting.look-back-too-large (sound-to so) few large out
   starting-to f notion r s (Starting.initial-leak so allowed l out) =
@@ -337,9 +337,9 @@ module _ (t : List ℕ) (h : Header) (symbols : List ℕ) (g : SameSymbols (auto
       Starting.ready (sound-to so) allowed (λ i given. same-tells _ _ g [] _ notion none .0 (each-none i given)) same
       (same-grown _ _ g notion (secretsIn h s) [] s .0 x)
 
-  offering-to : (self : Enforcer) (byte : ℕ) (output : List ℕ) (r : Said) (after : Enforcer) (left : List ℕ) → Offering t h self byte output r after left
+  offering-to : (self : Enforcer) (byte : ℕ) (output : List ℕ) (r : OfferOutcome) (after : Enforcer) (left : List ℕ) → Offering t h self byte output r after left
       → Offering t other self byte output r after left
-  offering-to self byte output r after left (Offering.malformed bad) = Offering.malformed (λ x. bad (same-sound t h other g refl .1 (x .0), x .1))
+  offering-to self byte output r after left (Offering.malformed bad) = Offering.malformed (λ x. bad (same-well-formed t h other g refl .1 (x .0), x .1))
   offering-to self byte output r after left (Offering.output-too-small so li few) = Offering.output-too-small (sound-to so) li few
   offering-to self byte output r after left (Offering.not-observable so li wide never) =
       Offering.not-observable (sound-to so) li wide (λ o. never (same-observable t h other g byte .1 o))
@@ -356,10 +356,10 @@ module _ (t : List ℕ) (h : Header) (symbols : List ℕ) (g : SameSymbols (auto
       })
 
 module _ (t : List ℕ) (h h′ : Header) (g : SameSymbols (automatonOf t h) (automatonOf t h′)) (secret : h .secret ≡ h′ .secret) (k : h .k ≡ h′ .k) where
-  pub same-starting : (f : Further) (notion : Notion) (r : Begun) (s : Enforcer) → Starting t h f notion r s ↔ Starting t h′ f notion r s
+  pub same-starting : (f : Further) (notion : Notion) (r : StartOutcome) (s : Enforcer) → Starting t h f notion r s ↔ Starting t h′ f notion r s
   same-starting f notion r s = same-header t (λ x. Starting t x f notion r s) (λ h symbols g. starting-to t h symbols g f notion r s) h h′ g secret k
 
-  pub same-offering : (self : Enforcer) (byte : ℕ) (output : List ℕ) (r : Said) (after : Enforcer) (left : List ℕ)
+  pub same-offering : (self : Enforcer) (byte : ℕ) (output : List ℕ) (r : OfferOutcome) (after : Enforcer) (left : List ℕ)
       → Offering t h self byte output r after left ↔ Offering t h′ self byte output r after left
   same-offering self byte output r after left =
       same-header t (λ x. Offering t x self byte output r after left) (λ h symbols g. offering-to t h symbols g self byte output r after left) h h′ g secret k

@@ -4,7 +4,7 @@ use mathlib.Core.List.{List, [], _∷_, _++_}
 use Prim.Native.Nat.{ℕ, _+_, _≤_}
 use native.Mathlib.Omega.{arith}
 use lib.ListN.{length, getD}
-use Rattle.automaton.specs.Run.{automatonOf, Sound}
+use Rattle.automaton.specs.Run.{automatonOf, WellFormed}
 use Rattle.automaton.specs.Reaching.{EstimateSize, SizeWithin}
 use Rattle.automaton.specs.declared.Header.{Header}
 use Rattle.refusal.specs.declared.Refusal.{Refusal}
@@ -19,10 +19,10 @@ use Rattle.verifier.specs.Estimators as estimators
 use Rattle.verifier.specs.Replies as verifier
 use Rattle.verifier.specs.Replies.{Accepting, Moved, TellsBy}
 use Rattle.enforcer.specs.Enforcers.{Limits, InLimits, Grown, secretsIn}
-use Rattle.enforcer.specs.Offerings.{refused, said, Offering, not-observable, incompatible, accepted}
-use Rattle.enforcer.specs.Inner.{PendingWithin, LargestWait, Took}
+use Rattle.enforcer.specs.Offerings.{refused, offerOutcome, Offering, not-observable, incompatible, accepted}
+use Rattle.enforcer.specs.Inner.{PendingWithin, LargestWait, Enqueues}
 use Rattle.enforcer.specs.declared.Enforcer.{Enforcer}
-use Rattle.enforcer.specs.declared.Given.{Given}
+use Rattle.enforcer.specs.declared.OfferReply.{OfferReply}
 use Rattle.enforcer.specs.declared.OfferAnswer.{OfferAnswer}
 use Rattle.enforcer.specs.declared.OfferAnswer.the-variants as offer
 use Rattle.enforcer.proofs.TakingIn.{limits-joined, grown-next}
@@ -36,14 +36,14 @@ refused-outcome t h self byte output n s pending wide (Accepting.incompatible so
     incompatible so (limits-joined _ self li pending) wide ob (λ notion trace g. nobody trace (g .estimator))
 
 -- a refusal that is handed back
-pub refused-given : (t : List ℕ) (h : Header) (self : Enforcer) (byte : ℕ) (output : List ℕ) (refusal : Refusal) (r : Given) → r .enforcer ≡ self → r .answer ≡ offer.Refused refusal
-    → Offering t h self byte output (refused (numberOf refusal)) self output → Offering t h self byte output (said (r .answer)) (r .enforcer) output
+pub refused-given : (t : List ℕ) (h : Header) (self : Enforcer) (byte : ℕ) (output : List ℕ) (refusal : Refusal) (r : OfferReply) → r .enforcer ≡ self → r .answer ≡ offer.Refused refusal
+    → Offering t h self byte output (refused (numberOf refusal)) self output → Offering t h self byte output (offerOutcome (r .answer)) (r .enforcer) output
 refused-given t h self byte output refusal r e f x = rw (e, f) x
 
 pub taken-outcome : (t : List ℕ) (h : Header) (self : Enforcer) (byte : ℕ) (output : List ℕ) (vs : List Steps) (w size : ℕ) (s : Estimator) (r : OfferAnswer)
-    (after : Enforcer) (left : List ℕ) → Sound t h → InLimits h self → 17 ≤ length output → Moved t h (self .estimator) byte size s
+    (after : Enforcer) (left : List ℕ) → WellFormed t h → InLimits h self → 17 ≤ length output → Moved t h (self .estimator) byte size s
     → ForEach (secretsIn h self) (λ i c. TellsBy (self .notion) t h (self .estimator) byte c (getD vs i none)) → LargestWait (secretsIn h self) vs w
-    → Took (lookBackOf h (self .estimator .further)) self s w size byte output r after left → Offering t h self byte output (said r) after left
+    → Enqueues (lookBackOf h (self .estimator .further)) self s w size byte output r after left → Offering t h self byte output (offerOutcome r) after left
 taken-outcome t h self byte output vs w size s (offer.Refused r) after left so li wide moved told most took = absurd took
 taken-outcome t h self byte output vs w size s (offer.Released r) after left so li wide moved told most (took, is) =
     let enough = took .shifted .ready .enough in

@@ -5,7 +5,7 @@ use mathlib.Core.Logic.{_⊎_, inl, inr}
 use Prim.Native.Nat.{ℕ, _+_, _≤_, _<_}
 use native.Mathlib.Omega.{arith}
 use lib.ListN.{length, getD}
-use Rattle.automaton.specs.Run.{Automaton, automatonOf, Sound}
+use Rattle.automaton.specs.Run.{Automaton, automatonOf, WellFormed}
 use Rattle.automaton.specs.declared.Header.{Header}
 use Rattle.opacity.specs.declared.Notion.{Notion}
 use Rattle.opacity.specs.declared.Secret.{Secret}
@@ -22,7 +22,7 @@ use Rattle.opacity.proofs.Exactness.{clear-unsure}
 use Rattle.verifier.proofs.PastCount.{past-count, past-secrets, past-allowed, past-large, withFurther, past-limits, past-grown}
 use Rattle.enforcer.specs.Enforcers.{Limits, InLimits, Padded, Grown, GrownOn}
 use Rattle.enforcer.specs.Queues.{Queue}
-use Rattle.enforcer.specs.Offerings.{Begun, Said, refused, not-started, started, Unusable, OpensAsLeak, Starting, Offering}
+use Rattle.enforcer.specs.Offerings.{StartOutcome, OfferOutcome, refused, not-started, started, Unusable, OpensAsLeak, Starting, Offering}
 use Rattle.enforcer.specs.Inner.{waitOf, LargestWait}
 use Rattle.enforcer.specs.declared.Enforcer.{Enforcer}
 use Rattle.enforcer.specs.SafePrefix.{SafeForAll}
@@ -110,12 +110,12 @@ outside (Starting.too-many-secrets so many u) = u
 outside (Starting.look-back-too-large so few large u) = u
 outside (Starting.initial-leak so allowed tells u) = u
 
-never : (s : Enforcer) (t : List ℕ) (h : Header) → Unusable s → Sound t h → InLimits h s → ⊥
+never : (s : Enforcer) (t : List ℕ) (h : Header) → Unusable s → WellFormed t h → InLimits h s → ⊥
 never s t h u so li = u _ (look-back-small h (s .estimator .further) (so .back) (li .estimator .allowed)) li
 
 -- what a refused start hands back is no enforcer: every offer to it, with every table and header, gets 9
 pub refused-start : (t : List ℕ) (h : Header) (f : Further) (notion : Notion) (n : ℕ) (s : Enforcer) → Starting t h f notion (not-started n) s
-    → (t′ : List ℕ) (h′ : Header) (byte : ℕ) (output : List ℕ) (r : Said) (m : Enforcer) (left : List ℕ) → Offering t′ h′ s byte output r m left → r ≡ refused 9
+    → (t′ : List ℕ) (h′ : Header) (byte : ℕ) (output : List ℕ) (r : OfferOutcome) (m : Enforcer) (left : List ℕ) → Offering t′ h′ s byte output r m left → r ≡ refused 9
 refused-start t h f notion n s x t′ h′ byte output r m left (Offering.malformed bad) = refl
 refused-start t h f notion n s x t′ h′ byte output r m left (Offering.output-too-small so li few) = absurd (never s t′ h′ (outside x) so li)
 refused-start t h f notion n s x t′ h′ byte output r m left (Offering.not-observable so li wide ob) = absurd (never s t′ h′ (outside x) so li)
@@ -128,7 +128,7 @@ never-opens notion p cs tells x =
     clear-unsure notion p (secretAt cs (x .number)) [] 0 (tells (x .number) (x .given) 0 (omega arith) (omega arith)) (x .tells .sure)
 
 -- a place past the count of further secrets counts for nothing: two that differ there alone are answered alike
-pub past-starting : (t : List ℕ) (h : Header) (f g : Further) → clearedOf f ≡ clearedOf g → (notion : Notion) (r : Begun) (s : Enforcer)
+pub past-starting : (t : List ℕ) (h : Header) (f g : Further) → clearedOf f ≡ clearedOf g → (notion : Notion) (r : StartOutcome) (s : Enforcer)
     → Starting t h f notion r s → Starting t h g notion r s
 past-starting t h f g same notion r s (Starting.malformed bad out) = Starting.malformed bad out
 past-starting t h f g same notion r s (Starting.too-many-secrets so many out) = Starting.too-many-secrets so (omega (arith, past-count f g same)) out

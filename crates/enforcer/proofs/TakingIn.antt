@@ -10,7 +10,7 @@ use lib.Seq.{length-take-le, take-take, ext-getD, getD-take, getD-drop, getD-at}
 use mathlib.Core.Bool.{Bool}
 use Rattle.stateset.specs.Set.{Decided}
 use Rattle.stateset.proofs.Decides.{decided-as}
-use Rattle.automaton.specs.Run.{Automaton, Possible, Sound}
+use Rattle.automaton.specs.Run.{Automaton, Possible, WellFormed}
 use Rattle.automaton.specs.declared.Header.{Header}
 use Rattle.opacity.specs.declared.Notion.{Notion}
 use Rattle.verifier.specs.declared.Estimator.{Estimator}
@@ -20,7 +20,7 @@ use Rattle.opacity.specs.Verdicts.{Steps, none, Tells}
 use Rattle.verifier.specs.Estimators as estimators
 use Rattle.enforcer.specs.SafePrefix.{SafeForAll}
 use Rattle.enforcer.specs.Enforcers.{Limits, InLimits, pendingOf, Padded, Grown}
-use Rattle.enforcer.specs.Inner.{PendingWithin, LargestWait, Ready, TookIn}
+use Rattle.enforcer.specs.Inner.{PendingWithin, LargestWait, Ready, Enqueued}
 use Rattle.enforcer.specs.declared.Enforcer.{Enforcer}
 use Rattle.enforcer.proofs.ForAll.{safe-for-all-laws, wait-for-all}
 use Rattle.enforcer.proofs.Queueing.{queue-next}
@@ -59,7 +59,7 @@ pub took-in : (K : ℕ) (self : Enforcer) (estimator : Estimator) (w byte : ℕ)
     → left ≡ take f symbols ++ drop f output
     → ((i : ℕ) → i < self .count + 1 - f → getD pending i 0 ≡ getD symbols (f + i) 0)
     → ((i : ℕ) → i < self .count + 1 - f → getD waits i 0 ≡ getD soon (f + i) 0)
-    → TookIn K self estimator w byte output f (record { estimator = estimator; notion = self .notion; count = self .count + 1 - f; pending = pending; waits = waits }) left
+    → Enqueued K self estimator w byte output f (record { estimator = estimator; notion = self .notion; count = self .count + 1 - f; pending = pending; waits = waits }) left
 took-in K self estimator w byte output f symbols soon pending waits left l16 l17 padded padded′ k15 few same last older newer ready poured down later =
     let e : pendingOf self ++ byte ∷ [] ≡ take (self .count + 1) symbols = joined-list (self .pending) symbols (self .count) byte (omega arith) (omega arith) same last in
     let some = ready .some in
@@ -92,7 +92,7 @@ took-in K self estimator w byte output f symbols soon pending waits left l16 l17
 module _ (notion : Notion) (p : Automaton) (cs : List Secret) (acc : List ℕ) (self : Enforcer) (estimator : Estimator) (vs : List Steps) (w byte : ℕ)
     (output : List ℕ) (f : ℕ) (after : Enforcer) (left : List ℕ) (g : Grown notion p cs acc self)
     (tells : ForEach cs (λ i c. Tells notion p c (acc ++ byte ∷ []) (getD vs i none))) (most : LargestWait cs vs w)
-    (took : TookIn (largest cs) self estimator w byte output f after left) where
+    (took : Enqueued (largest cs) self estimator w byte output f after left) where
   pub grown-next : Possible p (acc ++ byte ∷ []) → estimators.Grown p (largest cs) (acc ++ byte ∷ []) estimator → Limits (largest cs) after
       → Grown notion p cs (acc ++ byte ∷ []) after
   grown-next observed-trace ge la =
@@ -136,8 +136,8 @@ pending-decide K s b few d =
 pub limits-joined : (K : ℕ) (s : Enforcer) → estimators.Limits K (s .estimator) → PendingWithin K s → Limits K s
 limits-joined K s li pending = record { estimator = li; few = pending .few; small = pending .small }
 
-pub limits-decide : (t : List ℕ) (h : Header) (s : Enforcer) (b : Bool) → Sound t h → estimators.InLimits h (s .estimator)
-    → Decided b (PendingWithin (lookBackOf h (s .estimator .further)) s) → Decided b (Sound t h × InLimits h s)
+pub limits-decide : (t : List ℕ) (h : Header) (s : Enforcer) (b : Bool) → WellFormed t h → estimators.InLimits h (s .estimator)
+    → Decided b (PendingWithin (lookBackOf h (s .estimator .further)) s) → Decided b (WellFormed t h × InLimits h s)
 limits-decide t h s b sound li d =
-    decided-as {A = PendingWithin (lookBackOf h (s .estimator .further)) s} {B = Sound t h × InLimits h s} b
+    decided-as {A = PendingWithin (lookBackOf h (s .estimator .further)) s} {B = WellFormed t h × InLimits h s} b
     (λ pending. (sound, limits-joined (lookBackOf h (s .estimator .further)) s li pending)) (λ both. record { few = both .1 .few; small = both .1 .small }) d

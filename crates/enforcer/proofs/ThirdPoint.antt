@@ -5,7 +5,7 @@ use Prim.Native.Nat.{ℕ, _≤_}
 use native.Mathlib.Omega.{arith}
 use lib.ListN.{length, take}
 use lib.Seq.{length-take-le}
-use Rattle.automaton.specs.Run.{automatonOf, Sound}
+use Rattle.automaton.specs.Run.{automatonOf, WellFormed}
 use Rattle.automaton.specs.declared.Header.{Header}
 use Rattle.opacity.specs.declared.Notion.{Notion}
 use Rattle.opacity.specs.declared.Secret.{Secret}
@@ -14,8 +14,8 @@ use Rattle.opacity.specs.Secrets.{secretsOf, lookBackOf, clearedOf}
 use Rattle.automaton.proofs.Estimates.{right-size}
 use Rattle.enforcer.specs.SafePrefix.{SafeForAll}
 use Rattle.enforcer.specs.Enforcers.{Grown, GrownOn}
-use Rattle.enforcer.specs.Offerings.{Said, refused, started, Starting, Offering}
-use Rattle.enforcer.specs.Offers.{Offer, Offered, Offers, acceptedOf, releasedCount, releasedOf, TurnedBack, Answered, Promise}
+use Rattle.enforcer.specs.Offerings.{OfferOutcome, refused, started, Starting, Offering}
+use Rattle.enforcer.specs.Offers.{Offer, Offered, Offers, acceptedOf, releasedCount, releasedOf, TurnedBack, Answered, EnforcerPromise}
 use Rattle.enforcer.specs.declared.Enforcer.{Enforcer}
 use Rattle.enforcer.proofs.ForAll.{kept-secrets, safe-for-all-laws, all-by-runs, some-unsafe}
 use Rattle.enforcer.proofs.Unique.{grown-unique}
@@ -33,10 +33,10 @@ module _ (notion : Notion) (t : List ℕ) (h : Header) (f : Further) where
   pub after-held : (trace : List ℕ) (s : Enforcer) → s .estimator .further ≡ clearedOf f → GrownOn notion t h trace s → After notion t h f trace s
   after-held trace s same g = record { same = same; grown = subst (λ (cs : List Secret). Grown notion (automatonOf t h) cs trace s) (kept-secrets h f _ same) g }
 
-  pub started-after : (s : Enforcer) → Starting t h f notion started s → Sound t h × After notion t h f [] s
+  pub started-after : (s : Enforcer) → Starting t h f notion started s → WellFormed t h × After notion t h f [] s
   started-after s (Starting.ready sound allowed tells same grown) = (sound, after-held [] s same grown)
 
-module _ (notion : Notion) (t : List ℕ) (h : Header) (f : Further) (sound : Sound t h) where
+module _ (notion : Notion) (t : List ℕ) (h : Header) (f : Further) (sound : WellFormed t h) where
   abbrev AfterBy : List ℕ → Enforcer → Type 0
   AfterBy trace s = After notion t h f trace s
 
@@ -55,7 +55,7 @@ module _ (notion : Notion) (t : List ℕ) (h : Header) (f : Further) (sound : So
   turned trace s b output left n g back =
       record { judged = back; after = rw (append-nil trace) g; passes = passes-refused trace (s .count) b n output left (g .grown .queue .few) }
 
-  pub one : (trace : List ℕ) (s : Enforcer) (b : ℕ) (output : List ℕ) (r : Said) (m : Enforcer) (left : List ℕ) → AfterBy trace s
+  pub one : (trace : List ℕ) (s : Enforcer) (b : ℕ) (output : List ℕ) (r : OfferOutcome) (m : Enforcer) (left : List ℕ) → AfterBy trace s
       → Offering t h s b output r m left → OneOf trace s (record { byte = b; output = output; says = r; left = left }) m
   one trace s b output r m left g (Offering.malformed bad) = absurd (bad (sound, held notion t h f trace s g .limits))
   one trace s b output r m left g (Offering.output-too-small so li few) = turned trace s b output left 10 g (TurnedBack.output-too-small few)
@@ -71,7 +71,7 @@ module _ (notion : Notion) (t : List ℕ) (h : Header) (f : Further) (sound : So
             (g .grown .queue) bal front;
       }
 
-  promise : (s : Enforcer) (os : List Offer) (e : Enforcer) → AfterBy [] s → Offers t h s os e → Promise notion t h f os e
+  promise : (s : Enforcer) (os : List Offer) (e : Enforcer) → AfterBy [] s → Offers t h s os e → EnforcerPromise notion t h f os e
   promise s os e g offers =
       let p = automatonOf t h in
       let cs = secretsOf h f in
@@ -96,7 +96,7 @@ module _ (notion : Notion) (t : List ℕ) (h : Header) (f : Further) (sound : So
 
 -- the mission's third point: an enforcer that a start has handed back, under either notion, and any list of offers to it
 pub third-point : (notion : Notion) (t : List ℕ) (h : Header) (f : Further) (s : Enforcer) (os : List Offer) (e : Enforcer)
-    → Starting t h f notion started s → Offers t h s os e → Promise notion t h f os e
+    → Starting t h f notion started s → Offers t h s os e → EnforcerPromise notion t h f os e
 third-point notion t h f s os e start offers =
     let x = started-after notion t h f s start in
     promise notion t h f (x .0) s os e (x .1) offers

@@ -51,7 +51,7 @@ pub record Shifted (K count : ℕ) (pending waits : List ℕ) (w byte f count′
   pub ready : Ready K count soon f
 
 -- the enforcer after it
-pub record TookIn (K : ℕ) (self : Enforcer) (estimator : Estimator) (w byte : ℕ) (output : List ℕ) (f : ℕ) (after : Enforcer) (left : List ℕ) : Type 0 where
+pub record Enqueued (K : ℕ) (self : Enforcer) (estimator : Estimator) (w byte : ℕ) (output : List ℕ) (f : ℕ) (after : Enforcer) (left : List ℕ) : Type 0 where
   pub estimator-is : after .estimator ≡ estimator
   pub notion-is : after .notion ≡ self .notion
   pub shifted : Shifted K (self .count) (self .pending) (self .waits) w byte f (after .count) (after .pending) (after .waits)
@@ -61,6 +61,6 @@ pub record TookIn (K : ℕ) (self : Enforcer) (estimator : Estimator) (w byte : 
   pub small : byte ≤ 31 → ((i : ℕ) → i < self .count → getD (self .pending) i 0 ≤ 31) → (i : ℕ) → i < after .count → getD (after .pending) i 0 ≤ 31
 
 -- and the answer: how many go, and the number of possible states as it was given
-abbrev pub Took : (K : ℕ) (self : Enforcer) (estimator : Estimator) (w size byte : ℕ) (output : List ℕ) → OfferAnswer → Enforcer → List ℕ → Type 0
-Took K self estimator w size byte output (Refused r) after left = ⊥
-Took K self estimator w size byte output (Released r) after left = TookIn K self estimator w byte output (r .count) after left × (r .size ≡ size)
+abbrev pub Enqueues : (K : ℕ) (self : Enforcer) (estimator : Estimator) (w size byte : ℕ) (output : List ℕ) → OfferAnswer → Enforcer → List ℕ → Type 0
+Enqueues K self estimator w size byte output (Refused r) after left = ⊥
+Enqueues K self estimator w size byte output (Released r) after left = Enqueued K self estimator w byte output (r .count) after left × (r .size ≡ size)

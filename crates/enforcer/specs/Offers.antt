@@ -12,14 +12,14 @@ use Rattle.opacity.specs.Secrets.{secretsOf, lookBackOf, clearedOf}
 use Rattle.automaton.specs.Reaching.{RightSize}
 use Rattle.enforcer.specs.SafePrefix.{SafeForAll, SafeForAllByRuns, UnsafeForSome}
 use Rattle.enforcer.specs.Enforcers.{GrownOn}
-use Rattle.enforcer.specs.Offerings.{Said, refused, released, Offering}
+use Rattle.enforcer.specs.Offerings.{OfferOutcome, refused, released, Offering}
 use Rattle.enforcer.specs.declared.Enforcer.{Enforcer}
 
 -- one offer of a list: the byte and the output that were passed, what was answered, and the output as the offer left it
 pub record Offer : Type 0 where
   pub byte : ℕ
   pub output : List ℕ
-  pub says : Said
+  pub says : OfferOutcome
   pub left : List ℕ
 
 -- one offer, by the contract of `offer`; and offers, one after another, each to the enforcer that the one before it handed back
@@ -29,7 +29,7 @@ Offered t h s o m = Offering t h s (o .byte) (o .output) (o .says) m (o .left)
 abbrev pub Offers : List ℕ → Header → Enforcer → List Offer → Enforcer → Type 0
 Offers t h s os e = Chain (Offered t h) s os e
 
-abbrev pub takenBy : Said → ℕ → List ℕ
+abbrev pub takenBy : OfferOutcome → ℕ → List ℕ
 takenBy (refused n) b = []
 takenBy (released r) b = b ∷ []
 
@@ -40,7 +40,7 @@ takenOf o = takenBy (o .says) (o .byte)
 abbrev pub acceptedOf : List Offer → List ℕ
 acceptedOf os = joined takenOf os
 
-abbrev pub countBy : Said → ℕ
+abbrev pub countBy : OfferOutcome → ℕ
 countBy (refused n) = 0
 countBy (released r) = r .count
 
@@ -72,7 +72,7 @@ pub record LetThrough (t : List ℕ) (h : Header) (trace : List ℕ) (byte : ℕ
 
 -- the answer to an offer after these accepted symbols: refused exactly where the table turns the byte back; else it is let through, and the number of
 -- possible states is the one of the definition, after all accepted symbols
-abbrev pub Answered : List ℕ → Header → List ℕ → Offer → Said → Type 0
+abbrev pub Answered : List ℕ → Header → List ℕ → Offer → OfferOutcome → Type 0
 Answered t h trace o (refused n) = TurnedBack t h trace (o .byte) (o .output) n
 Answered t h trace o (released r) = LetThrough t h trace (o .byte) (o .output) × RightSize (automatonOf t h) (trace ++ o .byte ∷ []) (r .size)
 
@@ -81,7 +81,7 @@ abbrev pub AllAnswered : List ℕ → Header → List ℕ → List Offer → Typ
 AllAnswered t h trace os = Each takenOf (λ trace o. Answered t h trace o (o .says)) trace os
 
 -- the mission's third point, after the offers to an enforcer that was started with these further secrets (02, S-6)
-pub record Promise (notion : Notion) (t : List ℕ) (h : Header) (f : Further) (os : List Offer) (e : Enforcer) : Type 0 where
+pub record EnforcerPromise (notion : Notion) (t : List ℕ) (h : Header) (f : Further) (os : List Offer) (e : Enforcer) : Type 0 where
   -- the accepted symbols (01: events) are exactly the offered bytes that the refusal table does not turn back; the others got the number that the table
   -- gives. Each accepting answer says how many states are then possible (02, S-5)
   pub accepted : AllAnswered t h [] os

@@ -12,14 +12,14 @@ ghost use mathlib.Core.List.{_++_};
 ghost use Prim.Native.Nat.{ℕ, _+_, _-_, _≤_, _<_};
 ghost use lib.ListN.{length, getD, take, drop};
 ghost use Rattle.stateset.specs.Set.{Decided};
-ghost use Rattle.automaton.specs.Run.{Sound};
+ghost use Rattle.automaton.specs.Run.{WellFormed};
 ghost use Rattle.opacity.specs.Secrets.{secretsOf, Allowed};
 ghost use Rattle.opacity.specs.Verdicts.{stepsOf};
 ghost use Rattle.verifier.specs.Replies.{stepsEach};
 ghost use Rattle.enforcer.specs.Enforcers.{InLimits, Padded};
 ghost use Rattle.enforcer.specs.declared.OfferAnswer.the-variants as answer;
-ghost use Rattle.enforcer.specs.Offerings.{begun, said, Starting, Offering};
-ghost use Rattle.enforcer.specs.Inner.{PendingWithin, waitOf, WaitAt, LargestWait, Ready, Took};
+ghost use Rattle.enforcer.specs.Offerings.{startOutcome, offerOutcome, Starting, Offering};
+ghost use Rattle.enforcer.specs.Inner.{PendingWithin, waitOf, WaitAt, LargestWait, Ready, Enqueues};
 
 // The estimator, the notion, and the pending symbols, the oldest first, each with the number of later ones that it waits for (01: Holder).
 pub struct Enforcer {
@@ -52,7 +52,7 @@ pub enum OfferAnswer {
     Released(Release),
 }
 
-pub struct Given {
+pub struct OfferReply {
     pub enforcer: Enforcer,
     pub answer: OfferAnswer,
 }
@@ -204,7 +204,7 @@ fn write_front(a: &[u8], n: u8, output: &mut [u8])
 impl Enforcer {
     // A fresh enforcer under the notion, with these further secrets. One that is refused is outside its limits on every automaton.
     pub fn start(table: &[u64], header: Header, notion: Notion, further: Further) -> Start
-        ensures { λ r. ⌜ Starting (now (table .entry)) header further notion (begun (r .answer)) (r .enforcer) ⌝ }
+        ensures { λ r. ⌜ Starting (now (table .entry)) header further notion (startOutcome (r .answer)) (r .enforcer) ⌝ }
     {
         let reply = Estimator::fresh(table, header, further);
         let estimator = reply.estimator;
@@ -245,11 +245,11 @@ impl Enforcer {
     }
 
     // The table and the header are an automaton, and the enforcer is within its limits.
-    pub fn sound(self, table: &[u64], header: Header) -> bool
-        ensures { λ r. ⌜ Decided r (Sound (now (table .entry)) header × InLimits header self) ⌝ }
+    pub fn well_formed(self, table: &[u64], header: Header) -> bool
+        ensures { λ r. ⌜ Decided r (WellFormed (now (table .entry)) header × InLimits header self) ⌝ }
     {
         let estimator = self.estimator;
-        if !estimator.sound(table, header) {
+        if !estimator.well_formed(table, header) {
             return false;
         }
         let further = estimator.further;
@@ -272,10 +272,10 @@ impl Enforcer {
     }
 
     // As it was, with the reason.
-    fn refused(self, refusal: Refusal) -> Given
+    fn refused(self, refusal: Refusal) -> OfferReply
         ensures { λ r. ⌜ (r .enforcer ≡ self) × (r .answer ≡ answer.Refused refusal) ⌝ }
     {
-        Given {
+        OfferReply {
             enforcer: self,
             answer: OfferAnswer::Refused(refusal),
         }
@@ -290,9 +290,9 @@ impl Enforcer {
         size: u8,
         byte: u8,
         output: &mut [u8],
-    ) -> Given
+    ) -> OfferReply
         requires { ⌜ (k ≤ 15) × (self .count ≤ k + 1) × (17 ≤ length (now output)) ⌝ }
-        ensures { λ r. ⌜ Took k self estimator w size byte (now (output .entry)) (r .answer) (r .enforcer) (now (output .exit)) ⌝ }
+        ensures { λ r. ⌜ Enqueues k self estimator w size byte (now (output .entry)) (r .answer) (r .enforcer) (now (output .exit)) ⌝ }
     {
         let count = self.count;
         let notion = self.notion;
@@ -306,7 +306,7 @@ impl Enforcer {
         write_front(&symbols, f, output);
         let pending_after = rest(&symbols, f, count + 1);
         let waits_after = rest(&soon, f, count + 1);
-        Given {
+        OfferReply {
             enforcer: Enforcer {
                 estimator: estimator,
                 notion: notion,
@@ -323,11 +323,11 @@ impl Enforcer {
 
     // Offers one byte: a symbol that is accepted joins the pending ones, and the longest prefix that is safe for all secrets is released to the front of
     // the output. (The table, the header and the estimator are tested once, by the verifier; where the output is too small, here, since 9 comes before 10.)
-    pub fn offer(self, table: &[u64], header: Header, byte: u8, output: &mut [u8]) -> Given
-        ensures { λ r. ⌜ Offering (now (table .entry)) header self byte (now (output .entry)) (said (r .answer)) (r .enforcer) (now (output .exit)) ⌝ }
+    pub fn offer(self, table: &[u64], header: Header, byte: u8, output: &mut [u8]) -> OfferReply
+        ensures { λ r. ⌜ Offering (now (table .entry)) header self byte (now (output .entry)) (offerOutcome (r .answer)) (r .enforcer) (now (output .exit)) ⌝ }
     {
         if output.len() < 17 {
-            if !self.sound(table, header) {
+            if !self.well_formed(table, header) {
                 return self.refused(Refusal::Malformed);
             }
             return self.refused(Refusal::OutputTooSmall);

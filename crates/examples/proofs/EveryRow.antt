@@ -28,7 +28,7 @@ use Rattle.verifier.specs.Replies.{Told, stepsBy, toldAt, Said, refused, verdic
 use Rattle.verifier.specs.Calls.{Call, takenBy, Right, Answered, AllAnswered}
 use Rattle.opacity.proofs.Exactness.{exactly}
 use Rattle.automaton.proofs.Estimates.{right-size}
-use Rattle.enforcer.specs.Offerings.{Begun, started, not-started}
+use Rattle.enforcer.specs.Offerings.{StartOutcome, started, not-started}
 use Rattle.enforcer.proofs.ForAll.{only}
 use Rattle.examples.specs.Meaning.{Question, verdicts-of, answers-after, start-of, releases-of, verdicts-of-all, start-for-all, releases-for-all, VerdictsAre, Opened, StartIs, ReleasedIs, EachReleases, VerdictsOfAll, OpenedForAll, StartForAll, ReleasedForAll, Says, Example, Row, about, description, AboutHolds, RowHolds, All}
 use Rattle.examples.specs.StarredRows.{rows, EveryRowHolds}
@@ -131,11 +131,11 @@ module _ (ts : List Transition) (h : Header) (range : T (every inRange ts)) wher
       map (λ f x. more (f .0 x) (f .1 x))
       (both (answered? trace (c .byte) (c .says)) (all-answered? cs (trace ++ takenBy (c .says) (c .byte))))
 
-  abbrev opened? : (notion : Notion) (answer : Begun) → Check (For ts (λ t. Opened t h notion answer))
+  abbrev opened? : (notion : Notion) (answer : StartOutcome) → Check (For ts (λ t. Opened t h notion answer))
   opened? notion started = told? notion [] none
   opened? notion (not-started n) = map (λ f x. (f .0, f .1 x)) (both (eq? n 8) (told? notion [] (leak 0)))
 
-  abbrev start? : (notion : Notion) (answer : Begun) → Check (For ts (λ t. StartIs t h notion answer))
+  abbrev start? : (notion : Notion) (answer : StartOutcome) → Check (For ts (λ t. StartIs t h notion answer))
   start? notion answer = map (λ f x. record { possible = f .0 x; opened = f .1 x }) (both (possible? ts h range []) (opened? notion answer))
 
   abbrev released? : (notion : Notion) (trace out : List ℕ) → Check (For ts (λ t. ReleasedIs t h notion trace out))
@@ -167,11 +167,11 @@ module _ (ts : List Transition) (h : Header) (range : T (every inRange ts)) wher
       (both (allowed? f) (both (possible? ts h range trace) (both (eq? (length vs) (length cs)) (both (within? n)
       (both (tells-each? ts h range cs Weak trace (toldAt Weak vs)) (both (tells-each? ts h range cs Strong trace (toldAt Strong vs)) (size? ts h range trace n)))))))
 
-  abbrev opened-for-all? : (f : Further) (notion : Notion) (answer : Begun) → Check (For ts (λ t. OpenedForAll t h f notion answer))
+  abbrev opened-for-all? : (f : Further) (notion : Notion) (answer : StartOutcome) → Check (For ts (λ t. OpenedForAll t h f notion answer))
   opened-for-all? f notion started = tells-each? ts h range (secretsOf h f) notion [] (λ i. none)
   opened-for-all? f notion (not-started n) = map (λ g x. (g .0, g .1 x)) (both (eq? n 8) (opens-as-leak? ts h range (secretsOf h f) notion))
 
-  abbrev start-for-all? : (f : Further) (notion : Notion) (answer : Begun) → Check (For ts (λ t. StartForAll t h f notion answer))
+  abbrev start-for-all? : (f : Further) (notion : Notion) (answer : StartOutcome) → Check (For ts (λ t. StartForAll t h f notion answer))
   start-for-all? f notion answer =
       map (λ g x. record { allowed = g .0; possible = g .1 .0 x; opened = g .1 .1 x })
       (both (allowed? f) (both (possible? ts h range []) (opened-for-all? f notion answer)))

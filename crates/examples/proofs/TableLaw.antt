@@ -4,7 +4,7 @@ use mathlib.Core.Bool.{Bool, _&&_}
 use mathlib.Core.List.{List, [], _∷_}
 use Prim.Native.Nat.{ℕ, _≤_, _<_}
 use lib.Dec.{T, ltb, ltb→lt}
-use Rattle.automaton.specs.Run.{automatonOf, SmallSymbols, Sound}
+use Rattle.automaton.specs.Run.{automatonOf, SmallSymbols, WellFormed}
 use Rattle.automaton.specs.declared.Header.{Header}
 use Rattle.encoding.specs.Transitions.{Transition, sameTransition}
 use Rattle.encoding.specs.Table.{Holds, tableOf}
@@ -36,7 +36,7 @@ pub some-table : (ts : List Transition) → T (every inRange ts) → TableOf ts
 some-table ts all = record { table = tableOf ts; holds = holds-all ts (small ts all) }
 
 module _ (ts : List Transition) (table : List ℕ) (law : Holds ts table) where
-  pub sound : (h : Header) → h .k ≤ 15 → h .initial ≤ 63 → SmallSymbols (h .observable) (h .symbols) → Sound table h
+  pub sound : (h : Header) → h .k ≤ 15 → h .initial ≤ 63 → SmallSymbols (h .observable) (h .symbols) → WellFormed table h
   sound h back start small = record { words = law .size; back = back; start = start; symbols-small = small }
 
   pub listing : T (every inRange ts) → (h : Header) → Listing (automatonOf table h) ts

@@ -4,7 +4,7 @@ use mathlib.Core.Path.{_≡_}
 use mathlib.Core.List.{List, [], _∷_, _++_}
 use Prim.Native.Nat.{ℕ}
 use lib.ListN.{length, take}
-use Rattle.automaton.specs.Run.{automatonOf, Possible, Observable, Sound}
+use Rattle.automaton.specs.Run.{automatonOf, Possible, Observable, WellFormed}
 use Rattle.automaton.specs.Reaching.{EstimateSize}
 use Rattle.automaton.specs.declared.Header.{Header}
 use Rattle.encoding.specs.Transitions.{Transition}
@@ -22,7 +22,7 @@ use Rattle.verifier.specs.Replies.{Told}
 use Rattle.verifier.specs.Calls.{Call, Right, AllAnswered}
 use Rattle.enforcer.specs.SafePrefix.{Safe, SafeForAll}
 use Rattle.enforcer.specs.Queues.{Longest}
-use Rattle.enforcer.specs.Offerings.{Begun, started, not-started, OpensAsLeak}
+use Rattle.enforcer.specs.Offerings.{StartOutcome, started, not-started, OpensAsLeak}
 
 -- an automaton: its transitions as they are listed, and its header
 pub record Example : Type 0 where
@@ -35,12 +35,12 @@ pub data Question : Type 0 where
   -- the answers to bytes that are offered one after another, once the trace is accepted
   answers-after : (trace : List ℕ) → List Call → Question
   -- the answer to a start of the enforcer
-  start-of : Notion → Begun → Question
+  start-of : Notion → StartOutcome → Question
   -- the symbols that an enforcer releases with each symbol of a trace
   releases-of : Notion → (trace : List ℕ) → List (List ℕ) → Question
   -- so with further secrets (02, S-6): two verdicts for each, the automaton's own first; a start; and what an enforcer releases
   verdicts-of-all : Further → (trace : List ℕ) → List Told → (size : ℕ) → Question
-  start-for-all : Further → Notion → Begun → Question
+  start-for-all : Further → Notion → StartOutcome → Question
   releases-for-all : Further → Notion → (trace : List ℕ) → List (List ℕ) → Question
 
 -- the verdicts and the number of possible states are those of the definition; some run is compatible with the trace, so that no leak is an empty
@@ -57,11 +57,11 @@ pub record AnswersAre (t : List ℕ) (h : Header) (trace : List ℕ) (calls : Li
   pub answered : AllAnswered t h noFurther trace calls
 
 -- a start is refused with 8 where the empty trace has leak 0, and gives an enforcer where it has none
-abbrev pub Opened : List ℕ → Header → Notion → Begun → Type 0
+abbrev pub Opened : List ℕ → Header → Notion → StartOutcome → Type 0
 Opened t h notion started = Tells notion (automatonOf t h) (own h) [] none
 Opened t h notion (not-started n) = (n ≡ 8) × Tells notion (automatonOf t h) (own h) [] (leak 0)
 
-pub record StartIs (t : List ℕ) (h : Header) (notion : Notion) (answer : Begun) : Type 0 where
+pub record StartIs (t : List ℕ) (h : Header) (notion : Notion) (answer : StartOutcome) : Type 0 where
   pub possible : Possible (automatonOf t h) []
   pub opened : Opened t h notion answer
 
@@ -90,11 +90,11 @@ pub record VerdictsOfAll (t : List ℕ) (h : Header) (f : Further) (trace : List
   pub right : Right t h f trace (record { each = vs; size = n })
 
 -- a start is refused with 8 where some secret opens as leak 0, and gives an enforcer where none leaks
-abbrev pub OpenedForAll : List ℕ → Header → Further → Notion → Begun → Type 0
+abbrev pub OpenedForAll : List ℕ → Header → Further → Notion → StartOutcome → Type 0
 OpenedForAll t h f notion started = ForEach (secretsOf h f) (λ i c. Tells notion (automatonOf t h) c [] none)
 OpenedForAll t h f notion (not-started n) = (n ≡ 8) × OpensAsLeak notion (automatonOf t h) (secretsOf h f)
 
-pub record StartForAll (t : List ℕ) (h : Header) (f : Further) (notion : Notion) (answer : Begun) : Type 0 where
+pub record StartForAll (t : List ℕ) (h : Header) (f : Further) (notion : Notion) (answer : StartOutcome) : Type 0 where
   pub allowed : Allowed f
   pub possible : Possible (automatonOf t h) []
   pub opened : OpenedForAll t h f notion answer
@@ -140,7 +140,7 @@ pub record TableOf (ts : List Transition) : Type 0 where
 -- there is such a table, and with every such table and the header, which are an automaton, the answer is right
 pub record AboutHolds (e : Example) (q : Question) : Type 0 where
   pub some : TableOf (e .transitions)
-  pub sound : (t : List ℕ) → Holds (e .transitions) t → Sound t (e .header)
+  pub sound : (t : List ℕ) → Holds (e .transitions) t → WellFormed t (e .header)
   pub says : (t : List ℕ) → Holds (e .transitions) t → Says t (e .header) q
 
 -- and the layout reads from the bytes of a description what the row says

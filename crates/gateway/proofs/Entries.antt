@@ -112,13 +112,13 @@ module _ (t header estimator judgement : List ℕ) (h : Header) (after : Estimat
 
 module _ (t header : List ℕ) (byte : ℕ) (further saved : List ℕ) (h : Header) (notion : Notion) (f : Further) (after : Enforcer) (answer : start.StartAnswer)
     (sizes : StartSizes header byte further saved) (is-header : h ≡ headerAt header) (is-notion : notion ≡ notionAt byte) (is-further : f ≡ furtherAt further 0)
-    (did : Starting t h f notion (offering.begun answer) after) where
-  begun-starting : (x : start.StartAnswer) → answer ≡ x → Starting t (headerAt header) (furtherAt further 0) (notionAt byte) (offering.begun x) after
+    (did : Starting t h f notion (offering.startOutcome answer) after) where
+  begun-starting : (x : start.StartAnswer) → answer ≡ x → Starting t (headerAt header) (furtherAt further 0) (notionAt byte) (offering.startOutcome x) after
   begun-starting x is =
-      subst (λ (y : start.StartAnswer). Starting t (headerAt header) (furtherAt further 0) (notionAt byte) (offering.begun y) after) is
-      (subst (λ (y : Further). Starting t (headerAt header) y (notionAt byte) (offering.begun answer) after) is-further
-      (subst (λ (y : Notion). Starting t (headerAt header) f y (offering.begun answer) after) is-notion
-      (subst (λ (y : Header). Starting t y f notion (offering.begun answer) after) is-header did)))
+      subst (λ (y : start.StartAnswer). Starting t (headerAt header) (furtherAt further 0) (notionAt byte) (offering.startOutcome y) after) is
+      (subst (λ (y : Further). Starting t (headerAt header) y (notionAt byte) (offering.startOutcome answer) after) is-further
+      (subst (λ (y : Notion). Starting t (headerAt header) f y (offering.startOutcome answer) after) is-notion
+      (subst (λ (y : Header). Starting t y f notion (offering.startOutcome answer) after) is-header did)))
 
   pub start-refused : (r : Refusal) (n : ℕ) → answer ≡ start.the-variants.Refused r → n ≡ numberOf r → Start t header byte further saved n saved
   start-refused r n is number = rw number (Start.refused sizes (begun-starting (start.the-variants.Refused r) is))
@@ -129,12 +129,12 @@ module _ (t header : List ℕ) (byte : ℕ) (further saved : List ℕ) (h : Head
       (Start.started sizes (begun-starting start.the-variants.Started is) (enforcer-saved after (wrote .0)))
 
 module _ (t header : List ℕ) (symbol : ℕ) (saved output release out : List ℕ) (h : Header) (s after : Enforcer) (answer : offer.OfferAnswer) (sizes : OfferSizes header saved release)
-    (is-header : h ≡ headerAt header) (is-enforcer : s ≡ enforcerAt saved) (did : Offering t h s symbol output (offering.said answer) after out) where
-  said-offering : (x : offer.OfferAnswer) → answer ≡ x → Offering t (headerAt header) (enforcerAt saved) symbol output (offering.said x) after out
+    (is-header : h ≡ headerAt header) (is-enforcer : s ≡ enforcerAt saved) (did : Offering t h s symbol output (offering.offerOutcome answer) after out) where
+  said-offering : (x : offer.OfferAnswer) → answer ≡ x → Offering t (headerAt header) (enforcerAt saved) symbol output (offering.offerOutcome x) after out
   said-offering x is =
-      subst (λ (y : offer.OfferAnswer). Offering t (headerAt header) (enforcerAt saved) symbol output (offering.said y) after out) is
-      (subst (λ (y : Enforcer). Offering t (headerAt header) y symbol output (offering.said answer) after out) is-enforcer
-      (subst (λ (y : Header). Offering t y s symbol output (offering.said answer) after out) is-header did))
+      subst (λ (y : offer.OfferAnswer). Offering t (headerAt header) (enforcerAt saved) symbol output (offering.offerOutcome y) after out) is
+      (subst (λ (y : Enforcer). Offering t (headerAt header) y symbol output (offering.offerOutcome answer) after out) is-enforcer
+      (subst (λ (y : Header). Offering t y s symbol output (offering.offerOutcome answer) after out) is-header did))
 
   pub offer-refused : (r : Refusal) (n : ℕ) → answer ≡ offer.the-variants.Refused r → n ≡ numberOf r → Offer t header symbol saved output release n saved out release
   offer-refused r n is number =

@@ -4,10 +4,10 @@ use mathlib.Core.Path.{_≡_, refl, ap, sym, subst, _∙_}
 use mathlib.Core.List.{List, []}
 use native.Mathlib.Omega.{arith}
 use lib.ListN.{length, getD}
-use Rattle.automaton.specs.Run.{Automaton, automatonOf, Sound}
+use Rattle.automaton.specs.Run.{Automaton, automatonOf, WellFormed}
 use Rattle.automaton.specs.declared.Header.{Header}
 use Rattle.encoding.specs.Decoding.{Decoding, accept}
-use Rattle.encoding.proofs.Listing.{decoded-sound}
+use Rattle.encoding.proofs.Listing.{decoded-well-formed}
 use Rattle.opacity.specs.declared.Notion.{Notion}
 use Rattle.opacity.specs.declared.Secret.{Secret}
 use Rattle.opacity.specs.declared.Further.{Further}
@@ -48,8 +48,8 @@ saved-length : (encoding table before t header : List ℕ) → Decode encoding t
 saved-length encoding table before t header (Decode.refused size x) = absurd (not-zero encoding table x refl)
 saved-length encoding table before t header (Decode.accepted size {h = h} x) = header-length h (header-sized encoding table h t x .symbols)
 
-saved-sound : (encoding table before t header : List ℕ) → Decode encoding table before 0 t header → Sound t (headerAt header)
-saved-sound encoding table before t header x = decoded-sound encoding table (headerAt header) t (saved-header encoding table before t header x)
+saved-well-formed : (encoding table before t header : List ℕ) → Decode encoding table before 0 t header → WellFormed t (headerAt header)
+saved-well-formed encoding table before t header x = decoded-well-formed encoding table (headerAt header) t (saved-header encoding table before t header x)
 
 -- so with slices of their lengths a fresh estimator is refused by 13 and 14 only
 pub saved-fresh : (encoding table before t header further estimator lent : List ℕ) (answer : ℕ) (s told : List ℕ) → Decode encoding table before 0 t header
@@ -57,7 +57,7 @@ pub saved-fresh : (encoding table before t header further estimator lent : List 
 saved-fresh encoding table before t header further estimator lent answer s told x f e l (Fresh.size bad) =
     absurd (bad (record { verifier = record { header-size = saved-length encoding table before t header x; estimator-size = e; judgement-size = l }; further-size = f }))
 saved-fresh encoding table before t header further estimator lent answer s told x f e l (Fresh.refused _ (Opening.malformed bad out)) =
-    absurd (bad (saved-sound encoding table before t header x))
+    absurd (bad (saved-well-formed encoding table before t header x))
 saved-fresh encoding table before t header further estimator lent answer s told x f e l (Fresh.refused _ (Opening.too-many-secrets so many out)) = ByFurther.too-many many
 saved-fresh encoding table before t header further estimator lent answer s told x f e l (Fresh.refused _ (Opening.look-back-too-large so few large out)) = ByFurther.too-large few large
 saved-fresh encoding table before t header further estimator lent answer s told x f e l (Fresh.accepted _ (Opening.opened so allowed same li many within exact) saved) = ByFurther.given allowed
@@ -69,7 +69,7 @@ pub saved-start : (encoding table before t header : List ℕ) (notion : ℕ) (fu
 saved-start encoding table before t header notion further enforcer answer s x known f e (Start.size bad) =
     absurd (bad (record { header-size = saved-length encoding table before t header x; notion-known = known; further-size = f; enforcer-size = e }))
 saved-start encoding table before t header notion further enforcer answer s x known f e (Start.refused _ (Starting.malformed bad out)) =
-    absurd (bad (saved-sound encoding table before t header x))
+    absurd (bad (saved-well-formed encoding table before t header x))
 saved-start encoding table before t header notion further enforcer answer s x known f e (Start.refused _ (Starting.too-many-secrets so many out)) = ByStart.too-many many
 saved-start encoding table before t header notion further enforcer answer s x known f e (Start.refused _ (Starting.look-back-too-large so few large out)) = ByStart.too-large few large
 saved-start encoding table before t header notion further enforcer answer s x known f e (Start.refused _ (Starting.initial-leak so allowed leaks out)) = ByStart.initial-leak allowed leaks
@@ -81,16 +81,16 @@ bounded notion p secret trace (leak l) x = x .within
 
 -- a promise about the verdicts that were written is one about those that are read
 told-promise : (t : List ℕ) (h : Header) (f : Further) (j : Findings) (told : List ℕ) (cs : List verifier.Call) (e : Estimator)
-    → acceptSaid (f .count) 0 told ≡ replies.verdicts j → verifier.Promise t h f j cs e → verifier.Promise t h f (judgementAt (f .count) told) cs e
+    → acceptSaid (f .count) 0 told ≡ replies.verdicts j → verifier.VerifierPromise t h f j cs e → verifier.VerifierPromise t h f (judgementAt (f .count) told) cs e
 told-promise t h f j told cs e same x = subst (λ (r : replies.Said). Promised r) (sym same) x
   where
     Promised : replies.Said → Type 0
     Promised (replies.refused m) = Unit {0}
-    Promised (replies.verdicts i) = verifier.Promise t h f i cs e
+    Promised (replies.verdicts i) = verifier.VerifierPromise t h f i cs e
 
 -- THE SECOND POINT: a fresh call that answered 0, and any calls of accept on the bytes that the call before left
 pub saved-second-point : (t header further before lent s told : List ℕ) (cs : List AcceptCall) (e : List ℕ) → Fresh t header further before lent 0 s told → AcceptCalls t header s cs e
-    → verifier.Promise t (headerAt header) (furtherAt further 0) (judgementAt (furtherAt further 0 .count) told) (callsOf (furtherAt further 0 .count) cs) (estimatorAt e)
+    → verifier.VerifierPromise t (headerAt header) (furtherAt further 0) (judgementAt (furtherAt further 0 .count) told) (callsOf (furtherAt further 0 .count) cs) (estimatorAt e)
 saved-second-point t header further before lent s told cs e (Fresh.accepted sizes {j = j} {s = x} (Opening.opened so allowed same li many within exact) saved) calls =
     let h = headerAt header in
     let f = furtherAt further 0 in
@@ -111,7 +111,7 @@ pub encoded-second-point : (encoding table before t header further estimator len
     → Decode encoding table before 0 t header → length further ≡ furtherSize → length estimator ≡ estimatorSize → length lent ≡ judgementSize → Allowed (furtherAt further 0)
     → Fresh t header further estimator lent answer s told → AcceptCalls t header s cs e
     → (answer ≡ 0) × Decoding encoding table (headerAt header) accept t
-    × verifier.Promise t (headerAt header) (furtherAt further 0) (judgementAt (furtherAt further 0 .count) told) (callsOf (furtherAt further 0 .count) cs) (estimatorAt e)
+    × verifier.VerifierPromise t (headerAt header) (furtherAt further 0) (judgementAt (furtherAt further 0 .count) told) (callsOf (furtherAt further 0 .count) cs) (estimatorAt e)
 encoded-second-point encoding table before t header further estimator lent answer s told cs e x size28 size size′ allowed fresh f =
     let zero-is = answered (furtherAt further 0) answer allowed (saved-fresh encoding table before t header further estimator lent answer s told x size28 size size′ fresh) in (
       zero-is,
@@ -126,7 +126,7 @@ encoded-second-point encoding table before t header further estimator lent answe
 
 -- THE THIRD POINT: a start that answered 0, and any calls of offer on the bytes that the call before left
 pub saved-third-point : (t header : List ℕ) (notion : ℕ) (further before s : List ℕ) (cs : List OfferCall) (e : List ℕ) → Start t header notion further before 0 s
-    → OfferCalls t header s cs e → enforcer.Promise (notionAt notion) t (headerAt header) (furtherAt further 0) (offersOf cs) (enforcerAt e)
+    → OfferCalls t header s cs e → enforcer.EnforcerPromise (notionAt notion) t (headerAt header) (furtherAt further 0) (offersOf cs) (enforcerAt e)
 saved-third-point t header notion further before s cs e (Start.started sizes {s = x} starting saved) f =
     let h = headerAt header in
     let calls = offer-calls t header (sizes .header-size) s cs e (record { size = saved .size; known = saved .notion-known }) f in

@@ -62,7 +62,7 @@ abbrev pub OfferCalls : (t header : List ℕ) → List ℕ → List OfferCall �
 OfferCalls t header s cs e = Chain (OfferCalled t header) s cs e
 
 -- what an answer says: 0 that the bytes are the number of released symbols and that of possible states, and else the number of a refusal
-abbrev pub offerSaid : ℕ → List ℕ → offering.Said
+abbrev pub offerSaid : ℕ → List ℕ → offering.OfferOutcome
 offerSaid zero release = offering.released (releaseAt release)
 offerSaid (suc n) release = offering.refused (suc n)
 

@@ -14,10 +14,10 @@ use Rattle.opacity.specs.declared.Notion.the-variants.{Weak, Strong}
 use Rattle.opacity.specs.declared.Verdict.{Verdict}
 use Rattle.opacity.specs.declared.Verdict.the-variants.{NoLeak, Leak}
 use Rattle.opacity.specs.Secrets.{own}
-use Rattle.opacity.specs.Verdicts.{none, leak, stepsOf, LeakAt, Words}
+use Rattle.opacity.specs.Verdicts.{none, leak, stepsOf, LeakAt, IsVerdict}
 use Rattle.opacity.proofs.Exactness.{words-exactly}
 use Rattle.encoding.proofs.Refusing.{decoding-never}
-use Rattle.encoding.proofs.Listing.{decoded-sound}
+use Rattle.encoding.proofs.Listing.{decoded-well-formed}
 use Rattle.report.specs.Text.{digits, decimal, idleLine, endLine}
 use Rattle.monitor.specs.Opening.{frontSize, encodingOf, RightOwn}
 use Rattle.monitor.specs.Log.{OpeningLeak, Refused, truncated, not-decoded, initial-leak, Monitored, Output, refused, idle, ended}
@@ -28,14 +28,14 @@ module _ (t : List ℕ) (h : Header) (notion : Notion) where
   at-zero : (l : ℕ) → LeakAt notion (automatonOf t h) (own h) [] l → l ≡ 0
   at-zero l x = omega (arith, x .reached)
 
-  none-words : (OpeningLeak notion t h → ⊥) → Words notion (automatonOf t h) (own h) [] none
+  none-words : (OpeningLeak notion t h → ⊥) → IsVerdict notion (automatonOf t h) (own h) [] none
   none-words never l x = never (subst (LeakAt notion (automatonOf t h) (own h) []) (at-zero l x) x)
 
-  leak-words : OpeningLeak notion t h → Words notion (automatonOf t h) (own h) [] (leak 0)
+  leak-words : OpeningLeak notion t h → IsVerdict notion (automatonOf t h) (own h) [] (leak 0)
   leak-words x = (x, λ m below y. omega arith)
 
   -- the verdict of the opening: none, or leak 0
-  opening-verdict : (v : Verdict) → Words notion (automatonOf t h) (own h) [] (stepsOf v)
+  opening-verdict : (v : Verdict) → IsVerdict notion (automatonOf t h) (own h) [] (stepsOf v)
       → ((v ≡ NoLeak) × (OpeningLeak notion t h → ⊥)) ⊎ ((v ≡ Leak 0) × OpeningLeak notion t h)
   opening-verdict NoLeak w = inl (refl, w 0)
   opening-verdict (Leak l) w =
@@ -65,7 +65,7 @@ idle-text t h v w n closed right =
 opening-size : {input t : List ℕ} {h : Header} (n : ℕ) → Monitored input t h → EstimateSize (automatonOf t h) [] n → RightSize (automatonOf t h) [] n
 opening-size {input} {t} {h} n m size =
     let d = m .decodes in
-    let sound = decoded-sound (encodingOf input) (d .before) h t (d .decoding) in
+    let sound = decoded-well-formed (encodingOf input) (d .before) h t (d .decoding) in
     right-size (automatonOf t h) [] n record {
       some = size-some (automatonOf t h) [] n (record { run = []; compatible = record { takes = tt; shown-is = refl } }) size;
       most = size-most (automatonOf t h) [] n (sound .start) size;

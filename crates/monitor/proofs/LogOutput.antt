@@ -9,7 +9,7 @@ use native.Mathlib.Decide.{decLt}
 use lib.ListN.{length, getD, take, drop, length-append, length-drop, length-take, take-append-drop, List·getD-append}
 use lib.Seq.{sets, sets-eq, length-sets, slice, slice-empty, take-at, drop-at, take-all, take-nil, take-append-le, drop-append-le, drop-length, length-take-le}
 use Rattle.lists.specs.Calls.{Chain, done, next}
-use Rattle.automaton.specs.Run.{automatonOf, Sound}
+use Rattle.automaton.specs.Run.{automatonOf, WellFormed}
 use Rattle.automaton.specs.declared.Header.{Header}
 use Rattle.encoding.specs.Decoding.{Outcome, Decoding}
 use Rattle.opacity.specs.declared.Notion.the-variants.{Weak}
@@ -27,7 +27,7 @@ use Rattle.monitor.specs.Stepping.{Within, Event, Followed, bytesOf, lin
 use Rattle.monitor.specs.Opening as opening
 use Rattle.monitor.specs.Opening.{frontSize, encodingOf, Fresh, Decodes, Opening}
 use Rattle.monitor.specs.Advancing as advancing
-use Rattle.monitor.specs.Advancing.{Said, Advancing}
+use Rattle.monitor.specs.Advancing.{AdvanceOutcome, Advancing}
 use Rattle.monitor.specs.Ending.{lastLines}
 use Rattle.monitor.specs.LogText.{Prints}
 use Rattle.monitor.specs.Log as log
@@ -36,7 +36,7 @@ use Rattle.monitor.specs.Running as running
 use Rattle.monitor.specs.Running.{Front, takenBy, writtenBy, Follows, all, stops, call, Runs}
 use Rattle.monitor.specs.declared.Monitor.{Monitor}
 use Rattle.monitor.proofs.Following.{lines-none, lines-append, lines-count}
-use Rattle.encoding.proofs.Listing.{decoded-sound}
+use Rattle.encoding.proofs.Listing.{decoded-well-formed}
 use Rattle.monitor.proofs.Endings.{with-none, with-some}
 use Rattle.monitor.proofs.LogPromise.{log-promise}
 use Rattle.monitor.proofs.OneOutput.{one-output}
@@ -46,7 +46,7 @@ decodes-as : {a b t : List ℕ} {h : Header} {o : Outcome} → encodingOf a ≡ 
 decodes-as {a} {b} {t} {h} {o} e d = record { before = d .before; words = d .words; decoding = subst (λ (x : List ℕ). Decoding x (d .before) h o t) e (d .decoding) }
 
 opens-as : (a b : List ℕ) → frontSize a ≡ frontSize b → encodingOf a ≡ encodingOf b → frontSize a ≤ length a → frontSize b ≤ length b
-    → {says : opening.Said} {t : List ℕ} {h : Header} {m : Monitor} → Opening a says t h m → Opening b says t h m
+    → {says : opening.OpenOutcome} {t : List ℕ} {h : Header} {m : Monitor} → Opening a says t h m → Opening b says t h m
 opens-as a b size same la lb (Opening.truncated short out) = absurd (omega arith)
 opens-as a b size same la lb (Opening.not-decoded le d out) = Opening.not-decoded (omega arith) (decodes-as same d) out
 opens-as a b size same la lb (Opening.initial-leak l d start out) = Opening.initial-leak lb (decodes-as same d) start out
@@ -66,7 +66,7 @@ encoding-kept first later l =
     ∙ take-append-le (frontSize first - 2) (drop 2 first) later (omega (arith, length-drop 2 first)))
 
 -- an input is opened as its first bytes are: more of them change nothing
-pub front-opens : {first input : List ℕ} → Front first input → {says : opening.Said} {t : List ℕ} {h : Header} {m : Monitor}
+pub front-opens : {first input : List ℕ} → Front first input → {says : opening.OpenOutcome} {t : List ℕ} {h : Header} {m : Monitor}
     → Opening first says t h m ↔ Opening input says t h m
 front-opens {first} {input} f {says} {t} {h} {m} =
     subst (λ (x : List ℕ). Opening first says t h m ↔ Opening x says t h m) (f .splits) (go (f .later) (f .enough))
@@ -115,7 +115,7 @@ no-lines ls = let x = none (ls .events) (ls .steps) (ls .bytes-are) in (sym (ls 
     none vs (next s rest) b = absurd (omega (arith, ap length b))
 
 -- what one call of `advance` does
-pub record Called (t : List ℕ) (h : Header) (m : Monitor) (events out : List ℕ) (at : ℕ) (says : Said) (e : Monitor) (out′ : List ℕ) : Type 0 where
+pub record Called (t : List ℕ) (h : Header) (m : Monitor) (events out : List ℕ) (at : ℕ) (says : AdvanceOutcome) (e : Monitor) (out′ : List ℕ) : Type 0 where
   pub within : Within t h e
   pub among : takenBy says ≤ length events
   pub lines : Lines t h m (take (takenBy says) events) (writtenBy says at out′) e
@@ -123,7 +123,7 @@ pub record Called (t : List ℕ) (h : Header) (m : Monitor) (events out : List �
   -- with room for a line it takes none only where a log may have no more
   pub stop : takenBy says ≡ 0 → 0 < length events → at + 256 ≤ length out → e .offered ≡ 4294967295
 
-pub called : (t : List ℕ) (h : Header) (m : Monitor) (events out : List ℕ) (at : ℕ) (says : Said) (e : Monitor) (out′ : List ℕ) → Within t h m
+pub called : (t : List ℕ) (h : Header) (m : Monitor) (events out : List ℕ) (at : ℕ) (says : AdvanceOutcome) (e : Monitor) (out′ : List ℕ) → Within t h m
     → Advancing t h m events out at says e out′ → Called t h m events out at says e out′
 called t h m events out at says e out′ w (Advancing.malformed bad) = absurd (bad w)
 called t h m events out at says e out′ w (Advancing.advanced {n = n} {text = text} b among lines after inside few stop) = record {
@@ -183,7 +183,7 @@ fed-events {left} {bytes} {rest} e few (inl none) = sym (ap (take 4294967295) (s
 fed-events {left} {bytes} {rest} e few (inr full) = sym (ap (take 4294967295) (sym e) ∙ take-at bytes rest 4294967295 full)
 
 -- a fresh monitor is within its limits, and nobody is sure before the first event
-fresh-within : (t : List ℕ) (h : Header) (m : Monitor) → Sound t h → Fresh t h m → Within t h m
+fresh-within : (t : List ℕ) (h : Header) (m : Monitor) → WellFormed t h → Fresh t h m → Within t h m
 fresh-within t h m so f = record {
   sound = so;
   estimator = grown-limits (automatonOf t h) _ [] (m .estimator) (f .estimator) (so .symbols-small);
@@ -254,7 +254,7 @@ lines-output {input} {t} {bytes} {rest} {text} {h} {m} {e} (Opening.opened l d f
 
 -- a log that has started is within its limits, and no event byte is counted yet
 pub started-usable : {input t : List ℕ} {h : Header} {m : Monitor} {n : ℕ} → Opening input (opening.started n) t h m → Within t h m × (m .offered ≡ 0)
-started-usable {input} {t} {h} {m} (Opening.opened l d fresh) = (fresh-within t h m (decoded-sound (encodingOf input) (d .before) h t (d .decoding)) fresh, fresh .offered)
+started-usable {input} {t} {h} {m} (Opening.opened l d fresh) = (fresh-within t h m (decoded-well-formed (encodingOf input) (d .before) h t (d .decoding)) fresh, fresh .offered)
 
 monitors : {input t text : List ℕ} {h : Header} {m e : Monitor} {n : ℕ} → Opening input (opening.started n) t h m → Follows t h m (drop n input) text e
     → Output input (text ++ lastLines e)

@@ -5,7 +5,7 @@ use Prim.Native.Nat.{ℕ, _+_, _-_}
 use native.Mathlib.Omega.{arith}
 use lib.ListN.{length, take, drop, length-append}
 use Rattle.lists.specs.Calls.{Chain, done, next}
-use Rattle.automaton.specs.Run.{automatonOf, Sound, Observable, Possible}
+use Rattle.automaton.specs.Run.{automatonOf, WellFormed, Observable, Possible}
 use Rattle.automaton.specs.declared.Header.{Header}
 use Rattle.refusal.specs.declared.Refusal.{Refusal}
 use Rattle.refusal.specs.declared.Refusal.the-variants.{NotObservable, Incompatible}
@@ -19,7 +19,7 @@ use Rattle.verifier.specs.Replies as verifier
 use Rattle.verifier.specs.Replies.{Findings, findings, Accepting}
 use Rattle.verifier.proofs.SecondPoint.{right}
 use Rattle.verifier.proofs.Growing.{grown-limits}
-use Rattle.encoding.proofs.Listing.{decoded-sound}
+use Rattle.encoding.proofs.Listing.{decoded-well-formed}
 use Rattle.enforcer.specs.declared.Release.{Release}
 use Rattle.enforcer.specs.declared.Enforcer.{Enforcer}
 use Rattle.enforcer.specs.Offerings as enforcer
@@ -32,7 +32,7 @@ use Rattle.report.specs.Text.{decimal, line, acceptedLine, refusedLine}
 use Rattle.monitor.specs.Stepping.{offeredOnce, acceptedOnce, Stepping, not-verified, not-enforced, accepted, Event, Followed, bytesOf, linesOf, Lines}
 use Rattle.monitor.specs.Opening.{started, encodingOf, RightOwn, Opening, opened}
 use Rattle.monitor.specs.LogText as log
-use Rattle.monitor.specs.LogText.{Released, Prints, Promise}
+use Rattle.monitor.specs.LogText.{Released, Prints, MonitorPromise}
 use Rattle.monitor.specs.declared.Monitor.{Monitor}
 use Rattle.monitor.proofs.Openings.{right-own}
 
@@ -40,7 +40,7 @@ use Rattle.monitor.proofs.Openings.{right-own}
 refused-as : (b : ℕ) (r q : Refusal) → numberOf q ≡ numberOf r → refusedLine b r ≡ refusedLine b q
 refused-as b r q e = ap (λ (n : ℕ). line ((33 ∷ []) ∷ decimal b ∷ decimal n ∷ [])) (sym e)
 
-module _ (t : List ℕ) (h : Header) (sound : Sound t h) where
+module _ (t : List ℕ) (h : Header) (sound : WellFormed t h) where
   -- a monitor after the accepted events, of which r are released
   record After (trace : List ℕ) (r : ℕ) (m : Monitor) : Type 0 where
     estimator : estimators.GrownOn t h trace (m .estimator)
@@ -160,9 +160,9 @@ module _ (t : List ℕ) (h : Header) (sound : Sound t h) where
 
 -- a log that has started prints what the definitions say, however its bytes were cut into reads (Following, lines-append)
 pub log-promise : (log : List ℕ) (n : ℕ) (t : List ℕ) (h : Header) (m : Monitor) (bytes text : List ℕ) (e : Monitor) → Opening log (started n) t h m → Lines t h m bytes text e
-    → Promise t h bytes text e
+    → MonitorPromise t h bytes text e
 log-promise log n t h m bytes text e (opened within d fresh) ls =
-    let sound = decoded-sound (encodingOf log) (d .before) h t (d .decoding) in
+    let sound = decoded-well-formed (encodingOf log) (d .before) h t (d .decoding) in
     let few = fresh .enforcer .queue .few in
     let a : After t h sound [] 0 m = record {
       estimator = fresh .estimator;

@@ -3,7 +3,7 @@ use mathlib.Core.Path.{_≡_, refl, sym, subst}
 use mathlib.Core.List.{List, []}
 use Prim.Native.Nat.{ℕ, _-_, _≤_, _<_}
 use native.Mathlib.Omega.{arith}
-use Rattle.automaton.specs.Run.{Sound}
+use Rattle.automaton.specs.Run.{WellFormed}
 use Rattle.automaton.specs.declared.Header.{Header}
 use Rattle.opacity.specs.declared.Notion.the-variants.{Weak, Strong}
 use Rattle.verifier.specs.declared.Estimator.{Estimator}
@@ -19,11 +19,11 @@ use Rattle.encoding.specs.Decoding.{Outcome, accept, Decoding}
 use Rattle.enforcer.specs.declared.Enforcer.{Enforcer}
 use Rattle.enforcer.specs.Offerings as enforcer
 use Rattle.enforcer.specs.Offerings.{Starting}
-use Rattle.monitor.specs.Opening.{Said, refused, started, frontSize, RightOwn, Decodes, NoMonitor, Opening, opened, Begun, leaks, begun}
+use Rattle.monitor.specs.Opening.{OpenOutcome, refused, started, frontSize, RightOwn, Decodes, NoMonitor, Opening, opened, StartedOn, leaks, begun}
 use Rattle.monitor.specs.declared.Monitor.{Monitor}
 
-pub not-begun : (t : List ℕ) (h : Header) (events n : ℕ) (e : Enforcer) (t′ : List ℕ) (h′ : Header) (m : Monitor) → Sound t h
-    → Starting t h noFurther Weak (enforcer.not-started n) e → NoMonitor h′ m → Begun t h events (refused n) t′ h′ m
+pub not-begun : (t : List ℕ) (h : Header) (events n : ℕ) (e : Enforcer) (t′ : List ℕ) (h′ : Header) (m : Monitor) → WellFormed t h
+    → Starting t h noFurther Weak (enforcer.not-started n) e → NoMonitor h′ m → StartedOn t h events (refused n) t′ h′ m
 not-begun t h events n e t′ h′ m so (Starting.malformed bad out) b = absurd (bad so)
 not-begun t h events n e t′ h′ m so (Starting.too-many-secrets so′ many out) b = absurd (omega arith)
 not-begun t h events n e t′ h′ m so (Starting.look-back-too-large so′ few large out) b = absurd (omega (arith, large .given))
@@ -39,7 +39,7 @@ freshOf j s e = record { opening = j; estimator = s; enforcer = e; offered = 0; 
 
 pub is-begun : (t : List ℕ) (h : Header) (events : ℕ) (e : Enforcer) (j : Judgement) (s : Estimator) → Starting t h noFurther Weak enforcer.started e
     → verifier.Opening t h noFurther (verifier.verdicts (findings noFurther j)) s → OthersNoLeak noFurther (j .verdicts)
-    → Begun t h events (started events) t h (freshOf j s e)
+    → StartedOn t h events (started events) t h (freshOf j s e)
 is-begun t h events e j s (Starting.ready so′ allowed′ tells same′ grown) (verifier.Opening.opened so allowed same li many within x) others = begun record {
   opening = right-own t h noFurther [] j (right t h noFurther [] (findings noFurther j) s many within x);
   others = others;
@@ -53,7 +53,7 @@ is-begun t h events e j s (Starting.ready so′ allowed′ tells same′ grown) 
 }
 
 -- a fresh verifier refuses no automaton
-pub verified : {t : List ℕ} {h : Header} {n : ℕ} {s : Estimator} → Sound t h → verifier.Opening t h noFurther (verifier.refused n) s → ⊥
+pub verified : {t : List ℕ} {h : Header} {n : ℕ} {s : Estimator} → WellFormed t h → verifier.Opening t h noFurther (verifier.refused n) s → ⊥
 verified so (verifier.Opening.malformed bad out) = bad so
 verified so (verifier.Opening.too-many-secrets so′ many out) = omega arith
 verified so (verifier.Opening.look-back-too-large so′ few large out) = omega (arith, large .given)
@@ -71,8 +71,8 @@ decodes log size before h answer t e w d = record {
   decoding = subst (λ (k : ℕ). Decoding (take (k - 2) (drop 2 log)) before h answer t) e d;
 }
 
-pub opens : (log : List ℕ) (size : ℕ) (t : List ℕ) (h : Header) (says : Said) (t′ : List ℕ) (h′ : Header) (m : Monitor) → size ≡ frontSize log → size ≤ length log
-    → Decodes log h accept t → Begun t h size says t′ h′ m → Opening log says t′ h′ m
+pub opens : (log : List ℕ) (size : ℕ) (t : List ℕ) (h : Header) (says : OpenOutcome) (t′ : List ℕ) (h′ : Header) (m : Monitor) → size ≡ frontSize log → size ≤ length log
+    → Decodes log h accept t → StartedOn t h size says t′ h′ m → Opening log says t′ h′ m
 opens log size t h says t′ h′ m e l d (leaks start out) = Opening.initial-leak (omega arith) d start out
 opens log size t h says t′ h′ m e l d (begun fresh) = subst (λ (k : ℕ). Opening log (started k) t h m) (sym e) (opened (omega arith) d fresh)
 

@@ -33,7 +33,7 @@ pub data Prints (t : List ℕ) (h : Header) : (trace : List ℕ) (released : ℕ
       → Prints t h trace r (b ∷ bytes) (acceptedLine (length trace + 1) b (v .weak) (v .strong) n (take f (drop r (trace ++ b ∷ []))) ++ text) after r′
 
 -- a log that has started: the lines of its event bytes and the numbers of its last line
-pub record Promise (t : List ℕ) (h : Header) (bytes text : List ℕ) (e : Monitor) : Type 0 where
+pub record MonitorPromise (t : List ℕ) (h : Header) (bytes text : List ℕ) (e : Monitor) : Type 0 where
   pub trace : List ℕ
   pub prints : Prints t h [] 0 bytes text trace (e .released)
   pub accepted : e .accepted ≡ length trace

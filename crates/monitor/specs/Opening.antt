@@ -25,13 +25,13 @@ use Rattle.monitor.specs.declared.OpenAnswer.{OpenAnswer}
 use Rattle.monitor.specs.declared.OpenAnswer.the-variants as answer
 
 -- what an answer says: the number of a refusal, or where the events start
-pub data Said : Type 0 where
-  refused : ℕ → Said
-  started : ℕ → Said
+pub data OpenOutcome : Type 0 where
+  refused : ℕ → OpenOutcome
+  started : ℕ → OpenOutcome
 
-abbrev pub said : OpenAnswer → Said
-said (answer.Refused r) = refused (numberOf r)
-said (answer.Started n) = started n
+abbrev pub openOutcome : OpenAnswer → OpenOutcome
+openOutcome (answer.Refused r) = refused (numberOf r)
+openOutcome (answer.Started n) = started n
 
 -- how many bytes the length and the encoding take. (Where a byte of the length is missing this is more than there are)
 abbrev pub frontSize : List ℕ → ℕ
@@ -80,7 +80,7 @@ pub record NoMonitor (h : Header) (m : Monitor) : Type 0 where
   pub opening : m .opening ≡ nothingTold
 
 -- the start of a log, in the order of its refusals: 1, those of the encoding, 8. What stands behind the encoding does not matter
-pub data Opening (log : List ℕ) : Said → (table : List ℕ) → Header → Monitor → Type 0 where
+pub data Opening (log : List ℕ) : OpenOutcome → (table : List ℕ) → Header → Monitor → Type 0 where
   truncated : {t : List ℕ} {h : Header} {m : Monitor} → length log < frontSize log → NoMonitor h m → Opening log (refused 1) t h m
   not-decoded : {n : ℕ} {t t′ : List ℕ} {h h′ : Header} {m : Monitor} → frontSize log ≤ length log → Decodes log h′ (refuse n) t′ → NoMonitor h m
       → Opening log (refused n) t h m
@@ -89,6 +89,6 @@ pub data Opening (log : List ℕ) : Said → (table : List ℕ) → Header → M
   opened : {t : List ℕ} {h : Header} {m : Monitor} → frontSize log ≤ length log → Decodes log h accept t → Fresh t h m → Opening log (started (frontSize log)) t h m
 
 -- a start on an automaton, inside `open`
-pub data Begun (t : List ℕ) (h : Header) (events : ℕ) : Said → List ℕ → Header → Monitor → Type 0 where
-  leaks : {t′ : List ℕ} {h′ : Header} {m : Monitor} {e : Enforcer} → Starting t h noFurther Weak (not-started 8) e → NoMonitor h′ m → Begun t h events (refused 8) t′ h′ m
-  begun : {m : Monitor} → Fresh t h m → Begun t h events (started events) t h m
+pub data StartedOn (t : List ℕ) (h : Header) (events : ℕ) : OpenOutcome → List ℕ → Header → Monitor → Type 0 where
+  leaks : {t′ : List ℕ} {h′ : Header} {m : Monitor} {e : Enforcer} → Starting t h noFurther Weak (not-started 8) e → NoMonitor h′ m → StartedOn t h events (refused 8) t′ h′ m
+  begun : {m : Monitor} → Fresh t h m → StartedOn t h events (started events) t h m

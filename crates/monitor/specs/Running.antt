@@ -15,7 +15,7 @@ use Rattle.report.specs.Writing.{roomFor, roomAtEnd, Written}
 use Rattle.monitor.specs.Opening as opening
 use Rattle.monitor.specs.Opening.{frontSize, Opening}
 use Rattle.monitor.specs.Advancing as advancing
-use Rattle.monitor.specs.Advancing.{Said, Advancing}
+use Rattle.monitor.specs.Advancing.{AdvanceOutcome, Advancing}
 use Rattle.monitor.specs.Ending.{lastLines}
 use Rattle.monitor.specs.declared.Monitor.{Monitor}
 
@@ -26,12 +26,12 @@ pub record Front (first input : List ℕ) : Type 0 where
   pub enough : (frontSize first ≤ length first) ⊎ (later ≡ [])
 
 -- how many event bytes a call of `advance` took
-abbrev pub takenBy : Said → ℕ
+abbrev pub takenBy : AdvanceOutcome → ℕ
 takenBy (advancing.refused n) = 0
 takenBy (advancing.taken a) = a .taken
 
 -- what it wrote into its output, from a place on
-abbrev pub writtenBy : Said → ℕ → List ℕ → List ℕ
+abbrev pub writtenBy : AdvanceOutcome → ℕ → List ℕ → List ℕ
 writtenBy (advancing.refused n) at out = []
 writtenBy (advancing.taken a) at out = slice at (a .next) out
 
@@ -40,10 +40,10 @@ pub data Follows (t : List ℕ) (h : Header) : Monitor → (left text : List ℕ
   -- no event byte is left
   all : {m : Monitor} → Follows t h m [] [] m
   -- a call takes none, though it has some and room for a line
-  stops : {m e : Monitor} {left events out out′ : List ℕ} {at : ℕ} (later : List ℕ) (says : Said) → events ++ later ≡ left → 0 < length events → at + 256 ≤ length out
+  stops : {m e : Monitor} {left events out out′ : List ℕ} {at : ℕ} (later : List ℕ) (says : AdvanceOutcome) → events ++ later ≡ left → 0 < length events → at + 256 ≤ length out
       → Advancing t h m events out at says e out′ → takenBy says ≡ 0 → Follows t h m left (writtenBy says at out′) e
   -- the bytes that a call does not take are left for the next
-  call : {m n e : Monitor} {left events out out′ text : List ℕ} {at : ℕ} (later : List ℕ) (says : Said) → events ++ later ≡ left
+  call : {m n e : Monitor} {left events out out′ text : List ℕ} {at : ℕ} (later : List ℕ) (says : AdvanceOutcome) → events ++ later ≡ left
       → Advancing t h m events out at says n out′ → Follows t h n (drop (takenBy says) left) text e → Follows t h m left (writtenBy says at out′ ++ text) e
 
 -- all calls for an input, and all that they wrote

@@ -6,7 +6,7 @@ use Prim.Native.Nat.{ℕ, _+_, _≤_}
 use lib.ListN.{length, take}
 use lib.Seq.{sets}
 use Rattle.lists.specs.Calls.{Chain, joined}
-use Rattle.automaton.specs.Run.{Sound}
+use Rattle.automaton.specs.Run.{WellFormed}
 use Rattle.automaton.specs.declared.Header.{Header}
 use Rattle.refusal.specs.declared.Refusal.{Refusal}
 use Rattle.refusal.specs.Refusals.{numberOf}
@@ -32,7 +32,7 @@ pub record Balanced (m : Monitor) : Type 0 where
 
 -- on this automaton within its limits: its estimator and its enforcer are, and the counts agree
 pub record Within (t : List ℕ) (h : Header) (m : Monitor) : Type 0 where
-  pub sound : Sound t h
+  pub sound : WellFormed t h
   pub estimator : estimators.InLimits h (m .estimator)
   pub enforcer : enforcers.InLimits h (m .enforcer)
   pub balanced : Balanced m

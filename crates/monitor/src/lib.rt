@@ -16,15 +16,15 @@ ghost use mathlib.Core.Path.{_≡_};
 ghost use Prim.Native.Nat.{_+_, _*_, _≤_};
 ghost use lib.ListN.{length};
 ghost use Rattle.stateset.specs.Set.{Decided};
-ghost use Rattle.automaton.specs.Run.{Sound};
+ghost use Rattle.automaton.specs.Run.{WellFormed};
 ghost use Rattle.verifier.specs.Replies as verifier;
 ghost use Rattle.verifier.specs.Replies.{findings, Accepting};
 ghost use Rattle.report.specs.Writing.{roomAtEnd, Written};
 ghost use Rattle.report.specs.Text.{acceptedLine, refusedLine};
 ghost use Rattle.monitor.specs.Stepping.{Balanced, Within, Countable, offeredOnce, acceptedOnce, placeOf, Printed, Stepped};
-ghost use Rattle.monitor.specs.Opening.{frontSize, nothingTold, NoMonitor, Opening, Begun, said as opened};
+ghost use Rattle.monitor.specs.Opening.{frontSize, nothingTold, NoMonitor, Opening, StartedOn, openOutcome as opened};
 ghost use Rattle.monitor.specs.declared.OpenAnswer.the-variants as answer;
-ghost use Rattle.monitor.specs.Advancing.{Advancing, Ready, said as advanced};
+ghost use Rattle.monitor.specs.Advancing.{Advancing, Ready, advanceOutcome as advanced};
 ghost use Rattle.monitor.specs.Ending.{lastLines};
 
 // The opening verdicts with how many states are possible, the verifier's and the enforcer's state, and how many event bytes were offered, events accepted,
@@ -103,18 +103,18 @@ impl Monitor {
     }
 
     // The table and the header are an automaton, and the monitor is within its limits.
-    fn sound(self, table: &[u64], header: Header) -> bool
+    fn well_formed(self, table: &[u64], header: Header) -> bool
         ensures { λ r. ⌜ Decided r (Within (now (table .entry)) header self) ⌝ }
     {
         let estimator = self.estimator;
-        if !estimator.sound(table, header) {
+        if !estimator.well_formed(table, header) {
             return false;
         }
         if !self.balanced() {
             return false;
         }
         let enforcer = self.enforcer;
-        enforcer.sound(table, header)
+        enforcer.well_formed(table, header)
     }
 
     // There is room for a line, and the log may have one more event byte.
@@ -242,7 +242,7 @@ impl Monitor {
     ) -> Advanced
         ensures { λ r. ⌜ Advancing (now (table .entry)) header self (now (events .entry)) (now (out .entry)) at (advanced (r .answer)) (r .monitor) (now (out .exit)) ⌝ }
     {
-        if !self.sound(table, header) {
+        if !self.well_formed(table, header) {
             return Advanced {
                 monitor: self,
                 answer: AdvanceAnswer::Refused(Refusal::Malformed),
@@ -366,8 +366,8 @@ fn refused(refusal: Refusal) -> Opened
 
 // A weak enforcer and a fresh verifier, both with no further secret, for events that start at a place.
 fn start(table: [u64; 2048], header: Header, events: usize) -> Opened
-    requires { ⌜ Sound table header ⌝ }
-    ensures { λ r. ⌜ Begun table header events (opened (r .answer)) (r .table) (r .header) (r .monitor) ⌝ }
+    requires { ⌜ WellFormed table header ⌝ }
+    ensures { λ r. ⌜ StartedOn table header events (opened (r .answer)) (r .table) (r .header) (r .monitor) ⌝ }
 {
     let alone = opacity::no_further();
     let begun = Enforcer::start(&table, header, Notion::Weak, alone);

@@ -18,7 +18,7 @@ use Rattle.automaton.proofs.Estimates.{delayed-arrives, arrives-delayed}
 use Rattle.automaton.proofs.Positions.{part-run, estimate-sure, sure-estimate}
 use Rattle.opacity.specs.declared.Secret.{Secret}
 use Rattle.opacity.specs.declared.Notion.the-variants.{Weak}
-use Rattle.opacity.specs.Verdicts.{Steps, none, leak, LeakAt, Tells, Words, Exactly}
+use Rattle.opacity.specs.Verdicts.{Steps, none, leak, LeakAt, Tells, IsVerdict, Exactly}
 use Rattle.opacity.specs.declared.Further.{Further}
 use Rattle.opacity.specs.Secrets.{secretOf, secretsOf, secretAt}
 use Rattle.verifier.specs.Replies.{toldAt, Said}
@@ -172,17 +172,17 @@ module _ (p : Automaton) (K : ℕ) (μ : List ℕ) where
     within-leak : (k : ℕ) → k ≤ K → k ≤ length μ → Within (estimatorAfter p K μ) k secret → LeakAt Weak p (secretOf secret K) μ k
     within-leak k h reached within = record { within = h; reached = reached; sure = within-sure k h within }
 
-    none-words : Gamma (estimatorAfter p K μ) (secretOf secret K) none → Words Weak p (secretOf secret K) μ none
+    none-words : Gamma (estimatorAfter p K μ) (secretOf secret K) none → IsVerdict Weak p (secretOf secret K) μ none
     none-words never l x = never l (x .within) (sure-within l (x .within) (x .sure))
 
-    words-none : Words Weak p (secretOf secret K) μ none → Gamma (estimatorAfter p K μ) (secretOf secret K) none
+    words-none : IsVerdict Weak p (secretOf secret K) μ none → Gamma (estimatorAfter p K μ) (secretOf secret K) none
     words-none never k h within = go (decLe k (length μ))
       where
         go : Dec (k ≤ length μ) → ⊥
         go (yes reached) = never k (within-leak k h reached within)
         go (no far) = never (length μ) (record { within = omega arith; reached = omega arith; sure = within-all k h (omega arith) within })
 
-    leak-words : (l : ℕ) → Gamma (estimatorAfter p K μ) (secretOf secret K) (leak l) → Words Weak p (secretOf secret K) μ (leak l)
+    leak-words : (l : ℕ) → Gamma (estimatorAfter p K μ) (secretOf secret K) (leak l) → IsVerdict Weak p (secretOf secret K) μ (leak l)
     leak-words l (h, within, least) = (within-leak l h (reached (decLe l (length μ))) within, λ m less x. least m less (sure-within m (x .within) (x .sure)))
       where
         -- past |μ| step |μ| would be a lesser one
@@ -190,14 +190,14 @@ module _ (p : Automaton) (K : ℕ) (μ : List ℕ) where
         reached (yes d) = d
         reached (no far) = absurd (least (length μ) (omega arith) (sure-within (length μ) (omega arith) (within-all l h (omega arith) within)))
 
-    words-leak : (l : ℕ) → Words Weak p (secretOf secret K) μ (leak l) → Gamma (estimatorAfter p K μ) (secretOf secret K) (leak l)
+    words-leak : (l : ℕ) → IsVerdict Weak p (secretOf secret K) μ (leak l) → Gamma (estimatorAfter p K μ) (secretOf secret K) (leak l)
     words-leak l (x, least) =
         let h = x .within in
         let reached = x .reached in
         (h, sure-within l h (x .sure), λ k less within. least k less (within-leak k (omega arith) (omega arith) within))
 
     -- Γ says what 01's words say
-    pub gamma-words : (v : Steps) → Gamma (estimatorAfter p K μ) (secretOf secret K) v ↔ Words Weak p (secretOf secret K) μ v
+    pub gamma-words : (v : Steps) → Gamma (estimatorAfter p K μ) (secretOf secret K) v ↔ IsVerdict Weak p (secretOf secret K) μ v
     gamma-words none = (none-words, words-none)
     gamma-words (leak l) = (leak-words l, words-leak l)
 

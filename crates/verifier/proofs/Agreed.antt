@@ -15,7 +15,7 @@ use Rattle.verifier.specs.Estimators.{Grown}
 use Rattle.opacity.specs.declared.Notion.{Notion}
 use Rattle.opacity.specs.declared.Notion.the-variants.{Weak, Strong}
 use Rattle.opacity.specs.declared.Secret.{Secret}
-use Rattle.opacity.specs.Verdicts.{Steps, none, leak, Sure, Clear, Tells, LeakAt, Words}
+use Rattle.opacity.specs.Verdicts.{Steps, none, leak, Sure, Clear, Tells, LeakAt, IsVerdict}
 use Rattle.automaton.specs.Reaching.{RightSize}
 
 module _ (p q : Automaton) (a b : List ℕ) (g : Agree p q a b) (secret : Secret) where
@@ -48,7 +48,7 @@ module _ (p q : Automaton) (a b : List ℕ) (g : Agree p q a b) (secret : Secret
   leak-agree notion l x = record { within = x .within; reached = omega (arith, x .reached, g .sizes); sure = sure-back notion l (x .sure) }
 
 pub words-agree : (p q : Automaton) (a b : List ℕ) → Agree p q a b → (secret : Secret) (notion : Notion) (v : Steps)
-    → Words notion p secret a v → Words notion q secret b v
+    → IsVerdict notion p secret a v → IsVerdict notion q secret b v
 words-agree p q a b g secret notion none x = λ l y. x l (leak-agree q p b a (agree-back p q a b g) secret notion l y)
 words-agree p q a b g secret notion (leak l) x = (
   leak-agree p q a b g secret notion l (x .0),
@@ -66,7 +66,7 @@ module _ (p q : Automaton) (like : Alike p q) (a b : List ℕ) (x : SameEvents p
       let g = alike-agree p q like a b x in
       (tells-agree p q a b g secret notion v, tells-agree q p b a (agree-back p q a b g) secret notion v)
 
-  pub alike-words : Words notion p secret a v ↔ Words notion q secret b v
+  pub alike-words : IsVerdict notion p secret a v ↔ IsVerdict notion q secret b v
   alike-words =
       let g = alike-agree p q like a b x in
       (words-agree p q a b g secret notion v, words-agree q p b a (agree-back p q a b g) secret notion v)
@@ -77,7 +77,7 @@ module _ (p q : Automaton) (d : Distinct p) (w : WithoutSymbols q) (s : SameButS
   pub distinct-tells : Tells notion p secret (symbolsOf p es) v ↔ Tells notion q secret es v
   distinct-tells = alike-tells p q (distinct-alike p q d w s) (symbolsOf p es) es (events-spelled p q d w s es each) secret notion v
 
-  pub distinct-words : Words notion p secret (symbolsOf p es) v ↔ Words notion q secret es v
+  pub distinct-words : IsVerdict notion p secret (symbolsOf p es) v ↔ IsVerdict notion q secret es v
   distinct-words = alike-words p q (distinct-alike p q d w s) (symbolsOf p es) es (events-spelled p q d w s es each) secret notion v
 
 -- an unobservable event's symbol counts for nothing: every trace has the same verdicts and the same estimator

@@ -7,7 +7,7 @@ use Prim.Native.Nat.{ℕ, suc, _<_, _^_}
 use native.Mathlib.Omega.{arith}
 use lib.ListN.{length, getD}
 use Rattle.lists.specs.Calls.{done, end, more}
-use Rattle.automaton.specs.Run.{automatonOf, Sound}
+use Rattle.automaton.specs.Run.{automatonOf, WellFormed}
 use Rattle.automaton.specs.Symbols.{
   WithoutSymbols,
   Distinct,
@@ -26,7 +26,7 @@ use Rattle.automaton.specs.Symbols.{
 use Rattle.automaton.specs.declared.Header.{Header}
 use Rattle.automaton.proofs.Agreeing.{possible-agree, impossible-agree, size-agree}
 use Rattle.automaton.proofs.Spelling.{no-events, one-event, join-events, alike-agree, alike-impossible, distinct-alike, spelled-own, same-agree}
-use Rattle.automaton.proofs.Headers.{both-observable, own-sound, same-observable, same-sound, relabelled, same-header}
+use Rattle.automaton.proofs.Headers.{both-observable, own-well-formed, same-observable, same-well-formed, relabelled, same-header}
 use Rattle.opacity.specs.declared.Notion.{Notion}
 use Rattle.opacity.specs.declared.Notion.the-variants.{Weak, Strong}
 use Rattle.opacity.specs.declared.Secret.{Secret}
@@ -145,7 +145,7 @@ module _ (t : List ℕ) (h h′ : Header) (like : Alike (automatonOf t h) (autom
       )
 
   -- fresh estimators are refused alike: 9 where the headers are automata alike, 13 and 14 by the further secrets
-  pub alike-openings : Sound t h ↔ Sound t h′ → (r r′ : Said) (s s′ : Estimator) → Opening t h given r s → Opening t h′ given r′ s′ → r ≡ r′
+  pub alike-openings : WellFormed t h ↔ WellFormed t h′ → (r r′ : Said) (s s′ : Estimator) → Opening t h given r s → Opening t h′ given r′ s′ → r ≡ r′
   alike-openings sounds r r′ s s′ x y = go x y
     where
       go : {r r′ : Said} → Opening t h given r s → Opening t h′ given r′ s′ → r ≡ r′
@@ -167,17 +167,17 @@ module _ (t : List ℕ) (h h′ : Header) (like : Alike (automatonOf t h) (autom
       go (opened {j = j} so al same li many i f) (opened {j = j′} so′ al′ same′ li′ many′ i′ f′) =
           alike-calls j j′ s s′ [] [] s s′ (opened so al same li many i f) (opened so′ al′ same′ li′ many′ i′ f′) no-more done done .0
 
-opened-sound : (t : List ℕ) (h : Header) (given : Further) (j : Findings) (s : Estimator) → Opening t h given (verdicts j) s → Sound t h
-opened-sound t h given j s (opened so al same li n i x) = so
+opened-well-formed : (t : List ℕ) (h : Header) (given : Further) (j : Findings) (s : Estimator) → Opening t h given (verdicts j) s → WellFormed t h
+opened-well-formed t h given j s (opened so al same li n i x) = so
 
 -- so where no two observable events share a symbol: fresh estimators with symbols and without are answered alike, and what is then accepted is the symbols
 -- of what is without symbols
 module _ (t : List ℕ) (h h′ : Header) (d : Distinct (automatonOf t h)) (n : WithoutSymbols (automatonOf t h′))
     (same : SameButSymbols (automatonOf t h) (automatonOf t h′)) (secret : h .secret ≡ h′ .secret) (k : h .k ≡ h′ .k) (small : h .observable < 2 ^ 32)
     (given : Further) where
-  pub distinct-openings : Sound t h → (r r′ : Said) (s s′ : Estimator) → Opening t h given r s → Opening t h′ given r′ s′ → r ≡ r′
+  pub distinct-openings : WellFormed t h → (r r′ : Said) (s s′ : Estimator) → Opening t h given r s → Opening t h′ given r′ s′ → r ≡ r′
   distinct-openings so r r′ s s′ o o′ =
-      let so′ = own-sound t h h′ same n (omega (arith, same .observable)) k so in
+      let so′ = own-well-formed t h h′ same n (omega (arith, same .observable)) k so in
       alike-openings t h h′ (distinct-alike _ _ d n same) secret k given (λ x. so′, λ x. so) r r′ s s′ o o′
 
   follow : (j : Findings) (s s′ : Estimator) → Opening t h given (verdicts j) s → Opening t h′ given (verdicts j) s′ → CallsFollow t h h′ s s′
@@ -189,11 +189,11 @@ module _ (t : List ℕ) (h h′ : Header) (d : Distinct (automatonOf t h)) (n : 
   pub distinct-calls : (j : Findings) (r′ : Said) (s s′ : Estimator) → Opening t h given (verdicts j) s → Opening t h′ given r′ s′
       → (r′ ≡ verdicts j) × CallsFollow t h h′ s s′
   distinct-calls j r′ s s′ o o′ =
-      let e = sym (distinct-openings (opened-sound t h given j s o) (verdicts j) r′ s s′ o o′) in
+      let e = sym (distinct-openings (opened-well-formed t h given j s o) (verdicts j) r′ s s′ o o′) in
       (e, follow j s s′ o (subst (λ (r : Said). Opening t h′ given r s′) e o′))
 
   -- the one without symbols was not
-  pub distinct-calls-back : Sound t h → (r : Said) (j : Findings) (s s′ : Estimator) → Opening t h given r s → Opening t h′ given (verdicts j) s′
+  pub distinct-calls-back : WellFormed t h → (r : Said) (j : Findings) (s s′ : Estimator) → Opening t h given r s → Opening t h′ given (verdicts j) s′
       → (r ≡ verdicts j) × CallsFollow t h h′ s s′
   distinct-calls-back so r j s s′ o o′ =
       let e = distinct-openings so r (verdicts j) s s′ o o′ in
@@ -216,26 +216,26 @@ module _ (t : List ℕ) (h : Header) (symbols : List ℕ) (g : SameSymbols (auto
       grown-to trace s = same-grown _ _ g trace (lookBackOf h (s .further)) s
 
   opening-to : (f : Further) (r : Said) (s : Estimator) → Opening t h f r s → Opening t (relabelled h symbols) f r s
-  opening-to f r s (Opening.malformed bad out) = Opening.malformed (λ so. bad (same-sound t h (relabelled h symbols) g refl .1 so)) out
-  opening-to f r s (Opening.too-many-secrets so many out) = Opening.too-many-secrets (same-sound t h (relabelled h symbols) g refl .0 so) many out
+  opening-to f r s (Opening.malformed bad out) = Opening.malformed (λ so. bad (same-well-formed t h (relabelled h symbols) g refl .1 so)) out
+  opening-to f r s (Opening.too-many-secrets so many out) = Opening.too-many-secrets (same-well-formed t h (relabelled h symbols) g refl .0 so) many out
   opening-to f r s (Opening.look-back-too-large so few large out) =
-      Opening.look-back-too-large (same-sound t h (relabelled h symbols) g refl .0 so) few large out
+      Opening.look-back-too-large (same-well-formed t h (relabelled h symbols) g refl .0 so) few large out
   opening-to f r s (opened so al same li n i x) =
-      opened (same-sound t h (relabelled h symbols) g refl .0 so) al same li n i (exact-to (secretsOf h f) [] _ s x)
+      opened (same-well-formed t h (relabelled h symbols) g refl .0 so) al same li n i (exact-to (secretsOf h f) [] _ s x)
 
   grown-back : (trace : List ℕ) (self : Estimator) → GrownOn t (relabelled h symbols) trace self → GrownOn t h trace self
   grown-back trace self x = same-grown _ _ g trace (lookBackOf h (self .further)) self .1 x
 
   accepting-to : (self : Estimator) (byte : ℕ) (r : Said) (s : Estimator) → Accepting t h self byte r s → Accepting t (relabelled h symbols) self byte r s
   accepting-to self byte r s (Accepting.malformed bad) =
-      Accepting.malformed (λ x. bad (same-sound t h (relabelled h symbols) g refl .1 (x .0), x .1))
+      Accepting.malformed (λ x. bad (same-well-formed t h (relabelled h symbols) g refl .1 (x .0), x .1))
   accepting-to self byte r s (not-observable so li never) =
-      not-observable (same-sound t h (relabelled h symbols) g refl .0 so) li (λ o. never (same-observable t h (relabelled h symbols) g byte .1 o))
+      not-observable (same-well-formed t h (relabelled h symbols) g refl .0 so) li (λ o. never (same-observable t h (relabelled h symbols) g byte .1 o))
   accepting-to self byte r s (incompatible so li ob nobody) =
-      incompatible (same-sound t h (relabelled h symbols) g refl .0 so) li (same-observable t h (relabelled h symbols) g byte .0 ob)
+      incompatible (same-well-formed t h (relabelled h symbols) g refl .0 so) li (same-observable t h (relabelled h symbols) g byte .0 ob)
       (λ trace x. impossible-agree _ _ _ _ (same-agree _ _ g (trace ++ byte ∷ [])) (nobody trace (grown-back trace self x)))
   accepting-to self byte r s (accepted so li ob same after many bounded i exact) =
-      accepted (same-sound t h (relabelled h symbols) g refl .0 so) li (same-observable t h (relabelled h symbols) g byte .0 ob) same after many bounded i
+      accepted (same-well-formed t h (relabelled h symbols) g refl .0 so) li (same-observable t h (relabelled h symbols) g byte .0 ob) same after many bounded i
       (λ trace x. exact-to (secretsOf h (self .further)) (trace ++ byte ∷ []) _ s (exact trace (grown-back trace self x)))
 
   accepting-by-to : (notion : Notion) (self : Estimator) (byte : ℕ) (r : SaidBy) (s : Estimator) → AcceptingBy notion t h self byte r s
@@ -243,7 +243,7 @@ module _ (t : List ℕ) (h : Header) (symbols : List ℕ) (g : SameSymbols (auto
   accepting-by-to notion self byte r s (turned-back x) = turned-back (accepting-to self byte _ s x)
   accepting-by-to notion self byte r s (accepted-by {j = j} m many each) =
       accepted-by (record {
-        sound = same-sound t h (relabelled h symbols) g refl .0 (m .sound);
+        sound = same-well-formed t h (relabelled h symbols) g refl .0 (m .sound);
         limits = m .limits;
         observable = same-observable t h (relabelled h symbols) g byte .0 (m .observable);
         same = m .same;

@@ -10,7 +10,7 @@ use lib.ListN.{length, getD, take, length-take, List·getD-eq-default}
 use lib.Dec.{T}
 use lib.Seq.{take-length, getD-take, length-take-le}
 use Rattle.stateset.specs.Set.{Is}
-use Rattle.automaton.specs.Run.{Automaton, automatonOf, Possible, Observable, Sound}
+use Rattle.automaton.specs.Run.{Automaton, automatonOf, Possible, Observable, WellFormed}
 use Rattle.refusal.specs.Refusals.{numberOf}
 use Rattle.refusal.specs.declared.Refusal.{Refusal}
 use Rattle.automaton.specs.Reaching.{Enters, EstimateSize, SizeWithin}
@@ -31,7 +31,7 @@ use Rattle.opacity.specs.Verdicts.{Steps, none, leak, stepsOf, Tells}
 use Rattle.opacity.specs.Secrets.{secretOf, own, secretsOf, secretAt, ForEach, lookBackOf, clearedOf, Allowed}
 use Rattle.verifier.specs.Estimators.{Limits, InLimits, Grown, GrownOn}
 use Rattle.verifier.specs.Replies.{FindingsBy, toldOf, noneTold, noLeaks, stepsBy, toldAt, numbered, toldEach, refused, said, OthersNoLeak, Others, refused-by, verdicts-by, saidBy, OthersBy, chosen, Bounded, Opening, opened, Accepting, accepted, Moved, TellsBy, AcceptingBy, turned-back, accepted-by}
-use Rattle.verifier.specs.Inner.{Estimated, Stepped, Found, upTo, Asks, askFor, chosenAnswer, Given, Judged, JudgedAt, JudgedAll, Opened, AcceptingAsked}
+use Rattle.verifier.specs.Inner.{Estimated, Stepped, Found, upTo, Asks, askFor, chosenAnswer, WhereAsked, Judged, JudgedAt, JudgedAll, Opened, AcceptingAsked}
 use Rattle.verifier.specs.declared.Reply.{Reply}
 use Rattle.verifier.specs.declared.Asked.{Asked}
 use Rattle.verifier.specs.declared.Answer.{Answer}
@@ -77,8 +77,8 @@ not-both b t f = subst T (sym t ∙ f) tt
 
 -- both verdicts of one secret
 pub judged-both : (t : List ℕ) (h : Header) (s : Estimator) (c : Secret) (a : Asked) (weak strong : Verdict)
-    → Given Weak a weak (Found Weak (automatonOf t h) (upTo (s .count) c) (s .count) s weak)
-    → Given Strong a strong (Found Strong (automatonOf t h) (upTo (s .count) c) (s .count) s strong) → Judged t h s c a (record { weak = weak; strong = strong })
+    → WhereAsked Weak a weak (Found Weak (automatonOf t h) (upTo (s .count) c) (s .count) s weak)
+    → WhereAsked Strong a strong (Found Strong (automatonOf t h) (upTo (s .count) c) (s .count) s strong) → Judged t h s c a (record { weak = weak; strong = strong })
 judged-both t h s c a weak strong x y Weak = x
 judged-both t h s c a weak strong x y Strong = y
 
@@ -159,7 +159,7 @@ opened-of t h s a j from silent e g estimate judged =
     }
 
 -- a fresh estimator's answer: the secrets are those that were given
-pub opening-of : (t : List ℕ) (h : Header) (f : Further) (s : Estimator) (a : Asked) (j : Judgement) → Sound t h → Allowed f → Asks Weak a → Asks Strong a
+pub opening-of : (t : List ℕ) (h : Header) (f : Further) (s : Estimator) (a : Asked) (j : Judgement) → WellFormed t h → Allowed f → Asks Weak a → Asks Strong a
     → s .further ≡ clearedOf f → GrownOn t h [] s → Opened t h s a j → Opening t h f (said f (answer.Accepted j)) s × Others f (answer.Accepted j)
 opening-of t h f s a j so allowed weak strong same g o =
     let p = automatonOf t h in
@@ -190,7 +190,7 @@ pub limits-as : (h : Header) (self s : Estimator) (k : ℕ) → k ≡ lookBackOf
 limits-as h self s k e same li = subst (λ (f : Further). Limits (lookBackOf h f) s) (sym same) (subst (λ (n : ℕ). Limits n s) e li)
 
 -- an accepted symbol, from the estimate after it and the estimator with it pushed
-pub moved-by : (t : List ℕ) (h : Header) (self : Estimator) (symbol n from k : ℕ) (silent : List ℕ) (e : Estimate) (s : Estimator) → Sound t h → InLimits h self
+pub moved-by : (t : List ℕ) (h : Header) (self : Estimator) (symbol n from k : ℕ) (silent : List ℕ) (e : Estimate) (s : Estimator) → WellFormed t h → InLimits h self
     → Observable h symbol → Stepped (automatonOf t h) from (getD (self .entries) 0 0) symbol silent e → n ≡ e .size → k ≡ lookBackOf h (self .further)
     → s .further ≡ self .further → Limits k s
     → ((trace : List ℕ) → Grown (automatonOf t h) k trace self → Is (e .entry) (Enters (automatonOf t h) (trace ++ symbol ∷ []))
@@ -224,7 +224,7 @@ found-by notion t h self symbol n s c v low m f =
       tells = λ trace g. found-tells notion _ _ _ (trace ++ symbol ∷ []) s v low (m .grown trace g) f;
     }
 
-pub given-by : {notion : Notion} {a : Asked} {v : Verdict} {P Q : Type 0} → (P → Q) → Given notion a v P → Given notion a v Q
+pub given-by : {notion : Notion} {a : Asked} {v : Verdict} {P Q : Type 0} → (P → Q) → WhereAsked notion a v P → WhereAsked notion a v Q
 given-by f g = record { found = λ asks. f (g .found asks); silent = g .silent }
 
 -- the verdicts that were found for an estimator, as those of the symbol that led to it
@@ -235,7 +235,7 @@ judged-by a t h self symbol j s m all = (
   subst (λ (f : Further). OthersNoLeak f (j .verdicts)) (m .same) (others-no-leak t h s a (j .verdicts) all),
   λ notion.
       subst (λ (f : Further). ForEach (secretsOf h f) (λ i c.
-      Given notion a (chosen notion (getD (numbered (j .verdicts)) i noLeaks))
+      WhereAsked notion a (chosen notion (getD (numbered (j .verdicts)) i noLeaks))
       (TellsBy notion t h self symbol c (stepsOf (chosen notion (getD (numbered (j .verdicts)) i noLeaks)))))) (m .same)
       (λ i given. given-by (found-by notion t h self symbol _ s _ _ (secret-back h (s .further) i given) m) (all i .given given notion)),
 )

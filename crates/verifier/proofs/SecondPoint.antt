@@ -5,7 +5,7 @@ use mathlib.Core.Logic.{inl, inr}
 use Prim.Native.Nat.{ℕ}
 use lib.ListN.{length}
 use Rattle.lists.specs.Calls.{done, next, end, more}
-use Rattle.automaton.specs.Run.{automatonOf, Sound}
+use Rattle.automaton.specs.Run.{automatonOf, WellFormed}
 use Rattle.automaton.specs.declared.Header.{Header}
 use Rattle.opacity.specs.declared.Secret.{Secret}
 use Rattle.opacity.specs.declared.Further.{Further}
@@ -14,7 +14,7 @@ use Rattle.opacity.specs.Secrets.{secretsOf, clearedOf}
 use Rattle.verifier.specs.Estimators.{InLimits, GrownOn}
 use Rattle.verifier.specs.Replies.{Findings, Said, refused, verdicts, Exact, Unusable, Opening, opened, Accepting, not-observable, incompatible, accepted}
 use Rattle.automaton.specs.Reaching.{SizeWithin}
-use Rattle.verifier.specs.Calls.{Call, Calls, takenBy, acceptedOf, Right, Answered, AllAnswered, Promise}
+use Rattle.verifier.specs.Calls.{Call, Calls, takenBy, acceptedOf, Right, Answered, AllAnswered, VerifierPromise}
 use Rattle.opacity.proofs.Numbering.{look-back-small, same-secrets}
 use Rattle.opacity.proofs.Exactness.{exactly}
 use Rattle.automaton.proofs.Estimates.{right-size}
@@ -30,7 +30,7 @@ right t h f trace j s as-many within x =
       size = right-size (automatonOf t h) trace (j .size) within (x .size);
     }
 
-module _ (t : List ℕ) (h : Header) (f : Further) (sound : Sound t h) where
+module _ (t : List ℕ) (h : Header) (f : Further) (sound : WellFormed t h) where
   -- one call after some accepted bytes, on an estimator with the secrets that were given
   record One (trace : List ℕ) (byte : ℕ) (says : Said) (m : Estimator) : Type 0 where
     answered : Answered t h f trace byte says
@@ -70,7 +70,7 @@ module _ (t : List ℕ) (h : Header) (f : Further) (sound : Sound t h) where
 
 -- a fresh estimator with further secrets that was not refused, and a list of offered bytes
 pub second-point : (t : List ℕ) (h : Header) (f : Further) (j : Findings) (s : Estimator) (cs : List Call) (e : Estimator)
-    → Opening t h f (verdicts j) s → Calls t h s cs e → Promise t h f j cs e
+    → Opening t h f (verdicts j) s → Calls t h s cs e → VerifierPromise t h f j cs e
 second-point t h f j s cs e (opened sound allowed same li as-many within x) calls =
     let y = follow t h f sound [] s cs e same (x .grown) calls in
     record { opening = right t h f [] j s as-many within x; answered = y .answered; same = y .same; grown = y .grown }
@@ -81,7 +81,7 @@ refused-unusable (Opening.malformed bad out) = out
 refused-unusable (Opening.too-many-secrets so many out) = out
 refused-unusable (Opening.look-back-too-large so few large out) = out
 
-pub never-within : (t : List ℕ) (h : Header) (s : Estimator) → Unusable s → Sound t h → InLimits h s → ⊥
+pub never-within : (t : List ℕ) (h : Header) (s : Estimator) → Unusable s → WellFormed t h → InLimits h s → ⊥
 never-within t h s out so li = out _ (look-back-small h (s .further) (so .back) (li .allowed)) li
 
 pub refused-fresh : (t : List ℕ) (h : Header) (f : Further) (n : ℕ) (s : Estimator) → Opening t h f (refused n) s

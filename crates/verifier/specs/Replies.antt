@@ -3,7 +3,7 @@ use mathlib.Core.Path.{_≡_}
 use mathlib.Core.List.{List, [], _∷_, _++_, map}
 use Prim.Native.Nat.{ℕ, suc, _≤_, _<_}
 use lib.ListN.{length, getD, take}
-use Rattle.automaton.specs.Run.{automatonOf, Possible, Impossible, Observable, Sound}
+use Rattle.automaton.specs.Run.{automatonOf, Possible, Impossible, Observable, WellFormed}
 use Rattle.automaton.specs.Reaching.{EstimateSize, SizeWithin}
 use Rattle.refusal.specs.Refusals.{numberOf}
 use Rattle.automaton.specs.declared.Header.{Header}
@@ -102,21 +102,21 @@ Unusable s = (K : ℕ) → K ≤ 15 → Limits K s → ⊥
 
 -- a fresh estimator with further secrets, which it keeps, the places past their count emptied. A refused one is outside its limits on every automaton
 pub data Opening (t : List ℕ) (h : Header) (f : Further) : Said → Estimator → Type 0 where
-  malformed : {s : Estimator} → (Sound t h → ⊥) → Unusable s → Opening t h f (refused 9) s
-  too-many-secrets : {s : Estimator} → Sound t h → 3 < f .count → Unusable s → Opening t h f (refused 13) s
-  look-back-too-large : {s : Estimator} → Sound t h → f .count ≤ 3 → TooLarge f → Unusable s → Opening t h f (refused 14) s
-  opened : {j : Findings} {s : Estimator} → Sound t h → Allowed f → s .further ≡ clearedOf f → InLimits h s
+  malformed : {s : Estimator} → (WellFormed t h → ⊥) → Unusable s → Opening t h f (refused 9) s
+  too-many-secrets : {s : Estimator} → WellFormed t h → 3 < f .count → Unusable s → Opening t h f (refused 13) s
+  look-back-too-large : {s : Estimator} → WellFormed t h → f .count ≤ 3 → TooLarge f → Unusable s → Opening t h f (refused 14) s
+  opened : {j : Findings} {s : Estimator} → WellFormed t h → Allowed f → s .further ≡ clearedOf f → InLimits h s
       → length (j .each) ≡ length (secretsOf h f) → SizeWithin (j .size) → Exact t h (secretsOf h f) [] j s → Opening t h f (verdicts j) s
 
 -- a symbol offered to an estimator: the answer, and the estimator after it, with the same further secrets. Of one that is Grown by no trace only the
 -- limits are said, that each verdict is from 0 to its secret's own K or none, and that the number is from 1 to 64
 pub data Accepting (t : List ℕ) (h : Header) (self : Estimator) (symbol : ℕ) : Said → Estimator → Type 0 where
-  malformed : (Sound t h × InLimits h self → ⊥) → Accepting t h self symbol (refused 9) self
-  not-observable : Sound t h → InLimits h self → (Observable h symbol → ⊥) → Accepting t h self symbol (refused 6) self
-  incompatible : Sound t h → InLimits h self → Observable h symbol
+  malformed : (WellFormed t h × InLimits h self → ⊥) → Accepting t h self symbol (refused 9) self
+  not-observable : WellFormed t h → InLimits h self → (Observable h symbol → ⊥) → Accepting t h self symbol (refused 6) self
+  incompatible : WellFormed t h → InLimits h self → Observable h symbol
       → ((trace : List ℕ) → GrownOn t h trace self → Impossible (automatonOf t h) (trace ++ symbol ∷ []))
       → Accepting t h self symbol (refused 7) self
-  accepted : {j : Findings} {s : Estimator} → Sound t h → InLimits h self → Observable h symbol
+  accepted : {j : Findings} {s : Estimator} → WellFormed t h → InLimits h self → Observable h symbol
       → s .further ≡ self .further → InLimits h s → length (j .each) ≡ length (secretsOf h (self .further))
       → ((notion : Notion) → ForEach (secretsOf h (self .further)) (λ i c. Bounded (c .k) (toldAt notion (j .each) i))) → SizeWithin (j .size)
       → ((trace : List ℕ) → GrownOn t h trace self → Exact t h (secretsOf h (self .further)) (trace ++ symbol ∷ []) j s)
@@ -160,7 +160,7 @@ chosenEach notion v =
 -- a symbol that was accepted: how many states are possible, and the estimator after it, whatever is asked for. That it has grown says that some run is
 -- compatible (Grown.possible)
 pub record Moved (t : List ℕ) (h : Header) (self : Estimator) (symbol n : ℕ) (s : Estimator) : Type 0 where
-  pub sound : Sound t h
+  pub sound : WellFormed t h
   pub limits : InLimits h self
   pub observable : Observable h symbol
   pub same : s .further ≡ self .further

@@ -13,7 +13,7 @@ ghost use Prim.Native.Nat.{ℕ, _+_, _^_, _≤_, _<_, min};
 ghost use lib.Bits.{bitAnd};
 ghost use lib.ListN.{length, getD, replicate};
 ghost use Rattle.stateset.specs.Set.{In, Is, Decided, complement};
-ghost use Rattle.automaton.specs.Run.{Automaton, automatonOf, Possible, Sound};
+ghost use Rattle.automaton.specs.Run.{Automaton, automatonOf, Possible, WellFormed};
 ghost use Rattle.automaton.specs.Reaching.{Enters, Arrives, Showing, Known, Gained, Closed, Entered};
 ghost use Rattle.relation.specs.Relation.{Sub, setAt};
 ghost use Rattle.opacity.specs.declared.Notion.the-variants as notion;
@@ -692,10 +692,10 @@ impl Estimator {
     }
 
     // The table and the header are an automaton, and the estimator is within its limits.
-    pub fn sound(self, table: &[u64], header: Header) -> bool
-        ensures { λ r. ⌜ Decided r (Sound (now (table .entry)) header × InLimits header self) ⌝ }
+    pub fn well_formed(self, table: &[u64], header: Header) -> bool
+        ensures { λ r. ⌜ Decided r (WellFormed (now (table .entry)) header × InLimits header self) ⌝ }
     {
-        if !automaton::sound(table, header) {
+        if !automaton::well_formed(table, header) {
             return false;
         }
         if 3 < self.further.count {
@@ -898,7 +898,7 @@ impl Estimator {
 
     // With no symbol yet: the verdicts of the empty trace, and how many states are possible then.
     fn opening(self, table: &[u64], header: Header, asked: Asked) -> Judgement
-        requires { ⌜ Sound (now table) header × GrownOn (now table) header [] self ⌝ }
+        requires { ⌜ WellFormed (now table) header × GrownOn (now table) header [] self ⌝ }
         ensures { λ r. ⌜ Opened (now (table .entry)) header self asked r ⌝ }
     {
         let entry = self.entries[0];
@@ -914,7 +914,7 @@ impl Estimator {
     pub fn fresh(table: &[u64], header: Header, further: Further) -> Reply
         ensures { λ r. ⌜ Opening (now (table .entry)) header further (said further (r .answer)) (r .estimator) × Others further (r .answer) ⌝ }
     {
-        if !automaton::sound(table, header) {
+        if !automaton::well_formed(table, header) {
             return Estimator::turned_down(Refusal::Malformed);
         }
         if 3 < further.count {
@@ -952,7 +952,7 @@ impl Estimator {
     fn accept_asked(self, table: &[u64], header: Header, symbol: u8, asked: Asked) -> Reply
         ensures { λ r. ⌜ AcceptingAsked asked (now (table .entry)) header self symbol (r .answer) (r .estimator) ⌝ }
     {
-        if !self.sound(table, header) {
+        if !self.well_formed(table, header) {
             return self.refused(Refusal::Malformed);
         }
         let mut sets = [0u32; 32];

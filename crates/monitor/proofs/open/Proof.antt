@@ -8,8 +8,8 @@ use lib.ListN.{length, take, drop, replicate}
 use Rattle.stateset.proofs.Decides.{holds, fails}
 use Rattle.encoding.specs.declared.Answer
 use Rattle.encoding.specs.Decoding.{answerMeans, Decoding}
-use Rattle.encoding.proofs.Listing.{decoded-sound}
-use Rattle.monitor.specs.Opening.{said, frontSize, encodingOf, Decodes, Opening, not-decoded}
+use Rattle.encoding.proofs.Listing.{decoded-well-formed}
+use Rattle.monitor.specs.Opening.{openOutcome, frontSize, encodingOf, Decodes, Opening, not-decoded}
 use Rattle.monitor.proofs.Openings.{short, decodes, opens}
 use borrow.Author.Needs.{needs}
 use Rattle.monitor.proofs.open.Statement.{statement}
@@ -77,7 +77,7 @@ start-requires : tie.Need-start-requires
 start-requires c κs =
     let x = c .before .before .before .before in
     let d = decoded x Answer.the-variants.Accepted (c .enum-told .given .1) in
-    decoded-sound (encodingOf (logAt x)) (d .before) (x .decode .result .header) (tableAfter x) (d .decoding)
+    decoded-well-formed (encodingOf (logAt x)) (d .before) (x .decode .result .header) (tableAfter x) (d .decoding)
 
 returns-2 : tie.Need-returns-2
 returns-2 c =
@@ -89,7 +89,7 @@ returns-3 : tie.Need-returns-3
 returns-3 c =
     let x = c .before .before .before .before .before in
     let size = x .before .before .before .front-size in
-    opens (logAt x) (size .result) (tableAfter x) (x .decode .result .header) (said (c .start .result .answer)) (c .start .result .table) (c .start .result .header) (c .start .result .monitor)
+    opens (logAt x) (size .result) (tableAfter x) (x .decode .result .header) (openOutcome (c .start .result .answer)) (c .start .result .table) (c .start .result .header) (c .start .result .monitor)
     (size .ensures) (omega (arith, whole (x .before .before .before .before .before .before))) (decoded x Answer.the-variants.Accepted (c .before .enum-told .given .1)) (c .start .ensures)
 
 pub open-spec : {M : Type 1} → statement M

@@ -12,7 +12,7 @@ use Rattle.verifier.proofs.Judging.{refused-of, accepted-of}
 use Rattle.opacity.proofs.Numbering.{look-back-small}
 use Rattle.enforcer.specs.Enforcers.{secretsIn}
 use Rattle.verifier.specs.Replies.{stepsEach}
-use Rattle.enforcer.specs.Inner.{PendingWithin, Took}
+use Rattle.enforcer.specs.Inner.{PendingWithin, Enqueues}
 use borrow.Author.Tests.{not-true, not-false}
 use Rattle.stateset.specs.Set.{Decided}
 use Rattle.stateset.proofs.Decides.{holds, fails}
@@ -56,8 +56,8 @@ all x =
 small : (x : tie.After-answer2) → lookBackOf (asked x .args .header) (asked x .args .self .estimator .further) ≤ 15
 small x = let m = all x .0 in look-back-small (asked x .args .header) (asked x .args .self .estimator .further) (m .sound .back) (m .limits .allowed)
 
-sound-requires : tie.Need-sound-requires
-sound-requires c κs = search needs
+well-formed-requires : tie.Need-well-formed-requires
+well-formed-requires c κs = search needs
 
 refused-requires : tie.Need-refused-requires
 refused-requires c κs = search needs
@@ -65,7 +65,7 @@ refused-requires c κs = search needs
 returns : tie.Need-returns
 returns c =
     let r = c .refused .ensures in
-    let s = c .before .before .sound in
+    let s = c .before .before .well-formed in
     refused-given _ _ _ _ _ refusal.Malformed _ (r .0) (r .1) (Offering.malformed (fails (s .result) (not-true _ (c .before .if2 .taken)) (s .ensures)))
 
 refused-requires-2 : tie.Need-refused-requires-2
@@ -74,7 +74,7 @@ refused-requires-2 c κs = search needs
 returns-2 : tie.Need-returns-2
 returns-2 c =
     let r = c .refused2 .ensures in
-    let s = c .before .before .sound in
+    let s = c .before .before .well-formed in
     let good = holds (s .result) (not-false _ (c .before .if2 .left)) (s .ensures) in
     refused-given _ _ _ _ _ refusal.OutputTooSmall _ (r .0) (r .1) (output-too-small (good .0) (good .1) (c .before .before .before .if1 .taken))
 
@@ -146,14 +146,14 @@ returns-5 c =
     taken-outcome (now (a .table)) (a .header) (a .self) (a .byte) (now (a .output)) (stepsEach (a .self .estimator .further) (j .verdicts)) (waited .longest-wait .result) (j .size)
     (called .accept-by .result .estimator) (taken .result .answer) (taken .result .enforcer) (taken .last .1 .1 .1 .1 .1 .1 .0) (moved .sound)
     (limits-joined _ (a .self) (moved .limits) (pending e3)) (e3 .before .before .before .before .before .if1 .left) moved (all x .1) (waited .longest-wait .ensures)
-    (subst (λ (k : ℕ). Took k (a .self) (called .accept-by .result .estimator) (waited .longest-wait .result) (j .size) (a .byte) (now (a .output)) (taken .result .answer)
+    (subst (λ (k : ℕ). Enqueues k (a .self) (called .accept-by .result .estimator) (waited .longest-wait .result) (j .size) (a .byte) (now (a .output)) (taken .result .answer)
     (taken .result .enforcer) (taken .last .1 .1 .1 .1 .1 .1 .0)) (e3 .before .before .look-back .ensures) (taken .ensures))
 
 pub offer-spec : {M : Type 1} → statement M
 offer-spec =
     tie.close
     (tie.spec
-    sound-requires
+    well-formed-requires
     refused-requires
     returns
     refused-requires-2

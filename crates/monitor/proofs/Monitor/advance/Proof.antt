@@ -17,16 +17,16 @@ Inv-loop table header events out₀ at now₀ next₀ i₀ out now next i = Alon
 abbrev μ-loop : tie.MeasureT-loop
 μ-loop table header events out₀ at now₀ next₀ i₀ out now next i = length events - i
 
-sound-requires : tie.Need-sound-requires Inv-loop μ-loop
-sound-requires c κs = search needs
+well-formed-requires : tie.Need-well-formed-requires Inv-loop μ-loop
+well-formed-requires c κs = search needs
 
 returns : tie.Need-returns Inv-loop μ-loop
-returns c = Advancing.malformed (fails (c .before .sound .result) (not-true _ (c .if1 .taken)) (c .before .sound .ensures))
+returns c = Advancing.malformed (fails (c .before .well-formed .result) (not-true _ (c .if1 .taken)) (c .before .well-formed .ensures))
 
 loop-holds : tie.Need-loop-holds Inv-loop μ-loop
 loop-holds c =
     let a = c .before .before .before .before .before .args in
-    along-start (value (a .table)) (a .header) (a .self) (value (a .events)) (value (a .out)) (a .at) (holds (c .before .sound .result) (not-false _ (c .if1 .left)) (c .before .sound .ensures)) (omega (arith, c .before .before .before .before .before .good))
+    along-start (value (a .table)) (a .header) (a .self) (value (a .events)) (value (a .out)) (a .at) (holds (c .before .well-formed .result) (not-false _ (c .if1 .left)) (c .before .well-formed .ensures)) (omega (arith, c .before .before .before .before .before .good))
 
 ready-requires : tie.Need-ready-requires Inv-loop μ-loop
 ready-requires c κs = search needs
@@ -58,7 +58,7 @@ returns-2 : tie.Need-returns-2 Inv-loop μ-loop
 returns-2 c =
     let a = c .before .before .before .before .before .before .before .args in
     let l = c .before .loop in
-    along-end (value (a .table)) (a .header) (a .self) (value (a .events)) (value (a .out)) (a .at) (l .now) (l .next) (l .i) (l .out) (holds (c .before .before .before .sound .result) (not-false _ (c .before .before .if1 .left)) (c .before .before .before .sound .ensures)) (l .inv) (inl (omega arith))
+    along-end (value (a .table)) (a .header) (a .self) (value (a .events)) (value (a .out)) (a .at) (l .now) (l .next) (l .i) (l .out) (holds (c .before .before .before .well-formed .result) (not-false _ (c .before .before .if1 .left)) (c .before .before .before .well-formed .ensures)) (l .inv) (inl (omega arith))
 
 same-length-2 : tie.Need-same-length-2 Inv-loop μ-loop
 same-length-2 c = c .before .before .before .before .loop .inv .printed .size
@@ -67,7 +67,7 @@ returns-3 : tie.Need-returns-3 Inv-loop μ-loop
 returns-3 c =
     let a = c .before .before .before .before .before .before .before .before .before .before .args in
     let l = c .before .before .before .before .loop in
-    along-end (value (a .table)) (a .header) (a .self) (value (a .events)) (value (a .out)) (a .at) (l .now) (l .next) (l .i) (l .out) (holds (c .before .before .before .before .before .before .sound .result) (not-false _ (c .before .before .before .before .before .if1 .left)) (c .before .before .before .before .before .before .sound .ensures)) (l .inv)
+    along-end (value (a .table)) (a .header) (a .self) (value (a .events)) (value (a .out)) (a .at) (l .now) (l .next) (l .i) (l .out) (holds (c .before .before .before .before .before .before .well-formed .result) (not-false _ (c .before .before .before .before .before .if1 .left)) (c .before .before .before .before .before .before .well-formed .ensures)) (l .inv)
     (inr (fails (c .before .ready .result) (not-true _ (c .if2 .taken)) (c .before .ready .ensures)))
 
 pub advance-spec : {M : Type 1} → statement M
@@ -76,7 +76,7 @@ advance-spec =
     (tie.spec
     Inv-loop
     μ-loop
-    sound-requires
+    well-formed-requires
     returns
     loop-holds
     ready-requires

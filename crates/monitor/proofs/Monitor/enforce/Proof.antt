@@ -29,7 +29,7 @@ offered : (x : tie.After-answer2) → Offering (now (x .before .before .before .
 offered x =
     let a = x .before .before .before .before .before .before .before .before .args in
     let called = x .before .before .before .offer in
-    subst (λ (r : OfferAnswer). Offering (now (a .table)) (a .header) (a .self .enforcer) (a .byte) (replicate 17 0) (enforcer.said r) (called .result .enforcer) (left x))
+    subst (λ (r : OfferAnswer). Offering (now (a .table)) (a .header) (a .self .enforcer) (a .byte) (replicate 17 0) (enforcer.offerOutcome r) (called .result .enforcer) (left x))
     (x .answer2 .given .1) (called .ensures)
 
 counts : (x : tie.After-answer2) → Countable (x .before .before .before .before .before .before .before .before .args .self) (count x)
@@ -87,7 +87,7 @@ returns c =
     let r = c .before .before .before .before .before .answer .given .0 .0 in
     by-enforcer (now (a .table)) (a .header) (a .self) (a .byte) r _ (a .estimator) (called .result .enforcer) (replicate 17 0) (called .last .1 .1 .1 .1 .0) (done .result .monitor)
     (p .0) (p .2) refl
-    (subst (λ (x : OfferAnswer). Offering (now (a .table)) (a .header) (a .self .enforcer) (a .byte) (replicate 17 0) (enforcer.said x) (called .result .enforcer) (called .last .1 .1 .1 .1 .0)) (c .before .before .before .before .before .answer .given .1) (called .ensures))
+    (subst (λ (x : OfferAnswer). Offering (now (a .table)) (a .header) (a .self .enforcer) (a .byte) (replicate 17 0) (enforcer.offerOutcome x) (called .result .enforcer) (called .last .1 .1 .1 .1 .0)) (c .before .before .before .before .before .answer .given .1) (called .ensures))
     (done .ensures .0) (done .ensures .1)
 
 same-length-2 : tie.Need-same-length-2

@@ -7,7 +7,7 @@ use denote.Ref.{now}
 use Prim.Native.Nat.{ℕ}
 use native.Mathlib.Omega.{arith}
 use Rattle.stateset.proofs.Decides.{holds, fails}
-use Rattle.automaton.specs.Run.{automatonOf, Sound, Observable}
+use Rattle.automaton.specs.Run.{automatonOf, WellFormed, Observable}
 use Rattle.refusal.specs.declared.Refusal.the-variants as refusal
 use Rattle.automaton.specs.Reaching.{Showing}
 use Rattle.automaton.proofs.SymbolSets.{some-observable, none-observable, observable-small}
@@ -21,8 +21,8 @@ use Rattle.verifier.proofs.Estimator.accept_asked.Statement.{statement}
 use Rattle.verifier.proofs.Estimator.accept_asked.Tie as tie
 
 -- the tests that were passed
-ok : (c : tie.Else1) → Sound (now (c .before .before .before .args .table)) (c .before .before .before .args .header) × InLimits (c .before .before .before .args .header) (c .before .before .before .args .t1)
-ok c = holds (c .before .sound .result) (not-false _ (c .if1 .left)) (c .before .sound .ensures)
+ok : (c : tie.Else1) → WellFormed (now (c .before .before .before .args .table)) (c .before .before .before .args .header) × InLimits (c .before .before .before .args .header) (c .before .before .before .args .t1)
+ok c = holds (c .before .well-formed .result) (not-false _ (c .if1 .left)) (c .before .well-formed .ensures)
 
 -- the events that show the symbol
 showing : (c : tie.After-events-with) → Showing (automatonOf (now (c .before .before .before .before .before .before .before .before .args .table)) (c .before .before .before .before .before .before .before .before .args .header)) (c .before .before .before .before .before .before .before .before .args .symbol) (c .events-with .result)
@@ -33,8 +33,8 @@ observed c =
     let a = c .before .before .before .before .before .before .before .before .before .args in
     some-observable (now (a .table)) (a .header) _ _ (showing (c .before)) (omega arith) (c .if2 .left)
 
-sound-requires : tie.Need-sound-requires
-sound-requires c κs = search needs
+well-formed-requires : tie.Need-well-formed-requires
+well-formed-requires c κs = search needs
 
 refused-requires : tie.Need-refused-requires
 refused-requires c κs = search needs
@@ -43,7 +43,7 @@ returns : tie.Need-returns
 returns c =
     let r = c .refused .ensures in
     let s = c .before .before in
-    refused-asked _ _ _ _ _ refusal.Malformed _ (r .0) (r .1) (Accepting.malformed (fails (s .sound .result) (not-true _ (c .before .if1 .taken)) (s .sound .ensures)))
+    refused-asked _ _ _ _ _ refusal.Malformed _ (r .0) (r .1) (Accepting.malformed (fails (s .well-formed .result) (not-true _ (c .before .if1 .taken)) (s .well-formed .ensures)))
 
 slice-aggregate-by-symbol : tie.Need-slice-aggregate-by-symbol
 slice-aggregate-by-symbol c = search needs
@@ -171,7 +171,7 @@ pub accept-asked-spec : {M : Type 1} → statement M
 accept-asked-spec =
     tie.close
     (tie.spec
-    sound-requires
+    well-formed-requires
     refused-requires
     returns
     slice-aggregate-by-symbol

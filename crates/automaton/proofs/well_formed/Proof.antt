@@ -1,8 +1,8 @@
--- `automaton::sound` meets its contract: each test decides one of the limits.
+-- `automaton::well_formed` meets its contract: each test decides one of the limits.
 use borrow.Author.Needs.{needs}
 use Rattle.stateset.proofs.Decides.{decided-as}
-use Rattle.automaton.proofs.sound.Statement.{statement}
-use Rattle.automaton.proofs.sound.Tie as tie
+use Rattle.automaton.proofs.well_formed.Statement.{statement}
+use Rattle.automaton.proofs.well_formed.Tie as tie
 
 returns : tie.Need-returns
 returns c = search needs
@@ -23,5 +23,5 @@ returns-4 c =
     (λ x. x .symbols-small)
     (c .small-symbols .ensures)
 
-pub sound-spec : {M : Type 1} → statement M
-sound-spec = tie.close (tie.spec returns returns-2 returns-3 small-symbols-requires returns-4)
+pub well-formed-spec : {M : Type 1} → statement M
+well-formed-spec = tie.close (tie.spec returns returns-2 returns-3 small-symbols-requires returns-4)

@@ -1,4 +1,4 @@
--- `enforcer::Enforcer::sound` meets its contract: the estimator's limits, and those of the pending symbols.
+-- `enforcer::Enforcer::well_formed` meets its contract: the estimator's limits, and those of the pending symbols.
 use mathlib.Core.Path.{subst}
 use Prim.Native.Nat.{ℕ}
 use denote.Ref.{now}
@@ -8,14 +8,14 @@ use Rattle.stateset.proofs.Decides.{holds, fails}
 use Rattle.enforcer.specs.Inner.{PendingWithin}
 use Rattle.enforcer.proofs.TakingIn.{limits-decide}
 use borrow.Author.Needs.{needs}
-use Rattle.enforcer.proofs.Enforcer.sound.Statement.{statement}
-use Rattle.enforcer.proofs.Enforcer.sound.Tie as tie
+use Rattle.enforcer.proofs.Enforcer.well_formed.Statement.{statement}
+use Rattle.enforcer.proofs.Enforcer.well_formed.Tie as tie
 
-sound-requires : tie.Need-sound-requires
-sound-requires c κs = search needs
+well-formed-requires : tie.Need-well-formed-requires
+well-formed-requires c κs = search needs
 
 returns : tie.Need-returns
-returns c = λ both. fails (c .before .sound .result) (not-true _ (c .if1 .taken)) (c .before .sound .ensures) (both .0, both .1 .estimator)
+returns c = λ both. fails (c .before .well-formed .result) (not-true _ (c .if1 .taken)) (c .before .well-formed .ensures) (both .0, both .1 .estimator)
 
 look-back-requires : tie.Need-look-back-requires
 look-back-requires c κs = search needs
@@ -26,10 +26,10 @@ pending-within-requires c κs = search needs
 returns-2 : tie.Need-returns-2
 returns-2 c =
     let e = c .before .before .before in
-    let good = holds (e .before .sound .result) (not-false _ (e .if1 .left)) (e .before .sound .ensures) in
+    let good = holds (e .before .well-formed .result) (not-false _ (e .if1 .left)) (e .before .well-formed .ensures) in
     let a = e .before .before .before .before .args in
     limits-decide (now (a .table)) (a .header) (a .self) (c .pending-within .result) (good .0) (good .1)
     (subst (λ (k : ℕ). Decided (c .pending-within .result) (PendingWithin k (a .self))) (c .before .look-back .ensures) (c .pending-within .ensures))
 
-pub sound-spec : {M : Type 1} → statement M
-sound-spec = tie.close (tie.spec sound-requires returns look-back-requires pending-within-requires returns-2)
+pub well-formed-spec : {M : Type 1} → statement M
+well-formed-spec = tie.close (tie.spec well-formed-requires returns look-back-requires pending-within-requires returns-2)

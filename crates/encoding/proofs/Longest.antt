@@ -7,6 +7,7 @@ use native.Mathlib.Omega.{arith}
 use borrow.Author.Tests.{ltb-true}
 use lib.Dec.{leb, ltb, eqb}
 use lib.ListN.{length}
+use Rattle.refusal.specs.declared.Refusal.the-variants.{StateOutOfRange, EventOutOfRange, TrailingData}
 use Rattle.bitfields.specs.Bits.{bitsOf, numberAt}
 use Rattle.bitfields.specs.Parser.{done, demand, field, flags}
 use Rattle.bitfields.proofs.Bits.{length-bits}
@@ -24,7 +25,7 @@ fixed-ends bits e =
     on-done (field 5 bits n1) _ r1 λ topevent n2 e2 r2.
     on-done (field 4 bits n2) _ r2 λ k n3 e3 r3.
     on-done (field 6 bits n3) _ r3 λ initial n4 e4 r4.
-    on-done (demand (leb initial topstate) 3 bits n4) _ r4 λ u5 n5 e5 r5.
+    on-done (demand (leb initial topstate) StateOutOfRange bits n4) _ r4 λ u5 n5 e5 r5.
     on-done (field 10 bits n5) _ r5 λ count n6 e6 r6.
     on-done (field 1 bits n6) _ r6 λ symbols n7 e7 r7.
     omega (
@@ -33,7 +34,7 @@ fixed-ends bits e =
       field-in 5 bits n1 e2 .2,
       field-in 4 bits n2 e3 .2,
       field-in 6 bits n3 e4 .2,
-      demand-done (leb initial topstate) 3 bits n4 e5 .1,
+      demand-done (leb initial topstate) StateOutOfRange bits n4 e5 .1,
       field-in 10 bits n5 e6 .2,
       field-in 1 bits n6 e7 .2,
       same-done r7 .1,
@@ -75,19 +76,19 @@ transition-ends : (s e : ℕ) (bits : List ℕ) (at : ℕ) {t : Transition} {nex
 unfolding transition
 transition-ends s e bits at h =
     on-done (field 6 bits at) _ h λ from n1 e1 r1.
-    on-done (demand (leb from s) 3 bits n1) _ r1 λ u2 n2 e2 r2.
+    on-done (demand (leb from s) StateOutOfRange bits n1) _ r1 λ u2 n2 e2 r2.
     on-done (field 5 bits n2) _ r2 λ event n3 e3 r3.
-    on-done (demand (leb event e) 4 bits n3) _ r3 λ u4 n4 e4 r4.
+    on-done (demand (leb event e) EventOutOfRange bits n3) _ r3 λ u4 n4 e4 r4.
     on-done (field 6 bits n4) _ r4 λ to n5 e5 r5.
-    on-done (demand (leb to s) 3 bits n5) _ r5 λ u6 n6 e6 r6.
+    on-done (demand (leb to s) StateOutOfRange bits n5) _ r5 λ u6 n6 e6 r6.
     omega (
       arith,
       field-in 6 bits at e1 .2,
-      demand-done (leb from s) 3 bits n1 e2 .1,
+      demand-done (leb from s) StateOutOfRange bits n1 e2 .1,
       field-in 5 bits n2 e3 .2,
-      demand-done (leb event e) 4 bits n3 e4 .1,
+      demand-done (leb event e) EventOutOfRange bits n3 e4 .1,
       field-in 6 bits n4 e5 .2,
-      demand-done (leb to s) 3 bits n5 e6 .1,
+      demand-done (leb to s) StateOutOfRange bits n5 e6 .1,
       same-done r6 .1,
     )
 
@@ -118,7 +119,7 @@ longest-encoding bytes {d} e =
     let topevent : f .front .fixed .topevent ≡ d .front .fixed .topevent = λ i. same i .topevent in
     let given : symbolCount (f .front .fixed) ≡ symbolCount (d .front .fixed) = λ i. symbolCount (same i) in
     let tail = first-true (ltb (length bits - n2) 8) (eqb (numberAt bits n2 (length bits - n2)) 0)
-    (demand-done (ltb (length bits - n2) 8 && eqb (numberAt bits n2 (length bits - n2)) 0) 5 bits n2 e3 .0) in
+    (demand-done (ltb (length bits - n2) 8 && eqb (numberAt bits n2 (length bits - n2)) 0) TrailingData bits n2 e3 .0) in
     omega (
       arith,
       ltb-true (length bits - n2) 8 tail,

@@ -7,6 +7,7 @@ use native.Mathlib.Omega.{arith}
 use lib.Dec.{leb, ltb, eqb}
 use lib.ListN.{length}
 use Rattle.automaton.specs.declared.Header.{Header}
+use Rattle.refusal.specs.declared.Refusal.the-variants.{StateOutOfRange, EventOutOfRange, TrailingData, RepeatedTransition}
 use Rattle.bitfields.specs.Bits.{bitsOf, numberAt}
 use Rattle.bitfields.specs.Parser.{Parsed, demand, field, flags}
 use Rattle.bitfields.proofs.Parsing.{Never, never-then, never-demand, never-field, never-flags}
@@ -36,7 +37,8 @@ module _ (x : ℕ) (other : refusing x ≡ false) (bits : List ℕ) where
       never-then x (field 5 bits n1) _ (one-field 5 n1) λ topevent n2.
       never-then x (field 4 bits n2) _ (one-field 4 n2) λ k n3.
       never-then x (field 6 bits n3) _ (one-field 6 n3) λ initial n4.
-      never-then x (demand (leb initial topstate) 3 bits n4) _ (never-demand x (leb initial topstate) 3 bits n4 (apart 3 refl)) λ u5 n5.
+      never-then x (demand (leb initial topstate) StateOutOfRange bits n4) _
+      (never-demand x (leb initial topstate) StateOutOfRange bits n4 (apart 3 refl)) λ u5 n5.
       never-then x (field 10 bits n5) _ (one-field 10 n5) λ count n6.
       never-then x (field 1 bits n6) _ (one-field 1 n6) λ symbols n7. tt
 
@@ -65,15 +67,15 @@ module _ (x : ℕ) (other : refusing x ≡ false) (bits : List ℕ) where
   transition-never s e at =
       let state : 3 ≡ x → ⊥ = apart 3 refl in
       never-then x (field 6 bits at) _ (one-field 6 at) λ from n1.
-      never-then x (demand (leb from s) 3 bits n1) _ (never-demand x (leb from s) 3 bits n1 state) λ u2 n2.
+      never-then x (demand (leb from s) StateOutOfRange bits n1) _ (never-demand x (leb from s) StateOutOfRange bits n1 state) λ u2 n2.
       never-then x (field 5 bits n2) _ (one-field 5 n2) λ event n3.
-      never-then x (demand (leb event e) 4 bits n3) _ (never-demand x (leb event e) 4 bits n3 (apart 4 refl)) λ u4 n4.
+      never-then x (demand (leb event e) EventOutOfRange bits n3) _ (never-demand x (leb event e) EventOutOfRange bits n3 (apart 4 refl)) λ u4 n4.
       never-then x (field 6 bits n4) _ (one-field 6 n4) λ to n5.
-      never-then x (demand (leb to s) 3 bits n5) _ (never-demand x (leb to s) 3 bits n5 state) λ u6 n6. tt
+      never-then x (demand (leb to s) StateOutOfRange bits n5) _ (never-demand x (leb to s) StateOutOfRange bits n5 state) λ u6 n6. tt
 
   pub ending-never : (at : ℕ) → Never x (ending bits at)
   unfolding ending
-  ending-never at = never-demand x (ltb (length bits - at) 8 && eqb (numberAt bits at (length bits - at)) 0) 5 bits at (apart 5 refl)
+  ending-never at = never-demand x (ltb (length bits - at) 8 && eqb (numberAt bits at (length bits - at)) 0) TrailingData bits at (apart 5 refl)
 
   module _ (unrepeated : 12 ≡ x → ⊥) where
     transitions-never : (s e n at : ℕ) → Never x (transitions s e n bits at)
@@ -82,7 +84,8 @@ module _ (x : ℕ) (other : refusing x ≡ false) (bits : List ℕ) where
     transitions-never s e (suc n) at =
         never-then x (transitions s e n bits at) _ (transitions-never s e n at) λ earlier n1.
         never-then x (transition s e bits n1) _ (transition-never s e n1) λ last n2.
-        never-then x (demand (not (listed last earlier)) 12 bits n2) _ (never-demand x (not (listed last earlier)) 12 bits n2 unrepeated) λ u3 n3. tt
+        never-then x (demand (not (listed last earlier)) RepeatedTransition bits n2) _
+        (never-demand x (not (listed last earlier)) RepeatedTransition bits n2 unrepeated) λ u3 n3. tt
 
     pub encoding-never : (at : ℕ) → Never x (encoding bits at)
     unfolding encoding

@@ -11,6 +11,7 @@ use Rattle.encoding.specs.Transitions.{Transition}
 use Rattle.encoding.specs.Table.{Holds}
 use Rattle.encoding.specs.Encoding.{Encoding, encoding}
 use Rattle.encoding.specs.Answers.{headerOf}
+use Rattle.refusal.specs.Refusals.{numberOf}
 use Rattle.bitfields.specs.Bits.{bitsOf}
 use Rattle.bitfields.specs.Parser.{Parsed, done, refused}
 use Rattle.opacity.specs.declared.Notion.{Notion}
@@ -125,7 +126,7 @@ pub data Contents : Type 0 where
 
 abbrev pub contentsOf : Parsed Encoding → Contents
 contentsOf (done e next) = automaton (record { transitions = e .transitions; header = headerOf (e .front) (e .symbols) })
-contentsOf (refused n) = refusal n
+contentsOf (refused r) = refusal (numberOf r)
 
 -- a row is about an automaton, or about the bytes of a description
 pub data Row : Type 0 where

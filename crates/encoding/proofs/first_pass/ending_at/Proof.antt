@@ -7,6 +7,7 @@ use native.Mathlib.Omega.{arith}
 use denote.Ref.{now}
 use lib.ListN.{length}
 use Rattle.encoding.specs.Encoding.{ending}
+use Rattle.refusal.specs.declared.Refusal.the-variants.{TrailingData}
 use Rattle.bitfields.specs.Bits.{bitsOf, numberAt}
 use Rattle.bitfields.specs.Parser.{done, refused}
 use Rattle.bitfields.proofs.Bits.{length-bits, number-none}
@@ -16,7 +17,7 @@ use Rattle.encoding.proofs.first_pass.ending_at.Tie as tie
 
 -- fewer than 8 bits are left, and v is the number that all of them write
 loose : (bytes : List ℕ) (at v : ℕ) → length bytes * 8 - at < 8 → v ≡ numberAt (bitsOf bytes) at (length bytes * 8 - at) → (v ≡ 0 → ⊥)
-    → refused 5 ≡ ending (bitsOf bytes) at
+    → refused TrailingData ≡ ending (bitsOf bytes) at
 unfolding ending
 loose bytes at v few is other = rw (length-bits bytes, lt-ltb (length bytes * 8 - at) 8 few, ← is, ne-eqb v 0 other)
 

@@ -24,8 +24,8 @@ use Rattle.enforcer.specs.declared.Release.{Release}
 use Rattle.enforcer.specs.declared.StartAnswer as start
 use Rattle.enforcer.specs.declared.OfferAnswer as offer
 use Rattle.layout.specs.Sizes.{headerSize}
-use Rattle.layout.specs.Layout.{Stored, headerAt, headerBytes, furtherAt, estimatorAt, estimatorBytes, EstimatorSized, notionAt, enforcerAt, enforcerBytes, EnforcerSized}
-use Rattle.layout.specs.Layout.{toldBytes, judgementBytes, releaseBytes}
+use Rattle.layout.specs.Layout.{Stored, headerAt, headerBytes, furtherAt, estimatorAt, estimatorBytes, EstimatorSized}
+use Rattle.layout.specs.Layout.{notionAt, enforcerAt, enforcerBytes, EnforcerSized, toldBytes, judgementBytes, releaseBytes}
 use Rattle.gateway.specs.Interface.{Decode, FreshSizes, Fresh, Accept, Start, Offer, VerifierSizes, StartSizes, OfferSizes}
 use Rattle.layout.proofs.Stores.{whole}
 use Rattle.layout.proofs.Inverse.{estimator-length, estimator-saved, enforcer-saved}

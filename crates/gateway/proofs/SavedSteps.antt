@@ -21,7 +21,7 @@ use Rattle.enforcer.specs.declared.Enforcer.{Enforcer}
 use Rattle.enforcer.specs.Offerings as offering
 use Rattle.enforcer.specs.Offerings.{Offering}
 use Rattle.enforcer.specs.Offers.{Chain, Offers}
-use Rattle.layout.specs.Sizes.{headerSize, furtherCount, mostRemembered, estimatorSize, strongByte, notionPlace, enforcerSize, judgementSize, releaseSize}
+use Rattle.layout.specs.Sizes.{headerSize, estimatorSize, strongByte, notionPlace, enforcerSize, judgementSize, releaseSize}
 use Rattle.layout.specs.Layout.{headerAt, estimatorAt, enforcerAt, verdictAt, verdictByte, judgementBytes, verdictsAt}
 use Rattle.gateway.specs.Interface.{Accept, Offer}
 use Rattle.gateway.specs.SavedCalls.{AcceptCall, AcceptCalls, acceptSaid, callsOf, OfferCall, OfferCalls, offerSaid, offersOf}
@@ -81,7 +81,8 @@ module _ (t header : List ℕ) (header-size : length header ≡ headerSize) wher
     size : length m ≡ estimatorSize
     same : estimatorAt m .further ≡ kept
 
-  one-accept : (kept : Further) (s : List ℕ) (symbol : ℕ) (lent : List ℕ) (answer : ℕ) (m told : List ℕ) → length s ≡ estimatorSize → estimatorAt s .further ≡ kept → length lent ≡ judgementSize
+  one-accept : (kept : Further) (s : List ℕ) (symbol : ℕ) (lent : List ℕ) (answer : ℕ) (m told : List ℕ)
+      → length s ≡ estimatorSize → estimatorAt s .further ≡ kept → length lent ≡ judgementSize
       → Accept t header symbol s lent answer m told → OneAccept kept s symbol answer m told
   one-accept kept s symbol lent answer m told k same nine (Accept.size bad) = absurd (bad (record { header-size = header-size; estimator-size = k; judgement-size = nine }))
   one-accept kept s symbol lent answer m told k same nine (Accept.refused sizes x) =
@@ -99,12 +100,14 @@ module _ (t header : List ℕ) (header-size : length header ≡ headerSize) wher
       }
 
   -- one that lends another number of bytes for the judgement
-  unsized-accept : (s : List ℕ) (symbol : ℕ) (lent : List ℕ) (answer : ℕ) (m told : List ℕ) → (length lent ≡ judgementSize → ⊥) → Accept t header symbol s lent answer m told → m ≡ s
+  unsized-accept : (s : List ℕ) (symbol : ℕ) (lent : List ℕ) (answer : ℕ) (m told : List ℕ) → (length lent ≡ judgementSize → ⊥)
+      → Accept t header symbol s lent answer m told → m ≡ s
   unsized-accept s symbol lent answer m told n (Accept.size bad) = refl
   unsized-accept s symbol lent answer m told n (Accept.refused sizes x) = refl
   unsized-accept s symbol lent answer m told n (Accept.accepted sizes x saved) = absurd (n (sizes .judgement-size))
 
-  pub accept-calls : (kept : Further) (s : List ℕ) (cs : List AcceptCall) (e : List ℕ) → length s ≡ estimatorSize → estimatorAt s .further ≡ kept → AcceptCalls t header s cs e
+  pub accept-calls : (kept : Further) (s : List ℕ) (cs : List AcceptCall) (e : List ℕ) → length s ≡ estimatorSize → estimatorAt s .further ≡ kept
+      → AcceptCalls t header s cs e
       → Calls t head (estimatorAt s) (callsOf (kept .count) cs) (estimatorAt e)
   accept-calls kept s cs e k same AcceptCalls.done = Calls.done
   accept-calls kept s cs e k same (AcceptCalls.next {m = m} {c = c} {cs = rest} nine a f) =
@@ -113,7 +116,8 @@ module _ (t header : List ℕ) (header-size : length header ≡ headerSize) wher
   accept-calls kept s cs e k same (AcceptCalls.unsized {m = m} {c = c} n a f) =
       let is = unsized-accept s (c .symbol) (c .lent) (c .answer) m (c .told) n a in
       subst (λ (y : List ℕ). Calls t head (estimatorAt y) (callsOf (kept .count) cs) (estimatorAt e)) is
-      (accept-calls kept m cs e (subst (λ (y : List ℕ). length y ≡ estimatorSize) (sym is) k) (subst (λ (y : List ℕ). estimatorAt y .further ≡ kept) (sym is) same) f)
+      (accept-calls kept m cs e (subst (λ (y : List ℕ). length y ≡ estimatorSize) (sym is) k)
+      (subst (λ (y : List ℕ). estimatorAt y .further ≡ kept) (sym is) same) f)
 
   -- bytes of the length of an enforcer, with a notion
   pub record KeepsEnforcer (s : List ℕ) : Type 0 where
@@ -142,7 +146,8 @@ module _ (t header : List ℕ) (header-size : length header ≡ headerSize) wher
       record { offering = rw (saved .back) (Offering.accepted so li wide ob same after bal front rest within exact); keeps = record { size = saved .size; known = saved .notion-known } }
 
   -- one that lends another number of bytes for the release
-  unsized-offer : (s : List ℕ) (symbol : ℕ) (output lent : List ℕ) (answer : ℕ) (m left release : List ℕ) → (length lent ≡ releaseSize → ⊥) → Offer t header symbol s output lent answer m left release → m ≡ s
+  unsized-offer : (s : List ℕ) (symbol : ℕ) (output lent : List ℕ) (answer : ℕ) (m left release : List ℕ) → (length lent ≡ releaseSize → ⊥)
+      → Offer t header symbol s output lent answer m left release → m ≡ s
   unsized-offer s symbol output lent answer m left release n (Offer.size bad) = refl
   unsized-offer s symbol output lent answer m left release n (Offer.refused sizes x) = refl
   unsized-offer s symbol output lent answer m left release n (Offer.released sizes x saved) = absurd (n (sizes .release-size))

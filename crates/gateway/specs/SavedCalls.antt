@@ -3,9 +3,8 @@
 use Prim.Native.Nat.{ℕ, zero, suc}
 use mathlib.Core.Path.{_≡_}
 use mathlib.Core.List.{List, [], _∷_}
-use lib.ListN.{length, getD, take}
+use lib.ListN.{length, getD}
 use Rattle.verifier.specs.Replies as verifier
-use Rattle.verifier.specs.Replies.{Told}
 use Rattle.verifier.specs.Calls.{Call}
 use Rattle.enforcer.specs.Offerings as offering
 use Rattle.enforcer.specs.Offers as enforcer
@@ -20,13 +19,16 @@ pub record AcceptCall : Type 0 where
   pub answer : ℕ
   pub told : List ℕ
 
--- calls of accept, one after another: the estimator's bytes before them, the calls that lent as many bytes as a judgement has, and the estimator's bytes after them
+-- calls of accept, one after another: the estimator's bytes before them, the calls that lent as many bytes as a judgement has, and the estimator's bytes
+-- after them
 pub data AcceptCalls (t header : List ℕ) : List ℕ → List AcceptCall → List ℕ → Type 0 where
   done : {s : List ℕ} → AcceptCalls t header s [] s
-  next : {s m e : List ℕ} {c : AcceptCall} {cs : List AcceptCall} → length (c .lent) ≡ judgementSize → Accept t header (c .symbol) s (c .lent) (c .answer) m (c .told)
+  next : {s m e : List ℕ} {c : AcceptCall} {cs : List AcceptCall} → length (c .lent) ≡ judgementSize
+      → Accept t header (c .symbol) s (c .lent) (c .answer) m (c .told)
       → AcceptCalls t header m cs e → AcceptCalls t header s (c ∷ cs) e
   -- a call that lent another number of bytes, and so got 9, may stand between them; it is not listed
-  unsized : {s m e : List ℕ} {c : AcceptCall} {cs : List AcceptCall} → (length (c .lent) ≡ judgementSize → ⊥) → Accept t header (c .symbol) s (c .lent) (c .answer) m (c .told)
+  unsized : {s m e : List ℕ} {c : AcceptCall} {cs : List AcceptCall} → (length (c .lent) ≡ judgementSize → ⊥)
+      → Accept t header (c .symbol) s (c .lent) (c .answer) m (c .told)
       → AcceptCalls t header m cs e → AcceptCalls t header s cs e
 
 -- what an answer says: 0 that the bytes hold the verdicts and the number, and else the number of a refusal

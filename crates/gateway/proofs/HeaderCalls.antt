@@ -1,6 +1,5 @@
 -- Every function that takes a header says the same with the bytes of two headers that are the same but for the symbols of unobservable events (02, S-2).
 -- Assumes nothing.
-use mathlib.Core.Path.{_≡_}
 use mathlib.Core.List.{List}
 use mathlib.Core.Logic.{_↔_}
 use Prim.Native.Nat.{ℕ}
@@ -47,7 +46,8 @@ module _ (t a b : List ℕ) (x : SameHeaders a b) where
       Accept.accepted (verifier-sizes a b x estimator judgement s)
       (same-accepting t (headerAt a) (headerAt b) (same-symbols a b x t) (same-secret a b x) (same-k a b x) _ symbol _ _ .0 o) saved
 
-  start-to : (notion : ℕ) (further enforcer : List ℕ) (n : ℕ) (after : List ℕ) → Start t a notion further enforcer n after → Start t b notion further enforcer n after
+  start-to : (notion : ℕ) (further enforcer : List ℕ) (n : ℕ) (after : List ℕ) → Start t a notion further enforcer n after
+      → Start t b notion further enforcer n after
   start-to notion further enforcer n after (Start.size bad) = Start.size (λ s. bad (start-sizes b a (headers-back a b x) notion further enforcer s))
   start-to notion further enforcer n after (Start.refused s o) =
       Start.refused (start-sizes a b x notion further enforcer s)

@@ -53,7 +53,8 @@ saved-well-formed encoding table before t header x = decoded-well-formed encodin
 
 -- so with slices of their lengths a fresh estimator is refused by 13 and 14 only
 pub saved-fresh : (encoding table before t header further estimator lent : List ℕ) (answer : ℕ) (s told : List ℕ) → Decode encoding table before 0 t header
-    → length further ≡ furtherSize → length estimator ≡ estimatorSize → length lent ≡ judgementSize → Fresh t header further estimator lent answer s told → ByFurther (furtherAt further 0) answer
+    → length further ≡ furtherSize → length estimator ≡ estimatorSize → length lent ≡ judgementSize
+    → Fresh t header further estimator lent answer s told → ByFurther (furtherAt further 0) answer
 saved-fresh encoding table before t header further estimator lent answer s told x f e l (Fresh.size bad) =
     absurd (bad (record { verifier = record { header-size = saved-length encoding table before t header x; estimator-size = e; judgement-size = l }; further-size = f }))
 saved-fresh encoding table before t header further estimator lent answer s told x f e l (Fresh.refused _ (Opening.malformed bad out)) =
@@ -108,7 +109,8 @@ saved-second-point t header further before lent s told cs e (Fresh.accepted size
 -- from the bytes of an encoding to the verdicts and the number: what was decoded, a fresh estimator on it with further secrets that may be given, and any
 -- calls of accept
 pub encoded-second-point : (encoding table before t header further estimator lent : List ℕ) (answer : ℕ) (s told : List ℕ) (cs : List AcceptCall) (e : List ℕ)
-    → Decode encoding table before 0 t header → length further ≡ furtherSize → length estimator ≡ estimatorSize → length lent ≡ judgementSize → Allowed (furtherAt further 0)
+    → Decode encoding table before 0 t header
+    → length further ≡ furtherSize → length estimator ≡ estimatorSize → length lent ≡ judgementSize → Allowed (furtherAt further 0)
     → Fresh t header further estimator lent answer s told → AcceptCalls t header s cs e
     → (answer ≡ 0) × Decoding encoding table (headerAt header) accept t
     × verifier.VerifierPromise t (headerAt header) (furtherAt further 0) (judgementAt (furtherAt further 0 .count) told) (callsOf (furtherAt further 0 .count) cs) (estimatorAt e)

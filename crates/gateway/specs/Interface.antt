@@ -16,14 +16,15 @@ use Rattle.enforcer.specs.Offerings.{Starting, Offering}
 use Rattle.enforcer.specs.declared.Enforcer.{Enforcer}
 use Rattle.enforcer.specs.declared.Release.{Release}
 use Rattle.layout.specs.Sizes as sizes
-use Rattle.layout.specs.Layout.{headerAt, headerBytes, furtherAt, estimatorAt, estimatorBytes, EstimatorSaved, notionAt, enforcerAt, enforcerBytes, EnforcerSaved}
-use Rattle.layout.specs.Layout.{judgementBytes, releaseBytes}
+use Rattle.layout.specs.Layout.{headerAt, headerBytes, furtherAt, estimatorAt, estimatorBytes, EstimatorSaved}
+use Rattle.layout.specs.Layout.{notionAt, enforcerAt, enforcerBytes, EnforcerSaved, judgementBytes, releaseBytes}
 
 -- decode: the answer, the table after and the header's bytes after
 pub data Decode (encoding table header : List ℕ) : ℕ → List ℕ → List ℕ → Type 0 where
   size : (length header ≡ sizes.headerSize → ⊥) → Decode encoding table header 9 table header
   refused : length header ≡ sizes.headerSize → {h : Header} {n : ℕ} → Decoding encoding table h (refuse n) table → Decode encoding table header n table header
-  accepted : length header ≡ sizes.headerSize → {h : Header} {after : List ℕ} → Decoding encoding table h accept after → Decode encoding table header 0 after (headerBytes h)
+  accepted : length header ≡ sizes.headerSize → {h : Header} {after : List ℕ} → Decoding encoding table h accept after
+      → Decode encoding table header 0 after (headerBytes h)
 
 -- the slices of a call of the verifier have the lengths of their layouts
 pub record VerifierSizes (header estimator judgement : List ℕ) : Type 0 where

@@ -41,7 +41,8 @@ pub extern "C" fn opacity_fresh(
     estimator: &mut [u8],
     judgement: &mut [u8],
 ) -> u8
-    ensures { λ r. ⌜ Fresh (now (table .entry)) (now (header .entry)) (now (further .entry)) (now (estimator .entry)) (now (judgement .entry)) r (now (estimator .exit)) (now (judgement .exit)) ⌝ }
+    ensures { λ r. ⌜ Fresh (now (table .entry)) (now (header .entry)) (now (further .entry)) (now (estimator .entry)) (now (judgement .entry))
+        r (now (estimator .exit)) (now (judgement .exit)) ⌝ }
 {
     if header.len() != sizes::HEADER_SIZE {
         return MALFORMED;
@@ -81,7 +82,8 @@ pub extern "C" fn opacity_accept(
     estimator: &mut [u8],
     judgement: &mut [u8],
 ) -> u8
-    ensures { λ r. ⌜ Accept (now (table .entry)) (now (header .entry)) symbol (now (estimator .entry)) (now (judgement .entry)) r (now (estimator .exit)) (now (judgement .exit)) ⌝ }
+    ensures { λ r. ⌜ Accept (now (table .entry)) (now (header .entry)) symbol (now (estimator .entry)) (now (judgement .entry))
+        r (now (estimator .exit)) (now (judgement .exit)) ⌝ }
 {
     if header.len() != sizes::HEADER_SIZE {
         return MALFORMED;
@@ -146,7 +148,8 @@ pub extern "C" fn opacity_start(
     }
 }
 
-// Offers one symbol: the enforcer after it, the released symbols at the front of the output, and in the bytes of a release their number and how many states are possible.
+// Offers one symbol: the enforcer after it, the released symbols at the front of the output, and in the bytes of a release their number and how many
+// states are possible.
 #[no_mangle]
 pub extern "C" fn opacity_offer(
     table: &[u64],
@@ -156,7 +159,8 @@ pub extern "C" fn opacity_offer(
     output: &mut [u8],
     release: &mut [u8],
 ) -> u8
-    ensures { λ r. ⌜ Offer (now (table .entry)) (now (header .entry)) symbol (now (enforcer .entry)) (now (output .entry)) (now (release .entry)) r (now (enforcer .exit)) (now (output .exit)) (now (release .exit)) ⌝ }
+    ensures { λ r. ⌜ Offer (now (table .entry)) (now (header .entry)) symbol (now (enforcer .entry)) (now (output .entry)) (now (release .entry))
+        r (now (enforcer .exit)) (now (output .exit)) (now (release .exit)) ⌝ }
 {
     if header.len() != sizes::HEADER_SIZE {
         return MALFORMED;

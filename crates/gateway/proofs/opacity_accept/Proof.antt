@@ -1,10 +1,17 @@
 -- `gateway::opacity_accept` meets its contract.
 use denote.Ref.{now}
-use Rattle.gateway.specs.Interface.{Accept}
+use Rattle.gateway.specs.Interface.{VerifierSizes, Accept}
 use Rattle.gateway.proofs.Entries.{accept-refused, accept-accepted}
 use borrow.Author.Needs.{needs}
 use Rattle.gateway.proofs.opacity_accept.Statement.{statement}
 use Rattle.gateway.proofs.opacity_accept.Tie as tie
+
+-- where every slice has its length: the arguments, and the lengths
+abbrev start : tie.Else3 → tie.Start
+start x = x .before .before .before .before .before .before .before
+
+sized : (x : tie.Else3) → VerifierSizes (now (start x .args .header)) (now (start x .args .estimator)) (now (start x .args .judgement))
+sized x = record { header-size = x .before .before .if1 .left; estimator-size = x .before .if2 .left; judgement-size = x .if3 .left }
 
 returns : tie.Need-returns
 returns c = Accept.size (λ s. c .if1 .taken (s .header-size))
@@ -44,11 +51,14 @@ same-length c = search needs
 
 returns-4 : tie.Need-returns-4
 returns-4 c =
-    let a = c .before .before .before .before .before .before .before .before .before .before .before .before .before .before .before .args in
-    let called = c .before .before .before .before .accept in
-    accept-refused (now (a .table)) (now (a .header)) (now (a .estimator)) (now (a .judgement)) (c .before .before .before .before .before .read-header .result) (called .result .estimator) (called .result .answer)
-    (record { header-size = c .before .before .before .before .before .before .before .before .before .before .if1 .left; estimator-size = c .before .before .before .before .before .before .before .before .before .if2 .left; judgement-size = c .before .before .before .before .before .before .before .before .if3 .left }) (c .before .before .before .before .before .read-header .ensures)
-    (a .symbol) (c .before .before .before .before .before .before .read-estimator .result) (c .before .before .before .before .before .before .read-estimator .ensures) (called .ensures)
+    let called = c .before .before .before .before in
+    let head = called .before in
+    let read = head .before in
+    let tested = read .before .before in
+    let a = start tested .args in
+    accept-refused (now (a .table)) (now (a .header)) (now (a .estimator)) (now (a .judgement)) (head .read-header .result)
+    (called .accept .result .estimator) (called .accept .result .answer) (sized tested) (head .read-header .ensures)
+    (a .symbol) (read .read-estimator .result) (read .read-estimator .ensures) (called .accept .ensures)
     (c .before .before .answer .given .0 .0) _ (c .before .before .answer .given .1) (c .number .ensures)
 
 same-length-2 : tie.Need-same-length-2
@@ -59,12 +69,17 @@ same-length-3 c = search needs
 
 returns-5 : tie.Need-returns-5
 returns-5 c =
-    let a = c .before .before .before .before .before .before .before .before .before .before .before .before .before .before .before .before .before .before .before .before .before .before .before .args in
-    let called = c .before .before .before .before .before .before .before .before .before .before .before .before .accept in
-    accept-accepted (now (a .table)) (now (a .header)) (now (a .estimator)) (now (a .judgement)) (c .before .before .before .before .before .before .before .before .before .before .before .before .before .read-header .result) (called .result .estimator) (called .result .answer)
-    (record { header-size = c .before .before .before .before .before .before .before .before .before .before .before .before .before .before .before .before .before .before .if1 .left; estimator-size = c .before .before .before .before .before .before .before .before .before .before .before .before .before .before .before .before .before .if2 .left; judgement-size = c .before .before .before .before .before .before .before .before .before .before .before .before .before .before .before .before .if3 .left }) (c .before .before .before .before .before .before .before .before .before .before .before .before .before .read-header .ensures)
-    (a .symbol) (c .before .before .before .before .before .before .before .before .before .before .before .before .before .before .read-estimator .result) (c .before .before .before .before .before .before .before .before .before .before .before .before .before .before .read-estimator .ensures) (called .ensures)
-    (c .before .before .before .before .before .before .before .before .before .before .answer2 .given .0 .0) _ _ (c .before .before .before .before .before .before .before .before .before .before .answer2 .given .1) (c .before .before .before .before .before .before .write-estimator .ensures) (c .before .before .write-judgement .ensures)
+    let told = c .before .before .before .before .before .before .before .before .before .before in
+    let called = told .before .before in
+    let head = called .before in
+    let read = head .before in
+    let tested = read .before .before in
+    let a = start tested .args in
+    accept-accepted (now (a .table)) (now (a .header)) (now (a .estimator)) (now (a .judgement)) (head .read-header .result)
+    (called .accept .result .estimator) (called .accept .result .answer) (sized tested) (head .read-header .ensures)
+    (a .symbol) (read .read-estimator .result) (read .read-estimator .ensures) (called .accept .ensures)
+    (told .answer2 .given .0 .0) _ _ (told .answer2 .given .1)
+    (c .before .before .before .before .before .before .write-estimator .ensures) (c .before .before .write-judgement .ensures)
 
 pub opacity-accept-spec : {M : Type 1} → statement M
 opacity-accept-spec =

@@ -29,9 +29,12 @@ same-length c = search needs
 
 returns-2 : tie.Need-returns-2
 returns-2 c =
-    let a = c .before .before .before .before .before .before .before .before .before .before .before .before .args in
-    decode-refused (now (a .encoding)) (now (a .table)) (now (a .header)) _ (c .before .before .before .before .before .before .decode .result .header) (c .before .before .before .before .before .before .decode .result .answer) (c .before .before .before .before .before .before .before .before .if1 .left) (c .before .before .before .before .before .before .decode .ensures)
-    (c .before .before .answer .given .0 .0) _ (c .before .before .answer .given .1) (c .number .ensures)
+    let called = c .before .before .before .before .before .before in
+    let tested = called .before .before in
+    let a = tested .before .before .before .before .args in
+    let told = c .before .before .answer .given in
+    decode-refused (now (a .encoding)) (now (a .table)) (now (a .header)) _ (called .decode .result .header) (called .decode .result .answer)
+    (tested .if1 .left) (called .decode .ensures) (told .0 .0) _ (told .1) (c .number .ensures)
 
 same-length-2 : tie.Need-same-length-2
 same-length-2 c = search needs
@@ -41,9 +44,12 @@ same-length-3 c = search needs
 
 returns-3 : tie.Need-returns-3
 returns-3 c =
-    let a = c .before .before .before .before .before .before .before .before .before .before .before .before .before .before .args in
-    decode-accepted (now (a .encoding)) (now (a .table)) (now (a .header)) _ (c .before .before .before .before .before .before .before .before .decode .result .header) (c .before .before .before .before .before .before .before .before .decode .result .answer) (c .before .before .before .before .before .before .before .before .before .before .if1 .left) (c .before .before .before .before .before .before .before .before .decode .ensures)
-    _ (c .before .before .before .before .enum-told .given .1) (c .before .before .write-header .ensures)
+    let told = c .before .before .before .before in
+    let called = told .before .before .before .before in
+    let tested = called .before .before in
+    let a = tested .before .before .before .before .args in
+    decode-accepted (now (a .encoding)) (now (a .table)) (now (a .header)) _ (called .decode .result .header) (called .decode .result .answer)
+    (tested .if1 .left) (called .decode .ensures) _ (told .enum-told .given .1) (c .before .before .write-header .ensures)
 
 pub opacity-decode-spec : {M : Type 1} → statement M
 opacity-decode-spec =

@@ -1,10 +1,23 @@
 -- `gateway::opacity_fresh` meets its contract.
 use denote.Ref.{now}
-use Rattle.gateway.specs.Interface.{VerifierSizes, Fresh}
+use Rattle.gateway.specs.Interface.{FreshSizes, Fresh}
 use Rattle.gateway.proofs.Entries.{fresh-refused, fresh-accepted}
 use borrow.Author.Needs.{needs}
 use Rattle.gateway.proofs.opacity_fresh.Statement.{statement}
 use Rattle.gateway.proofs.opacity_fresh.Tie as tie
+
+-- where every slice has its length: the arguments, and the lengths
+abbrev start : tie.Else4 → tie.Start
+start x = x .before .before .before .before .before .before .before .before .before
+
+sized : (x : tie.Else4)
+    → FreshSizes (now (start x .args .header)) (now (start x .args .further)) (now (start x .args .estimator)) (now (start x .args .judgement))
+sized x =
+    record {
+      verifier =
+          record { header-size = x .before .before .before .if1 .left; estimator-size = x .before .before .if2 .left; judgement-size = x .before .if3 .left };
+      further-size = x .if4 .left;
+    }
 
 returns : tie.Need-returns
 returns c = Fresh.size (λ s. c .if1 .taken (s .verifier .header-size))
@@ -48,11 +61,11 @@ returns-5 c =
     let given = called .before in
     let head = given .before in
     let tested = head .before in
-    let a = c .before .before .before .before .before .before .before .before .before .before .before .before .before .before .before .before .args in
-    let sizes : VerifierSizes (now (a .header)) (now (a .estimator)) (now (a .judgement)) = record { header-size = tested .before .before .before .if1 .left; estimator-size = tested .before .before .if2 .left; judgement-size = tested .before .if3 .left } in
-    fresh-refused (now (a .table)) (now (a .header)) (now (a .estimator)) (now (a .judgement)) (head .read-header .result) (called .fresh .result .estimator) (called .fresh .result .answer)
-    sizes (head .read-header .ensures)
-    (now (a .further)) (given .read-further .result) (record { verifier = sizes; further-size = tested .if4 .left }) (given .read-further .ensures) (called .fresh .ensures)
+    let a = start tested .args in
+    let all = sized tested in
+    fresh-refused (now (a .table)) (now (a .header)) (now (a .estimator)) (now (a .judgement)) (head .read-header .result)
+    (called .fresh .result .estimator) (called .fresh .result .answer) (all .verifier) (head .read-header .ensures)
+    (now (a .further)) (given .read-further .result) all (given .read-further .ensures) (called .fresh .ensures)
     (c .before .before .answer .given .0 .0) _ (c .before .before .answer .given .1) (c .number .ensures)
 
 same-length : tie.Need-same-length
@@ -68,12 +81,13 @@ returns-6 c =
     let given = called .before in
     let head = given .before in
     let tested = head .before in
-    let a = c .before .before .before .before .before .before .before .before .before .before .before .before .before .before .before .before .before .before .before .before .before .before .before .before .args in
-    let sizes : VerifierSizes (now (a .header)) (now (a .estimator)) (now (a .judgement)) = record { header-size = tested .before .before .before .if1 .left; estimator-size = tested .before .before .if2 .left; judgement-size = tested .before .if3 .left } in
-    fresh-accepted (now (a .table)) (now (a .header)) (now (a .estimator)) (now (a .judgement)) (head .read-header .result) (called .fresh .result .estimator) (called .fresh .result .answer)
-    sizes (head .read-header .ensures)
-    (now (a .further)) (given .read-further .result) (record { verifier = sizes; further-size = tested .if4 .left }) (given .read-further .ensures) (called .fresh .ensures)
-    (told .answer2 .given .0 .0) _ _ (told .answer2 .given .1) (c .before .before .before .before .before .before .write-estimator .ensures) (c .before .before .write-judgement .ensures)
+    let a = start tested .args in
+    let all = sized tested in
+    fresh-accepted (now (a .table)) (now (a .header)) (now (a .estimator)) (now (a .judgement)) (head .read-header .result)
+    (called .fresh .result .estimator) (called .fresh .result .answer) (all .verifier) (head .read-header .ensures)
+    (now (a .further)) (given .read-further .result) all (given .read-further .ensures) (called .fresh .ensures)
+    (told .answer2 .given .0 .0) _ _ (told .answer2 .given .1)
+    (c .before .before .before .before .before .before .write-estimator .ensures) (c .before .before .write-judgement .ensures)
 
 pub opacity-fresh-spec : {M : Type 1} → statement M
 opacity-fresh-spec =

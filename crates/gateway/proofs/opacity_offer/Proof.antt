@@ -1,11 +1,24 @@
 -- `gateway::opacity_offer` meets its contract.
 use native.Mathlib.Omega.{arith}
 use denote.Ref.{now}
-use Rattle.gateway.specs.Interface.{Offer}
+use Rattle.gateway.specs.Interface.{OfferSizes, Offer}
 use Rattle.gateway.proofs.Entries.{offer-refused, offer-released}
 use borrow.Author.Needs.{needs}
 use Rattle.gateway.proofs.opacity_offer.Statement.{statement}
 use Rattle.gateway.proofs.opacity_offer.Tie as tie
+
+-- where every slice has its length and the saved notion is one: the arguments, and the lengths
+abbrev start : tie.Else4 → tie.Start
+start x = x .before .before .before .before .before .before .before .before .before .before
+
+sized : (x : tie.Else4) → OfferSizes (now (start x .args .header)) (now (start x .args .enforcer)) (now (start x .args .release))
+sized x =
+    record {
+      header-size = x .before .before .before .before .if1 .left;
+      enforcer-size = x .before .before .before .if2 .left;
+      notion-known = omega (arith, x .before .if3 .left);
+      release-size = x .if4 .left;
+    }
 
 returns : tie.Need-returns
 returns c = Offer.size (λ s. c .if1 .taken (s .header-size))
@@ -54,12 +67,14 @@ same-length-2 c = search needs
 
 returns-5 : tie.Need-returns-5
 returns-5 c =
-    let a = c .before .before .before .before .before .before .before .before .before .before .before .before .before .before .before .before .before .before .before .before .before .args in
-    let called = c .before .before .before .before .before .before .offer in
-    offer-refused (now (a .table)) (now (a .header)) (a .symbol) (now (a .enforcer)) (now (a .output)) (now (a .release)) _ (c .before .before .before .before .before .before .before .before .read-header .result) (c .before .before .before .before .before .before .before .before .before .read-enforcer .result)
-    (called .result .enforcer) (called .result .answer)
-    (record { header-size = c .before .before .before .before .before .before .before .before .before .before .before .before .before .before .before .if1 .left; enforcer-size = c .before .before .before .before .before .before .before .before .before .before .before .before .before .before .if2 .left; notion-known = omega (arith, c .before .before .before .before .before .before .before .before .before .before .before .before .if3 .left); release-size = c .before .before .before .before .before .before .before .before .before .before .before .if4 .left })
-    (c .before .before .before .before .before .before .before .before .read-header .ensures) (c .before .before .before .before .before .before .before .before .before .read-enforcer .ensures) (called .ensures)
+    let called = c .before .before .before .before .before .before in
+    let head = called .before .before in
+    let read = head .before in
+    let tested = read .before .before in
+    let a = start tested .args in
+    offer-refused (now (a .table)) (now (a .header)) (a .symbol) (now (a .enforcer)) (now (a .output)) (now (a .release)) _
+    (head .read-header .result) (read .read-enforcer .result) (called .offer .result .enforcer) (called .offer .result .answer) (sized tested)
+    (head .read-header .ensures) (read .read-enforcer .ensures) (called .offer .ensures)
     (c .before .before .answer .given .0 .0) _ (c .before .before .answer .given .1) (c .number .ensures)
 
 same-length-3 : tie.Need-same-length-3
@@ -73,13 +88,17 @@ same-length-5 c = search needs
 
 returns-6 : tie.Need-returns-6
 returns-6 c =
-    let a = c .before .before .before .before .before .before .before .before .before .before .before .before .before .before .before .before .before .before .before .before .before .before .before .before .before .before .before .before .before .args in
-    let called = c .before .before .before .before .before .before .before .before .before .before .before .before .before .before .offer in
-    offer-released (now (a .table)) (now (a .header)) (a .symbol) (now (a .enforcer)) (now (a .output)) (now (a .release)) _ (c .before .before .before .before .before .before .before .before .before .before .before .before .before .before .before .before .read-header .result) (c .before .before .before .before .before .before .before .before .before .before .before .before .before .before .before .before .before .read-enforcer .result)
-    (called .result .enforcer) (called .result .answer)
-    (record { header-size = c .before .before .before .before .before .before .before .before .before .before .before .before .before .before .before .before .before .before .before .before .before .before .before .if1 .left; enforcer-size = c .before .before .before .before .before .before .before .before .before .before .before .before .before .before .before .before .before .before .before .before .before .before .if2 .left; notion-known = omega (arith, c .before .before .before .before .before .before .before .before .before .before .before .before .before .before .before .before .before .before .before .before .if3 .left); release-size = c .before .before .before .before .before .before .before .before .before .before .before .before .before .before .before .before .before .before .before .if4 .left })
-    (c .before .before .before .before .before .before .before .before .before .before .before .before .before .before .before .before .read-header .ensures) (c .before .before .before .before .before .before .before .before .before .before .before .before .before .before .before .before .before .read-enforcer .ensures) (called .ensures)
-    (c .before .before .before .before .before .before .before .before .before .before .answer2 .given .0 .0) _ _ (c .before .before .before .before .before .before .before .before .before .before .answer2 .given .1) (c .before .before .before .before .before .before .write-enforcer .ensures) (c .before .before .write-release .ensures)
+    let told = c .before .before .before .before .before .before .before .before .before .before in
+    let called = told .before .before .before .before in
+    let head = called .before .before in
+    let read = head .before in
+    let tested = read .before .before in
+    let a = start tested .args in
+    offer-released (now (a .table)) (now (a .header)) (a .symbol) (now (a .enforcer)) (now (a .output)) (now (a .release)) _
+    (head .read-header .result) (read .read-enforcer .result) (called .offer .result .enforcer) (called .offer .result .answer) (sized tested)
+    (head .read-header .ensures) (read .read-enforcer .ensures) (called .offer .ensures)
+    (told .answer2 .given .0 .0) _ _ (told .answer2 .given .1)
+    (c .before .before .before .before .before .before .write-enforcer .ensures) (c .before .before .write-release .ensures)
 
 pub opacity-offer-spec : {M : Type 1} → statement M
 opacity-offer-spec =

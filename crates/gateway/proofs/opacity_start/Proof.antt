@@ -1,11 +1,24 @@
 -- `gateway::opacity_start` meets its contract.
 use native.Mathlib.Omega.{arith}
 use denote.Ref.{now}
-use Rattle.gateway.specs.Interface.{Start}
+use Rattle.gateway.specs.Interface.{StartSizes, Start}
 use Rattle.gateway.proofs.Entries.{start-refused, start-started}
 use borrow.Author.Needs.{needs}
 use Rattle.gateway.proofs.opacity_start.Statement.{statement}
 use Rattle.gateway.proofs.opacity_start.Tie as tie
+
+-- where every slice has its length and the notion is one: the arguments, and the lengths
+abbrev start : tie.Else4 → tie.Start
+start x = x .before .before .before .before .before .before .before .before
+
+sized : (x : tie.Else4) → StartSizes (now (start x .args .header)) (start x .args .notion) (now (start x .args .further)) (now (start x .args .enforcer))
+sized x =
+    record {
+      header-size = x .before .before .before .if1 .left;
+      notion-known = omega (arith, x .before .before .if2 .left);
+      further-size = x .if4 .left;
+      enforcer-size = x .before .if3 .left;
+    }
 
 returns : tie.Need-returns
 returns c = Start.size (λ s. c .if1 .taken (s .header-size))
@@ -50,10 +63,10 @@ returns-5 c =
     let under = given .before in
     let head = under .before in
     let tested = head .before in
-    let a = c .before .before .before .before .before .before .before .before .before .before .before .before .before .before .before .before .args in
-    start-refused (now (a .table)) (now (a .header)) (a .notion) (now (a .further)) (now (a .enforcer)) (head .read-header .result) (under .notion-of .result) (given .read-further .result)
-    (called .start .result .enforcer) (called .start .result .answer)
-    (record { header-size = tested .before .before .before .if1 .left; notion-known = omega (arith, tested .before .before .if2 .left); further-size = tested .if4 .left; enforcer-size = tested .before .if3 .left })
+    let a = start tested .args in
+    start-refused (now (a .table)) (now (a .header)) (a .notion) (now (a .further)) (now (a .enforcer))
+    (head .read-header .result) (under .notion-of .result) (given .read-further .result)
+    (called .start .result .enforcer) (called .start .result .answer) (sized tested)
     (head .read-header .ensures) (under .notion-of .ensures) (given .read-further .ensures) (called .start .ensures)
     (c .before .before .answer .given .0 .0) _ (c .before .before .answer .given .1) (c .number .ensures)
 
@@ -62,17 +75,18 @@ same-length c = search needs
 
 returns-6 : tie.Need-returns-6
 returns-6 c =
-    let called = c .before .before .before .before .before .before .before in
+    let told = c .before .before .before .before .before in
+    let called = told .before .before in
     let given = called .before in
     let under = given .before in
     let head = under .before in
     let tested = head .before in
-    let a = c .before .before .before .before .before .before .before .before .before .before .before .before .before .before .before .before .before .before .before .args in
-    start-started (now (a .table)) (now (a .header)) (a .notion) (now (a .further)) (now (a .enforcer)) (head .read-header .result) (under .notion-of .result) (given .read-further .result)
-    (called .start .result .enforcer) (called .start .result .answer)
-    (record { header-size = tested .before .before .before .if1 .left; notion-known = omega (arith, tested .before .before .if2 .left); further-size = tested .if4 .left; enforcer-size = tested .before .if3 .left })
+    let a = start tested .args in
+    start-started (now (a .table)) (now (a .header)) (a .notion) (now (a .further)) (now (a .enforcer))
+    (head .read-header .result) (under .notion-of .result) (given .read-further .result)
+    (called .start .result .enforcer) (called .start .result .answer) (sized tested)
     (head .read-header .ensures) (under .notion-of .ensures) (given .read-further .ensures) (called .start .ensures)
-    _ (c .before .before .before .before .before .enum-told .given .1) (c .before .before .write-enforcer .ensures)
+    _ (told .enum-told .given .1) (c .before .before .write-enforcer .ensures)
 
 pub opacity-start-spec : {M : Type 1} → statement M
 opacity-start-spec =

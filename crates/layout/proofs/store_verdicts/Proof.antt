@@ -1,8 +1,5 @@
 -- `layout::store_verdicts` meets its contract: two bytes.
 use native.Mathlib.Omega.{arith}
-use mathlib.Core.Path.{refl}
-use mathlib.Core.List.{[], _∷_}
-use Rattle.layout.specs.Layout.{Stored}
 use Rattle.layout.proofs.Stores.{then}
 use borrow.Author.Needs.{needs}
 use Rattle.layout.proofs.store_verdicts.Statement.{statement}

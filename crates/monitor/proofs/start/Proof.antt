@@ -7,7 +7,7 @@ use Rattle.verifier.specs.declared.Answer.{Answer}
 use Rattle.opacity.specs.Secrets.{noFurther}
 use Rattle.verifier.specs.Replies as verifier
 use Rattle.enforcer.specs.declared.StartAnswer.{StartAnswer}
-use Rattle.enforcer.specs.Offerings.{begun, Starting}
+use Rattle.enforcer.specs.Offerings.{startOutcome, Starting}
 use Rattle.monitor.proofs.Openings.{not-begun, is-begun, verified}
 use borrow.Author.Needs.{needs}
 use Rattle.monitor.proofs.start.Statement.{statement}
@@ -20,9 +20,9 @@ no-further-requires c κs = search needs
 abbrev first : tie.After-start → tie.Start
 first u = u .before .before .before
 
-started : (u : tie.After-start) → Starting (first u .args .t1) (first u .args .header) noFurther Weak (begun (u .start .result .answer)) (u .start .result .enforcer)
+started : (u : tie.After-start) → Starting (first u .args .t1) (first u .args .header) noFurther Weak (startOutcome (u .start .result .answer)) (u .start .result .enforcer)
 started u =
-    subst (λ (f : Further). Starting (first u .args .t1) (first u .args .header) f Weak (begun (u .start .result .answer)) (u .start .result .enforcer))
+    subst (λ (f : Further). Starting (first u .args .t1) (first u .args .header) f Weak (startOutcome (u .start .result .answer)) (u .start .result .enforcer))
     (u .before .before .no-further .ensures) (u .start .ensures)
 
 abbrev called : tie.After-fresh → tie.After-start
@@ -82,7 +82,7 @@ returns-2 c =
     let s = first u in
     let told = c .before .before .answer .given in
     rw (c .refused .ensures .0) (not-begun (s .args .t1) (s .args .header) (s .args .events) (numberOf (told .0 .0)) (u .start .result .enforcer) _ _ _ (s .pre)
-    (subst (λ (x : StartAnswer). Starting (s .args .t1) (s .args .header) noFurther Weak (begun x) (u .start .result .enforcer)) (told .1) (started u)) (c .refused .ensures .1))
+    (subst (λ (x : StartAnswer). Starting (s .args .t1) (s .args .header) noFurther Weak (startOutcome x) (u .start .result .enforcer)) (told .1) (started u)) (c .refused .ensures .1))
 
 returns-3 : tie.Need-returns-3
 returns-3 c =
@@ -91,7 +91,7 @@ returns-3 c =
     let s = first u in
     let told = c .before .before .before .verified .given in
     is-begun (s .args .t1) (s .args .header) (s .args .events) (u .start .result .enforcer) (told .0 .0) (v .fresh .result .estimator)
-    (subst (λ (x : StartAnswer). Starting (s .args .t1) (s .args .header) noFurther Weak (begun x) (u .start .result .enforcer)) (v .before .before .enum-told .given .1) (started u))
+    (subst (λ (x : StartAnswer). Starting (s .args .t1) (s .args .header) noFurther Weak (startOutcome x) (u .start .result .enforcer)) (v .before .before .enum-told .given .1) (started u))
     (subst (λ (x : Answer). verifier.Opening (s .args .t1) (s .args .header) noFurther (verifier.said noFurther x) (v .fresh .result .estimator)) (told .1) (fresh v))
     (subst (verifier.Others noFurther) (told .1) (no-others v))
 

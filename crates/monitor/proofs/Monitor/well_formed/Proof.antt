@@ -24,10 +24,10 @@ returns-3 : tie.Need-returns-3
 returns-3 c =
     let good = holds (c .before .before .before .before .before .well-formed .result) (not-false _ (c .before .before .before .before .if1 .left)) (c .before .before .before .before .before .well-formed .ensures) in
     let agree = holds (c .before .before .before .balanced .result) (not-false _ (c .before .before .if2 .left)) (c .before .before .before .balanced .ensures) in
-    decided-as (c .sound2 .result)
+    decided-as (c .well-formed2 .result)
     (λ x. record { sound = x .0; estimator = good .1; enforcer = x .1; balanced = agree })
     (λ w. (w .sound, w .enforcer))
-    (c .sound2 .ensures)
+    (c .well-formed2 .ensures)
 
 pub well-formed-spec : {M : Type 1} → statement M
 well-formed-spec =

@@ -1,0 +1,130 @@
+-- Every guarantee, by its proof. Assumes nothing.
+use Rattle.guarantees.specs.FirstPoint as first
+use Rattle.guarantees.specs.SecondPoint as second
+use Rattle.guarantees.specs.ThirdPoint as third
+use Rattle.guarantees.specs.Published as published
+use Rattle.guarantees.specs.Symbols as symbols
+use Rattle.guarantees.specs.WholeLog as log
+use Rattle.guarantees.specs.SavedBytes as saved
+use Rattle.verifier.proofs.Growing as growing
+use Rattle.verifier.proofs.SecondPoint as verifier
+use Rattle.verifier.proofs.Corresponding as calls
+use Rattle.enforcer.proofs.ForAll as for-all
+use Rattle.enforcer.proofs.ThirdPoint as enforcer
+use Rattle.enforcer.proofs.Corresponding as offers
+use Rattle.published.proofs.SourceLaws as source
+use Rattle.published.proofs.Corollary as corollary
+use Rattle.published.proofs.Estimators as estimators
+use Rattle.published.proofs.SoundVerdicts as sound-verdicts
+use Rattle.published.proofs.SafeOutputs as safe-outputs
+use Rattle.monitor.proofs.LogOutput as log-output
+use Rattle.monitor.proofs.OneOutput as one-log-output
+use Rattle.monitor.proofs.Idle as idle
+use Rattle.gateway.proofs.SavedPoints as saved-points
+use Rattle.guarantees.proofs.Answers.{decode-answers, fresh-answers, accept-answers, start-answers, offer-answers}
+
+-- the first point
+pub every-decode : first.EveryDecode
+every-decode = decode-answers
+
+pub every-fresh : first.EveryFresh
+every-fresh = fresh-answers
+
+pub every-accept : first.EveryAccept
+every-accept = accept-answers
+
+pub every-start : first.EveryStart
+every-start = start-answers
+
+pub every-offer : first.EveryOffer
+every-offer = offer-answers
+
+-- the second point
+pub second-point : second.SecondPoint
+second-point = verifier.second-point
+
+pub one-estimator : second.OneEstimator
+one-estimator = growing.grown-unique
+
+-- the third point
+pub third-point : third.ThirdPoint
+third-point = enforcer.third-point
+
+pub sure-exactly : third.SureExactly
+sure-exactly = for-all.unsafe-exactly
+
+pub one-enforcer : third.OneEnforcer
+one-enforcer = enforcer.same-history
+
+-- by the published definitions
+pub corollary-1 : published.Corollary1
+corollary-1 = corollary.corollary-1-all
+
+pub proposition-3 : published.Proposition3
+proposition-3 = estimators.proposition-3
+
+pub proposition-4 : published.Proposition4
+proposition-4 = estimators.proposition-4
+
+pub verifier-gamma : published.VerifierGamma
+verifier-gamma = estimators.verifier-gamma
+
+pub definition-6 : published.Definition6
+definition-6 = sound-verdicts.definition-6
+
+pub second-point-published : published.SecondPointPublished
+second-point-published = source.second-point-published
+
+pub third-point-published : published.ThirdPointPublished
+third-point-published = safe-outputs.third-point-published
+
+pub definition-13 : published.Definition13
+definition-13 = safe-outputs.definition-13
+
+-- symbols
+pub calls-alike : symbols.CallsAlike
+calls-alike t h h′ same f = calls.alike-calls t h h′ (same .like) (same .secret) (same .k) f
+
+pub offers-alike : symbols.OffersAlike
+offers-alike notion t h h′ same f = offers.alike-offers notion t h h′ f (same .like) (same .secret) (same .k)
+
+pub calls-spelled : symbols.CallsSpelled
+calls-spelled t h h′ x f = calls.distinct-calls t h h′ (x .distinct) (x .without) (x .same) (x .secret) (x .k) (x .small) f
+
+pub offers-spelled : symbols.OffersSpelled
+offers-spelled notion t h h′ x f = offers.distinct-offers notion t h h′ f (x .distinct) (x .without) (x .same) (x .secret) (x .k) (x .small)
+
+-- a whole log
+pub prints-exactly : log.PrintsExactly
+prints-exactly = log-output.prints-exactly
+
+pub one-output : log.OneOutput
+one-output = one-log-output.one-output
+
+pub idle-exactly : log.IdleExactly
+idle-exactly = idle.idle-exactly
+
+-- saved bytes
+pub fresh-by-secrets : saved.FreshBySecrets
+fresh-by-secrets = saved-points.saved-fresh
+
+pub start-by-secrets : saved.StartBySecrets
+start-by-secrets = saved-points.saved-start
+
+pub encoded-second-point : saved.EncodedSecondPoint
+encoded-second-point = saved-points.encoded-second-point
+
+pub saved-third-point : saved.SavedThirdPoint
+saved-third-point = saved-points.saved-third-point
+
+pub accept-within : saved.AcceptWithin
+accept-within = saved-points.accept-within
+
+pub offer-within : saved.OfferWithin
+offer-within = saved-points.offer-within
+
+pub fresh-past-count : saved.FreshPastCount
+fresh-past-count = saved-points.past-fresh
+
+pub start-past-count : saved.StartPastCount
+start-past-count = saved-points.past-start

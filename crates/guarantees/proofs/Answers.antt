@@ -71,21 +71,21 @@ not-offer e = subst Accepts e tt
     Accepts (offering.released r) = Unit {0}
 
 -- what a parser answers: one refusal, or one value
-one-refusal : {A : Type 0} {r s : Refusal} → parser.refused {A} r ≡ parser.refused {A} s → r ≡ s
+one-refusal : {A : Type 0} {r s : Refusal} → _≡_ {A = Parsed A} (parser.refused r) (parser.refused s) → r ≡ s
 one-refusal {A} {r} e = ap pick e
   where
     pick : Parsed A → Refusal
     pick (parser.refused x) = x
     pick (parser.done a next) = r
 
-one-value : {A : Type 0} {a b : A} {m n : ℕ} → parser.done a m ≡ parser.done b n → a ≡ b
+one-value : {A : Type 0} {a b : A} {m n : ℕ} → _≡_ {A = Parsed A} (parser.done a m) (parser.done b n) → a ≡ b
 one-value {A} {a} e = ap pick e
   where
     pick : Parsed A → A
     pick (parser.refused x) = a
     pick (parser.done y next) = y
 
-never-both : {A : Type 0} {r : Refusal} {a : A} {n : ℕ} → parser.refused r ≡ parser.done a n → ⊥
+never-both : {A : Type 0} {r : Refusal} {a : A} {n : ℕ} → _≡_ {A = Parsed A} (parser.refused r) (parser.done a n) → ⊥
 never-both {A} e = subst Refuses e tt
   where
     Refuses : Parsed A → Type 0

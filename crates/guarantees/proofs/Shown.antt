@@ -99,10 +99,10 @@ pub prints-exactly : log.PrintsExactly
 prints-exactly = log-output.prints-exactly
 
 pub one-output : log.OneOutput
-one-output = one-log-output.one-output
+one-output input a b = one-log-output.one-output input
 
 pub idle-exactly : log.IdleExactly
-idle-exactly = idle.idle-exactly
+idle-exactly input t h = idle.idle-exactly
 
 -- saved bytes
 pub fresh-by-secrets : saved.FreshBySecrets

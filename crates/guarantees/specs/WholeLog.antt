@@ -16,8 +16,8 @@ PrintsExactly = (input text : List ℕ) → Runs input text → (other : List �
 
 -- an input has one output
 abbrev pub OneOutput : Type 0
-OneOutput = (input : List ℕ) {a b : List ℕ} → Output input a → Output input b → a ≡ b
+OneOutput = (input a b : List ℕ) → Output input a → Output input b → a ≡ b
 
 -- what a log without any event byte prints (02, S-4)
 abbrev pub IdleExactly : Type 0
-IdleExactly = {input t : List ℕ} {h : Header} → Monitored input t h → length input ≡ frontSize input → (text : List ℕ) → Output input text ↔ Idle t h text
+IdleExactly = (input t : List ℕ) (h : Header) → Monitored input t h → length input ≡ frontSize input → (text : List ℕ) → Output input text ↔ Idle t h text

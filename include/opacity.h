@@ -3,7 +3,7 @@
  *
  * Link with target/staticlib/libgateway.a, which `rt staticlib gateway` writes (x86-64). Nothing is allocated and nothing is kept between calls:
  * the caller lends all memory, and a header or a saved state is bytes of a fixed layout that may be stored, sent and copied. The contracts of the
- * five functions are `crates/gateway/specs/Interface.antt` (what each answers and leaves) and `Layout.antt` (the layouts); they are proved for
+ * five functions are `crates/gateway/specs/Interface.antt` (what each answers and leaves) and `crates/layout/specs` (the layouts); they are proved for
  * every content of the bytes and every length. Words of the requirements, where ours differ: docs/GLOSSARY.md.
  *
  * Slices. A slice passes as a pointer and the number of its elements. C asks three things, which no function can test:

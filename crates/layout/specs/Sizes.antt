@@ -1,5 +1,5 @@
--- Every place and every size of the layout by its name, once; src/sizes.rt has each as a constant of the same name. A size counts bytes, and a place those
--- before it in what it belongs to.
+-- Every place and every size of the layout by its name, once; src/sizes.rt has those that the code needs as constants of the same names. A size counts
+-- bytes, and a place those before it in what it belongs to.
 use Prim.Native.Nat.{ℕ, _+_, _*_}
 
 -- a set of states is a word, a set of events half of one

@@ -1,11 +1,12 @@
-// Every place and every size of the layout by its name, once: specs/Sizes has each under the same name, and says what it is.
+// Every place and every size of the layout that the code needs, by its name, once: specs/Sizes has each under the same name. (A contract cannot cite a
+// constant; the proofs refuse one that differs.)
 
-// a set of states is a word, a set of events half of one
+// A set of states is a word, a set of events half of one.
 pub const WORD_SIZE: usize = 8;
 
 pub const HALF_SIZE: usize = 4;
 
-// a header: the initial state, K, the secret set, the observable set, the symbols of all events
+// A header: the initial state, K, the secret set, the observable set, the symbols of all events.
 pub const EVENT_COUNT: usize = 32;
 
 pub const INITIAL_PLACE: usize = 0;
@@ -20,14 +21,12 @@ pub const SYMBOLS_PLACE: usize = OBSERVABLE_PLACE + HALF_SIZE;
 
 pub const HEADER_SIZE: usize = SYMBOLS_PLACE + EVENT_COUNT;
 
-// a further secret: the set of its states, its K
+// A further secret: the set of its states, its K.
 pub const SECRET_K_PLACE: usize = WORD_SIZE;
 
 pub const SECRET_SIZE: usize = SECRET_K_PLACE + 1;
 
-// further secrets: how many are given, and three of them
-pub const FURTHER_COUNT: usize = 3;
-
+// Further secrets: how many are given, and three of them.
 pub const FIRST_SECRET_PLACE: usize = 1;
 
 pub const SECOND_SECRET_PLACE: usize = FIRST_SECRET_PLACE + SECRET_SIZE;
@@ -36,7 +35,7 @@ pub const THIRD_SECRET_PLACE: usize = SECOND_SECRET_PLACE + SECRET_SIZE;
 
 pub const FURTHER_SIZE: usize = THIRD_SECRET_PLACE + SECRET_SIZE;
 
-// an estimator: how many symbols are remembered, those symbols, a state set for each of them and one more, the further secrets
+// An estimator: how many symbols are remembered, those symbols, a state set for each of them and one more, the further secrets.
 pub const MOST_REMEMBERED: usize = 15;
 
 pub const ENTRY_COUNT: usize = 16;
@@ -51,7 +50,7 @@ pub const FURTHER_PLACE: usize = ENTRIES_PLACE + WORD_SIZE * ENTRY_COUNT;
 
 pub const ESTIMATOR_SIZE: usize = FURTHER_PLACE + FURTHER_SIZE;
 
-// an enforcer: its estimator, its notion, how many symbols are pending, those symbols, their waits
+// An enforcer: its estimator, its notion, how many symbols are pending, those symbols, their waits.
 pub const MOST_PENDING: usize = 16;
 
 pub const NOTION_PLACE: usize = ESTIMATOR_SIZE;
@@ -64,20 +63,20 @@ pub const WAITS_PLACE: usize = PENDING_SYMBOLS_PLACE + MOST_PENDING;
 
 pub const ENFORCER_SIZE: usize = WAITS_PLACE + MOST_PENDING;
 
-// the bytes of the two notions
+// The bytes of the two notions.
 pub const WEAK_BYTE: u8 = 0;
 
 pub const STRONG_BYTE: u8 = 1;
 
-// the byte of a verdict that is no leak
+// The byte of a verdict that is no leak.
 pub const NO_LEAK_BYTE: u8 = 255;
 
-// the two verdicts of one secret
+// The two verdicts of one secret.
 pub const STRONG_PLACE: usize = 1;
 
 pub const VERDICTS_SIZE: usize = 2;
 
-// a judgement: the verdicts of the automaton's own secret and of three further ones, how many states are possible
+// A judgement: the verdicts of the automaton's own secret and of three further ones, how many states are possible.
 pub const OWN_VERDICTS_PLACE: usize = 0;
 
 pub const FIRST_VERDICTS_PLACE: usize = OWN_VERDICTS_PLACE + VERDICTS_SIZE;
@@ -90,7 +89,7 @@ pub const JUDGED_POSSIBLE_PLACE: usize = THIRD_VERDICTS_PLACE + VERDICTS_SIZE;
 
 pub const JUDGEMENT_SIZE: usize = JUDGED_POSSIBLE_PLACE + 1;
 
-// a release: how many symbols were released, how many states are possible
+// A release: how many symbols were released, how many states are possible.
 pub const RELEASED_PLACE: usize = 0;
 
 pub const RELEASED_POSSIBLE_PLACE: usize = 1;

@@ -1,4 +1,4 @@
--- `monitor::start` meets its contract: a start and a fresh verifier with no further secret.
+-- `monitor::opening::start` meets its contract: a start and a fresh verifier with no further secret.
 use mathlib.Core.Path.{subst}
 use Rattle.refusal.specs.Refusals.{numberOf}
 use Rattle.opacity.specs.declared.Notion.the-variants.{Weak}
@@ -10,8 +10,8 @@ use Rattle.enforcer.specs.declared.StartAnswer.{StartAnswer}
 use Rattle.enforcer.specs.Offerings.{begun, Starting}
 use Rattle.monitor.proofs.Openings.{not-begun, is-begun, verified}
 use borrow.Author.Needs.{needs}
-use Rattle.monitor.proofs.start.Statement.{statement}
-use Rattle.monitor.proofs.start.Tie as tie
+use Rattle.monitor.proofs.opening.start.Statement.{statement}
+use Rattle.monitor.proofs.opening.start.Tie as tie
 
 no-further-requires : tie.Need-no-further-requires
 no-further-requires c κs = search needs
@@ -20,7 +20,8 @@ no-further-requires c κs = search needs
 abbrev first : tie.After-start → tie.Start
 first u = u .before .before .before
 
-started : (u : tie.After-start) → Starting (first u .args .t1) (first u .args .header) noFurther Weak (begun (u .start .result .answer)) (u .start .result .enforcer)
+started : (u : tie.After-start) → Starting (first u .args .t1) (first u .args .header) noFurther Weak (begun (u .start .result .answer))
+    (u .start .result .enforcer)
 started u =
     subst (λ (f : Further). Starting (first u .args .t1) (first u .args .header) f Weak (begun (u .start .result .answer)) (u .start .result .enforcer))
     (u .before .before .no-further .ensures) (u .start .ensures)
@@ -28,7 +29,8 @@ started u =
 abbrev called : tie.After-fresh → tie.After-start
 called u = u .before .before .before .before
 
-fresh : (u : tie.After-fresh) → verifier.Opening (first (called u) .args .t1) (first (called u) .args .header) noFurther (verifier.said noFurther (u .fresh .result .answer))
+fresh : (u : tie.After-fresh) → verifier.Opening (first (called u) .args .t1) (first (called u) .args .header) noFurther
+    (verifier.said noFurther (u .fresh .result .answer))
     (u .fresh .result .estimator)
 fresh u =
     let a = first (called u) .args in
@@ -73,7 +75,8 @@ returns : tie.Need-returns
 returns c =
     let u = c .before .before .before in
     let s = first (called u) in
-    absurd (verified (s .pre) (subst (λ (x : Answer). verifier.Opening (s .args .t1) (s .args .header) noFurther (verifier.said noFurther x) (u .fresh .result .estimator))
+    absurd (verified (s .pre) (subst (λ (x : Answer). verifier.Opening (s .args .t1) (s .args .header) noFurther (verifier.said noFurther x)
+    (u .fresh .result .estimator))
     (c .before .enum-told2 .given .1) (fresh u)))
 
 returns-2 : tie.Need-returns-2
@@ -82,7 +85,8 @@ returns-2 c =
     let s = first u in
     let told = c .before .before .answer .given in
     rw (c .refused .ensures .0) (not-begun (s .args .t1) (s .args .header) (s .args .events) (numberOf (told .0 .0)) (u .start .result .enforcer) _ _ _ (s .pre)
-    (subst (λ (x : StartAnswer). Starting (s .args .t1) (s .args .header) noFurther Weak (begun x) (u .start .result .enforcer)) (told .1) (started u)) (c .refused .ensures .1))
+    (subst (λ (x : StartAnswer). Starting (s .args .t1) (s .args .header) noFurther Weak (begun x) (u .start .result .enforcer)) (told .1) (started u))
+    (c .refused .ensures .1))
 
 returns-3 : tie.Need-returns-3
 returns-3 c =
@@ -91,8 +95,10 @@ returns-3 c =
     let s = first u in
     let told = c .before .before .before .verified .given in
     is-begun (s .args .t1) (s .args .header) (s .args .events) (u .start .result .enforcer) (told .0 .0) (v .fresh .result .estimator)
-    (subst (λ (x : StartAnswer). Starting (s .args .t1) (s .args .header) noFurther Weak (begun x) (u .start .result .enforcer)) (v .before .before .enum-told .given .1) (started u))
-    (subst (λ (x : Answer). verifier.Opening (s .args .t1) (s .args .header) noFurther (verifier.said noFurther x) (v .fresh .result .estimator)) (told .1) (fresh v))
+    (subst (λ (x : StartAnswer). Starting (s .args .t1) (s .args .header) noFurther Weak (begun x) (u .start .result .enforcer))
+    (v .before .before .enum-told .given .1) (started u))
+    (subst (λ (x : Answer). verifier.Opening (s .args .t1) (s .args .header) noFurther (verifier.said noFurther x) (v .fresh .result .estimator)) (told .1)
+    (fresh v))
     (subst (verifier.Others noFurther) (told .1) (no-others v))
 
 pub start-spec : {M : Type 1} → statement M

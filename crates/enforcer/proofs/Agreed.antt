@@ -51,7 +51,8 @@ alike-safe-all p q like a b x cs n notion = (
 )
 
 -- so where no two observable events share a symbol, the symbols of events are safe to release exactly where these events are without symbols
-pub distinct-safe : (p q : Automaton) → Distinct p → WithoutSymbols q → SameButSymbols p q → (es : List ℕ) → Events p es → (cs : List Secret) (n : ℕ) (notion : Notion)
+pub distinct-safe : (p q : Automaton) → Distinct p → WithoutSymbols q → SameButSymbols p q → (es : List ℕ) → Events p es
+    → (cs : List Secret) (n : ℕ) (notion : Notion)
     → SafeForAll notion p cs (symbolsOf p es) n ↔ SafeForAll notion q cs es n
 distinct-safe p q d w s es each = alike-safe-all p q (distinct-alike p q d w s) (symbolsOf p es) es (events-spelled p q d w s es each)
 
@@ -88,7 +89,8 @@ module _ (p q : Automaton) (same : SameSymbols p q) where
         possible = possible-agree p q trace trace (same-agree p q same trace) (g .possible);
         estimator = estimators.same-grown p q same trace (largest cs) (s .estimator) .0 (g .estimator);
         under = g .under;
-        queue = same-queue (SafeForAll notion p cs) (SafeForAll notion q cs) (λ first n. same-safe-all first cs n notion) trace (s .count) (s .pending) (s .waits) (g .queue);
+        queue = same-queue (SafeForAll notion p cs) (SafeForAll notion q cs) (λ first n. same-safe-all first cs n notion) trace (s .count) (s .pending)
+            (s .waits) (g .queue);
         pending-padded = g .pending-padded;
         waits-padded = g .waits-padded;
       }

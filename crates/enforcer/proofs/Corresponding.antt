@@ -200,7 +200,8 @@ module _ (t : List ℕ) (h h′ : Header) (like : Alike (automatonOf t h) (autom
           → Pairs (SameOffered t h h′) os os′ → Offers t h s os e → Offers t h′ s′ os′ e′ → Corresponds (automatonOf t h) (automatonOf t h′) os os′
       all-pairs a b s s′ os os′ e e′ x g g′ no-more done done =
           record { answers = no-more; accepted = no-events _ _; released = no-events _ _; counts = refl }
-      all-pairs a b s s′ os os′ e e′ x g g′ (both {x = o} {y = o′} {xs = rest} {ys = rest′} offered more) (next {m = m} step steps) (next {m = m′} step′ steps′) =
+      all-pairs a b s s′ os os′ e e′ x g g′ (both {x = o} {y = o′} {xs = rest} {ys = rest′} offered more) (next {m = m} step steps)
+          (next {m = m′} step′ steps′) =
           let y = one-pair a b s s′ o o′ m m′ x g g′ offered step step′ in
           let z : Corresponds (automatonOf t h) (automatonOf t h′) rest rest′ =
           all-pairs (a ++ takenBy (o .says) (o .byte)) (b ++ takenBy (o′ .says) (o′ .byte)) m m′ rest rest′ e e′ (join-events _ _ a b _ _ x (y .taken))
@@ -213,7 +214,8 @@ module _ (t : List ℕ) (h h′ : Header) (like : Alike (automatonOf t h) (autom
           }
 
 -- THE THEOREM of S-2 for lists of offers: under either notion, two enforcers that starts with the same further secrets have handed back
-pub alike-offers : (notion : Notion) (t : List ℕ) (h h′ : Header) (f : Further) → Alike (automatonOf t h) (automatonOf t h′) → h .secret ≡ h′ .secret → h .k ≡ h′ .k
+pub alike-offers : (notion : Notion) (t : List ℕ) (h h′ : Header) (f : Further) → Alike (automatonOf t h) (automatonOf t h′) → h .secret ≡ h′ .secret
+    → h .k ≡ h′ .k
     → (s s′ : Enforcer) (os os′ : List Offer) (e e′ : Enforcer) → Starting t h f notion started s → Starting t h′ f notion started s′
     → Pairs (SameOffered t h h′) os os′ → Offers t h s os e → Offers t h′ s′ os′ e′ → Corresponds (automatonOf t h) (automatonOf t h′) os os′
 alike-offers notion t h h′ f like secret k s s′ os os′ e e′ start start′ pairs offers offers′ =
@@ -279,7 +281,8 @@ module _ (p q : Automaton) (like : Alike p q) (f : Further) (cs : List Secret) (
       first-alike r r′ (not-started 13) x y (λ m z. omega (arith, m, z .0)) (λ z m. omega (arith, m, z .0)) (λ a b. backs-alike (a .1) (b .1))
 
 -- starts are refused alike: 9 where the headers are automata alike, 13 and 14 by the further secrets, 8 by the verdicts of the empty trace
-pub alike-starts : (notion : Notion) (t : List ℕ) (h h′ : Header) (f : Further) → Alike (automatonOf t h) (automatonOf t h′) → h .secret ≡ h′ .secret → h .k ≡ h′ .k
+pub alike-starts : (notion : Notion) (t : List ℕ) (h h′ : Header) (f : Further) → Alike (automatonOf t h) (automatonOf t h′) → h .secret ≡ h′ .secret
+    → h .k ≡ h′ .k
     → WellFormed t h ↔ WellFormed t h′ → (r r′ : StartOutcome) (s s′ : Enforcer) → Starting t h f notion r s → Starting t h′ f notion r′ s′ → r ≡ r′
 alike-starts notion t h h′ f like secret k sounds r r′ s s′ x y =
     first-alike r r′ (not-started 9) (reasons t h f notion r s x)
@@ -305,7 +308,8 @@ module _ (notion : Notion) (t : List ℕ) (h h′ : Header) (f : Further) (d : D
       (x, spelled-own _ _ _ _ w same (x .accepted) .1, spelled-own _ _ _ _ w same (x .released) .1)
 
   -- the one with symbols has started
-  pub distinct-offers : (r′ : StartOutcome) (s s′ : Enforcer) → Starting t h f notion started s → Starting t h′ f notion r′ s′ → (r′ ≡ started) × OffersFollow t h h′ s s′
+  pub distinct-offers : (r′ : StartOutcome) (s s′ : Enforcer) → Starting t h f notion started s → Starting t h′ f notion r′ s′
+      → (r′ ≡ started) × OffersFollow t h h′ s s′
   distinct-offers r′ s s′ x y =
       let e = sym (distinct-starts (started-sound notion t h f s x) started r′ s s′ x y) in
       (e, follow s s′ x (subst (λ (r : StartOutcome). Starting t h′ f notion r s′) e y))

@@ -114,7 +114,8 @@ take-map g (suc n) (x ∷ xs) = ap (λ (l : List _). g x ∷ l) (take-map g n xs
 chosen-at : (g : Told → Steps) (n : ℕ) (l : List Told) (i : ℕ) → g noneTold ≡ none → getD (take n (map g l)) i none ≡ g (getD (take n l) i noneTold)
 chosen-at g n l i is = ap (λ (x : List Steps). getD x i none) (take-map g n l) ∙ getD-map g (take n l) i noneTold none is
 
-pub chosen-told : (notion : Notion) (f : Further) (v : SecretVerdicts) (i : ℕ) → toldAt notion (toldEach f v) i ≡ getD (stepsEach f (chosenEach notion v)) i none
+pub chosen-told : (notion : Notion) (f : Further) (v : SecretVerdicts) (i : ℕ) → toldAt notion (toldEach f v) i
+    ≡ getD (stepsEach f (chosenEach notion v)) i none
 chosen-told Weak f v i = sym (chosen-at (stepsBy Weak) (suc (f .count)) (map toldOf (numbered v)) i refl)
 chosen-told Strong f v i = sym (chosen-at (stepsBy Strong) (suc (f .count)) (map toldOf (numbered v)) i refl)
 
@@ -128,7 +129,8 @@ wait-for-all notion p cs first vs tells w most n h = (
 )
 
 -- where somebody is sure of one of them, the prefix is not safe for all
-pub some-not-all : (notion : Notion) (p : Automaton) (cs : List Secret) (first : List ℕ) (n : ℕ) → UnsafeForSome notion p cs first n → SafeForAll notion p cs first n → ⊥
+pub some-not-all : (notion : Notion) (p : Automaton) (cs : List Secret) (first : List ℕ) (n : ℕ) → UnsafeForSome notion p cs first n
+    → SafeForAll notion p cs first n → ⊥
 some-not-all notion p cs first n u safe = unsafe-not-safe notion p _ first n (u .unsafe) (safe .each (u .number) (u .given))
 
 module _ (notion : Notion) (p : Automaton) (cs : List Secret) (first : List ℕ) where
@@ -146,7 +148,8 @@ module _ (notion : Notion) (p : Automaton) (cs : List Secret) (first : List ℕ)
       waits : ℕ → ℕ
       waits i = waitOf (secretAt cs i .k) (verdictOf i .0)
 
-      go : ((i : ℕ) → i < length cs → waits i ≤ n - length first) ⊎ ((i : ℕ) × (i < length cs) × (n - length first < waits i)) → UnsafeForSome notion p cs first n
+      go : ((i : ℕ) → i < length cs → waits i ≤ n - length first) ⊎ ((i : ℕ) × (i < length cs) × (n - length first < waits i))
+          → UnsafeForSome notion p cs first n
       go (inl all) = absurd (bad (record { each = λ i g. safe-wait notion p _ first (verdictOf i .0) (verdictOf i .1) n h (all i g) }))
       go (inr x) = record { number = x .0; given = x .1; unsafe = wait-unsafe notion p _ first (verdictOf (x .0) .0) (verdictOf (x .0) .1) n h (x .2) }
 

@@ -36,7 +36,8 @@ refused-outcome t h self byte output n s pending wide (Accepting.incompatible so
     incompatible so (limits-joined _ self li pending) wide ob (λ notion trace g. nobody trace (g .estimator))
 
 -- a refusal that is handed back
-pub refused-given : (t : List ℕ) (h : Header) (self : Enforcer) (byte : ℕ) (output : List ℕ) (refusal : Refusal) (r : OfferReply) → r .enforcer ≡ self → r .answer ≡ offer.Refused refusal
+pub refused-given : (t : List ℕ) (h : Header) (self : Enforcer) (byte : ℕ) (output : List ℕ) (refusal : Refusal) (r : OfferReply) → r .enforcer ≡ self
+    → r .answer ≡ offer.Refused refusal
     → Offering t h self byte output (refused (numberOf refusal)) self output → Offering t h self byte output (offerOutcome (r .answer)) (r .enforcer) output
 refused-given t h self byte output refusal r e f x = rw (e, f) x
 

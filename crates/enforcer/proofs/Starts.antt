@@ -120,7 +120,8 @@ refused-start t h f notion n s x t′ h′ byte output r m left (Offering.malfor
 refused-start t h f notion n s x t′ h′ byte output r m left (Offering.output-too-small so li few) = absurd (never s t′ h′ (outside x) so li)
 refused-start t h f notion n s x t′ h′ byte output r m left (Offering.not-observable so li wide ob) = absurd (never s t′ h′ (outside x) so li)
 refused-start t h f notion n s x t′ h′ byte output r m left (Offering.incompatible so li wide ob stuck) = absurd (never s t′ h′ (outside x) so li)
-refused-start t h f notion n s x t′ h′ byte output r m left (Offering.accepted so li wide ob same after bal front rest within exact) = absurd (never s t′ h′ (outside x) so li)
+refused-start t h f notion n s x t′ h′ byte output r m left (Offering.accepted so li wide ob same after bal front rest within exact) =
+    absurd (never s t′ h′ (outside x) so li)
 
 -- where each secret opens as none, none opens as leak 0
 pub never-opens : (notion : Notion) (p : Automaton) (cs : List Secret) → ForEach cs (λ i c. Tells notion p c [] none) → OpensAsLeak notion p cs → ⊥

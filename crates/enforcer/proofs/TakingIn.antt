@@ -39,7 +39,8 @@ joined-list pending symbols count byte room wide same last =
           ∙ sym (getD-take (count + 1) symbols i 0 (omega arith))
       | no more ↦
           let e : i ≡ count = omega arith in
-          getD-at (take count pending) byte [] 0 i (omega arith) ∙ sym last ∙ ap (λ (k : ℕ). getD symbols k 0) (sym e) ∙ sym (getD-take (count + 1) symbols i 0 (omega arith))
+          getD-at (take count pending) byte [] 0 i (omega arith) ∙ sym last ∙ ap (λ (k : ℕ). getD symbols k 0) (sym e)
+          ∙ sym (getD-take (count + 1) symbols i 0 (omega arith))
     ])
 
 -- what is copied down from an array is what follows its first f
@@ -49,19 +50,28 @@ rest-list symbols after f n le wide room same =
     let a : length (take (n - f) after) ≡ n - f = length-take-le (n - f) after room in
     let b : length (drop f (take n symbols)) ≡ n - f = length-drop f (take n symbols) ∙ ap (λ (k : ℕ). k - f) (length-take-le n symbols wide) in
     ext-getD 0 (take (n - f) after) (drop f (take n symbols)) (omega arith)
-    (λ i h. getD-take (n - f) after i 0 (omega arith) ∙ same i (omega arith) ∙ sym (getD-drop f (take n symbols) i 0 ∙ getD-take n symbols (f + i) 0 (omega arith)))
+    (λ i h. getD-take (n - f) after i 0 (omega arith) ∙ same i (omega arith)
+    ∙ sym (getD-drop f (take n symbols) i 0 ∙ getD-take n symbols (f + i) 0 (omega arith)))
 
 pub took-in : (K : ℕ) (self : Enforcer) (estimator : Estimator) (w byte : ℕ) (output : List ℕ) (f : ℕ) (symbols soon pending waits left : List ℕ)
-    → length (self .pending) ≡ 16 → length symbols ≡ 17 → Padded 16 (self .count + 1 - f) pending → Padded 16 (self .count + 1 - f) waits → K ≤ 15 → self .count ≤ K + 1
+    → length (self .pending) ≡ 16 → length symbols ≡ 17 → Padded 16 (self .count + 1 - f) pending → Padded 16 (self .count + 1 - f) waits → K ≤ 15
+    → self .count ≤ K + 1
     → ((i : ℕ) → i < self .count → getD symbols i 0 ≡ getD (self .pending) i 0) → getD symbols (self .count) 0 ≡ byte
     → ((i : ℕ) → i < self .count → getD soon i 0 ≡ getD (self .waits) i 0 - 1) → getD soon (self .count) 0 ≡ w
     → Ready K (self .count) soon f
     → left ≡ take f symbols ++ drop f output
     → ((i : ℕ) → i < self .count + 1 - f → getD pending i 0 ≡ getD symbols (f + i) 0)
     → ((i : ℕ) → i < self .count + 1 - f → getD waits i 0 ≡ getD soon (f + i) 0)
-    → Enqueued K self estimator w byte output f (record { estimator = estimator; notion = self .notion; count = self .count + 1 - f; pending = pending; waits = waits }) left
+    → Enqueued K self estimator w byte output f (record {
+      estimator = estimator;
+      notion = self .notion;
+      count = self .count + 1 - f;
+      pending = pending;
+      waits = waits;
+    }) left
 took-in K self estimator w byte output f symbols soon pending waits left l16 l17 padded padded′ k15 few same last older newer ready poured down later =
-    let e : pendingOf self ++ byte ∷ [] ≡ take (self .count + 1) symbols = joined-list (self .pending) symbols (self .count) byte (omega arith) (omega arith) same last in
+    let e : pendingOf self ++ byte ∷ [] ≡ take (self .count + 1) symbols = joined-list (self .pending) symbols (self .count) byte (omega arith)
+    (omega arith) same last in
     let some = ready .some in
     let h16 = padded .size-is in
     record {
@@ -128,9 +138,11 @@ ready-one K count soon full few waits = record {
     never (inr z) = waits z
 
 -- once the number is within its limit, the pending symbols decide
-pub pending-decide : (K : ℕ) (s : Enforcer) (b : Bool) → s .count ≤ K + 1 → Decided b ((i : ℕ) → i < s .count → getD (s .pending) i 0 ≤ 31) → Decided b (PendingWithin K s)
+pub pending-decide : (K : ℕ) (s : Enforcer) (b : Bool) → s .count ≤ K + 1 → Decided b ((i : ℕ) → i < s .count → getD (s .pending) i 0 ≤ 31)
+    → Decided b (PendingWithin K s)
 pending-decide K s b few d =
-    decided-as {A = (i : ℕ) → i < s .count → getD (s .pending) i 0 ≤ 31} {B = PendingWithin K s} b (λ all. record { few = few; small = all }) (λ both. both .small) d
+    decided-as {A = (i : ℕ) → i < s .count → getD (s .pending) i 0 ≤ 31} {B = PendingWithin K s} b (λ all. record { few = few; small = all })
+    (λ both. both .small) d
 
 -- and with the estimator's limits those of the enforcer
 pub limits-joined : (K : ℕ) (s : Enforcer) → estimators.Limits K (s .estimator) → PendingWithin K s → Limits K s

@@ -31,7 +31,11 @@ module _ (notion : Notion) (t : List ℕ) (h : Header) (f : Further) where
   held trace s g = subst (λ (cs : List Secret). Grown notion (automatonOf t h) cs trace s) (sym (kept-secrets h f _ (g .same))) (g .grown)
 
   pub after-held : (trace : List ℕ) (s : Enforcer) → s .estimator .further ≡ clearedOf f → GrownOn notion t h trace s → After notion t h f trace s
-  after-held trace s same g = record { same = same; grown = subst (λ (cs : List Secret). Grown notion (automatonOf t h) cs trace s) (kept-secrets h f _ same) g }
+  after-held trace s same g = record {
+    same = same;
+    grown = subst (λ (cs : List Secret). Grown notion (automatonOf t h) cs trace s)
+        (kept-secrets h f _ same) g;
+  }
 
   pub started-after : (s : Enforcer) → Starting t h f notion started s → WellFormed t h × After notion t h f [] s
   started-after s (Starting.ready sound allowed tells same grown) = (sound, after-held [] s same grown)
@@ -76,7 +80,8 @@ module _ (notion : Notion) (t : List ℕ) (h : Header) (f : Further) (sound : We
       let p = automatonOf t h in
       let cs = secretsOf h f in
       let y = kept Enforcer (Offered t h) pendingCount AfterBy Table (λ trace s o m g out. one trace s (o .byte) (o .output) (o .says) m (o .left) g out)
-      (lookBackOf h f) (SafeForAll notion p cs) (safe-for-all-laws notion p cs) (λ trace s g. g .grown .queue .few) (λ trace s g. g .grown .queue .longest) s os e g offers in
+      (lookBackOf h f) (SafeForAll notion p cs) (safe-for-all-laws notion p cs) (λ trace s g. g .grown .queue .few)
+      (λ trace s g. g .grown .queue .longest) s os e g offers in
       let k = y .2 in
       let front = take (releasedCount os) (acceptedOf os) in
       let short : length front ≤ length (acceptedOf os) = omega (arith, k .within, length-take-le (releasedCount os) (acceptedOf os) (k .within)) in
@@ -87,7 +92,8 @@ module _ (notion : Notion) (t : List ℕ) (h : Header) (f : Further) (sound : We
         by-runs = rw (k .prefix) (all-by-runs notion p cs front (length (acceptedOf os)) short (k .safe));
         longest = k .longest;
         unsafe = λ r more within.
-            some-unsafe notion p cs (take r (acceptedOf os)) (length (acceptedOf os)) (omega (arith, length-take-le r (acceptedOf os) within)) (k .longest r more within);
+            some-unsafe notion p cs (take r (acceptedOf os)) (length (acceptedOf os)) (omega (arith, length-take-le r (acceptedOf os) within))
+            (k .longest r more within);
         in-time = k .in-time;
         balance = k .balance;
         same = y .1 .same;
@@ -103,7 +109,8 @@ third-point notion t h f s os e start offers =
 
 -- enforcers started under one notion with the same further secrets (whatever stands past their count) that have accepted the same events are equal,
 -- whatever was refused between them
-pub same-history : (notion : Notion) (t : List ℕ) (h : Header) (f f′ : Further) (s s′ : Enforcer) (os os′ : List Offer) (e e′ : Enforcer) → clearedOf f ≡ clearedOf f′
+pub same-history : (notion : Notion) (t : List ℕ) (h : Header) (f f′ : Further) (s s′ : Enforcer) (os os′ : List Offer) (e e′ : Enforcer)
+    → clearedOf f ≡ clearedOf f′
     → Starting t h f notion started s → Offers t h s os e → Starting t h f′ notion started s′ → Offers t h s′ os′ e′ → acceptedOf os ≡ acceptedOf os′ → e ≡ e′
 same-history notion t h f f′ s s′ os os′ e e′ given start offers start′ offers′ same =
     let x = third-point notion t h f s os e start offers in

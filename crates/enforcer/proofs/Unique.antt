@@ -52,15 +52,19 @@ module _ (notion : Notion) (p : Automaton) (cs : List Secret) (trace : List ℕ)
           sym (getD-take (s .count) (s .pending) i 0 l) ∙ ap (λ (x : List ℕ). getD x i 0) e ∙ getD-take (r .count) (r .pending) i 0 (omega (arith, count))
 
       pending : s .pending ≡ r .pending
-      pending = same-array 16 (s .count) (s .pending) (r .pending) (g .pending-padded) (subst (λ (n : ℕ). Padded 16 n (r .pending)) (sym count) (h .pending-padded)) pending-same
+      pending = same-array 16 (s .count) (s .pending) (r .pending) (g .pending-padded)
+          (subst (λ (n : ℕ). Padded 16 n (r .pending)) (sym count) (h .pending-padded)) pending-same
 
       -- each wait is the least number of later events after which the prefix up to its event is safe
       waits-same : (i : ℕ) → i < s .count → getD (s .waits) i 0 ≡ getD (r .waits) i 0
       waits-same i l =
           let shift : length trace - s .count ≡ length trace - r .count = ap (λ (n : ℕ). length trace - n) count in
-          let low = g .queue .waits-are i l (getD (r .waits) i 0) .0 (rw shift (h .queue .waits-are i (omega (arith, count)) (getD (r .waits) i 0) .1 (omega arith))) in
-          let high = h .queue .waits-are i (omega (arith, count)) (getD (s .waits) i 0) .0 (rw (← shift) (g .queue .waits-are i l (getD (s .waits) i 0) .1 (omega arith))) in
+          let low = g .queue .waits-are i l (getD (r .waits) i 0) .0
+          (rw shift (h .queue .waits-are i (omega (arith, count)) (getD (r .waits) i 0) .1 (omega arith))) in
+          let high = h .queue .waits-are i (omega (arith, count)) (getD (s .waits) i 0) .0
+          (rw (← shift) (g .queue .waits-are i l (getD (s .waits) i 0) .1 (omega arith))) in
           omega arith
 
       waits : s .waits ≡ r .waits
-      waits = same-array 16 (s .count) (s .waits) (r .waits) (g .waits-padded) (subst (λ (n : ℕ). Padded 16 n (r .waits)) (sym count) (h .waits-padded)) waits-same
+      waits = same-array 16 (s .count) (s .waits) (r .waits) (g .waits-padded) (subst (λ (n : ℕ). Padded 16 n (r .waits)) (sym count) (h .waits-padded))
+          waits-same

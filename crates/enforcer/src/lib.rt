@@ -1,11 +1,11 @@
 use automaton::Header;
+use opacity::Further;
+use opacity::Notion;
+use opacity::Verdict;
 use refusal::Refusal;
 use verifier::Answer;
 use verifier::AnswerBy;
 use verifier::Estimator;
-use opacity::Further;
-use opacity::Notion;
-use opacity::Verdict;
 use verifier::VerdictsBy;
 ghost use mathlib.Core.Path.{_≡_};
 ghost use mathlib.Core.List.{_++_};

@@ -31,11 +31,13 @@ use Rattle.log_output.specs.declared.Rest.{Rest}
 use Rattle.log_output.specs.Progressing.{Usable, Roomy, free, emptied, closed, Stopped, Followed}
 use Rattle.log_output.specs.Whole.{RefusalLine, EndLines, begun, Begins, not-opened, opened, Finished, HasPrinted}
 use Rattle.log_output.specs.Feeding as fed
-use Rattle.log_output.specs.Feeding.{withStatus, Turning, unwritten, brought-some, Feeding, Ran, LeftBehind, one-line, whole, not-read, not-written, no-last}
+use Rattle.log_output.specs.Feeding.{withStatus, Turning, unwritten, brought-some, Feeding, Ran, LeftBehind, one-line, whole, not-read, not-written}
+use Rattle.log_output.specs.Feeding.{no-last}
 use Rattle.log_output.proofs.Keeping.{ended-not, failed-not, closed-not}
 use Rattle.log_output.proofs.Fetching.{feeding-over}
 
--- why a log is no longer read on: all that was handed on is followed and the input has ended or a read failed, a log may have no more, or the output takes no more
+-- why a log is no longer read on: all that was handed on is followed and the input has ended or a read failed, a log may have no more, or the output takes no
+-- more
 abbrev pub Left : Status → Progress → ℕ → List ℕ → Type 0
 Left Going r n bytes = ⊥
 Left Ended r n bytes = (n ≡ length bytes) ⊎ (r .monitor .offered ≡ 4294967295)
@@ -77,13 +79,38 @@ module _ (t : List ℕ) (h : Header) where
 
   none-ended : {p : Progress} {out : List ℕ} → Usable t h p out → Handed p out [] (withStatus (atStart p) Ended) out
   none-ended {p} {out} u =
-      record { taken = 0; among = omega arith; text = []; lines = lines-none; within = u .within; few = u .few; gone = take (p .at) out; kept = refl; inside = omega arith; size = refl; left = inl refl }
+      record {
+        taken = 0;
+        among = omega arith;
+        text = [];
+        lines = lines-none;
+        within = u .within;
+        few = u .few;
+        gone = take (p .at) out;
+        kept = refl;
+        inside = omega arith;
+        size = refl;
+        left = inl refl;
+      }
 
   none-failed : {p : Progress} {out : List ℕ} → Usable t h p out → Handed p out [] (withStatus (atStart p) Failed) out
   none-failed {p} {out} u =
-      record { taken = 0; among = omega arith; text = []; lines = lines-none; within = u .within; few = u .few; gone = take (p .at) out; kept = refl; inside = omega arith; size = refl; left = refl }
+      record {
+        taken = 0;
+        among = omega arith;
+        text = [];
+        lines = lines-none;
+        within = u .within;
+        few = u .few;
+        gone = take (p .at) out;
+        kept = refl;
+        inside = omega arith;
+        size = refl;
+        left = refl;
+      }
 
-  last-handed : {left : ℕ} {p : Progress} {out input : List ℕ} {r : Reading} {out′ : List ℕ} → Usable t h p out → Turning t h left p out input r out′ → r .brought ≡ 0
+  last-handed : {left : ℕ} {p : Progress} {out input : List ℕ} {r : Reading} {out′ : List ℕ} → Usable t h p out → Turning t h left p out input r out′
+      → r .brought ≡ 0
       → Handed p out [] (r .progress) out′
   last-handed u (unwritten (fed.emptied x) not) z = absurd (not (u .going))
   last-handed u (unwritten fed.closed not) z = none-closed u
@@ -144,7 +171,8 @@ module _ (t : List ℕ) (h : Header) where
   all-taken s xs out r n g x = subst (λ (k : Status). Stopped k r n xs out) g x
 
   -- the bytes of one read, and those behind them
-  onward : {q r s : Progress} {out xs out₁ ys out₂ : List ℕ} → Followed t h q xs out r out₁ → r .status ≡ Going → Handed r out₁ ys s out₂ → Handed q out (xs ++ ys) s out₂
+  onward : {q r s : Progress} {out xs out₁ ys out₂ : List ℕ} → Followed t h q xs out r out₁ → r .status ≡ Going → Handed r out₁ ys s out₂
+      → Handed q out (xs ++ ys) s out₂
   onward {q} {r} {s} {out} {xs} {out₁} {ys} {out₂} a g b =
       let f = a .far in
       let whole : take (a .bytes) xs ≡ xs = ap (λ (k : ℕ). take k xs) (all-taken (r .status) xs out₁ r (a .bytes) g (a .stop)) ∙ take-length xs in
@@ -158,7 +186,8 @@ module _ (t : List ℕ) (h : Header) where
         within = b .within;
         few = b .few;
         gone = f .gone ++ b .gone;
-        kept = append-assoc (f .gone) (b .gone) (take (s .at) out₂) ∙ ap (λ (l : List ℕ). f .gone ++ l) (b .kept) ∙ sym (append-assoc (f .gone) (take (r .at) out₁) (b .text))
+        kept = append-assoc (f .gone) (b .gone) (take (s .at) out₂) ∙ ap (λ (l : List ℕ). f .gone ++ l) (b .kept)
+            ∙ sym (append-assoc (f .gone) (take (r .at) out₁) (b .text))
             ∙ ap (λ (l : List ℕ). l ++ b .text) (f .kept) ∙ append-assoc (take (q .at) out) (f .text) (b .text);
         inside = b .inside;
         size = b .size ∙ f .size;
@@ -179,13 +208,16 @@ module _ (t : List ℕ) (h : Header) where
   going? Closed = inr closed-not
 
   -- a read, and those behind it
-  behind : {m : ℕ} {q r : Progress} {out xs out₁ later : List ℕ} {s : Rest} {out₂ : List ℕ} → Usable t h q out → Followed t h q xs out r out₁ → Feeding t h m r out₁ later s out₂
-      → (Usable t h r out₁ → Handed r out₁ later (s .progress) out₂) → (r .status ≡ Going) ⊎ (r .status ≡ Going → ⊥) → Handed q out (xs ++ later) (s .progress) out₂
+  behind : {m : ℕ} {q r : Progress} {out xs out₁ later : List ℕ} {s : Rest} {out₂ : List ℕ} → Usable t h q out → Followed t h q xs out r out₁
+      → Feeding t h m r out₁ later s out₂
+      → (Usable t h r out₁ → Handed r out₁ later (s .progress) out₂) → (r .status ≡ Going) ⊎ (r .status ≡ Going → ⊥)
+      → Handed q out (xs ++ later) (s .progress) out₂
   behind u a f more (inl g) =
       onward a g (more record { going = g; within = a .far .within; few = a .far .few; inside = a .far .inside; room = omega (arith, u .room, a .far .size) })
   behind u a f more (inr not) = not-on a not f
 
-  next-handed : {left m : ℕ} {p : Progress} {out input : List ℕ} {x : Reading} {out₁ later : List ℕ} {s : Rest} {out₂ : List ℕ} → Usable t h p out → Turning t h left p out input x out₁ → 0 < x .brought
+  next-handed : {left m : ℕ} {p : Progress} {out input : List ℕ} {x : Reading} {out₁ later : List ℕ} {s : Rest} {out₂ : List ℕ} → Usable t h p out
+      → Turning t h left p out input x out₁ → 0 < x .brought
       → Feeding t h m (x .progress) out₁ later s out₂ → (Usable t h (x .progress) out₁ → Handed (x .progress) out₁ later (s .progress) out₂)
       → Handed p out (take (x .brought) input ++ later) (s .progress) out₂
   next-handed u (unwritten w n) some f more = absurd (omega arith)
@@ -197,14 +229,17 @@ module _ (t : List ℕ) (h : Header) where
       after-written (behind v (a v) f more (going? (r .status)))
 
   -- ALL THAT WAS HANDED ON IS FOLLOWED, IN ORDER, until the input ends, a read fails, a log may have no more, or the output takes no more
-  pub handed : {left : ℕ} {p : Progress} {out bytes : List ℕ} {s : Rest} {out′ : List ℕ} → Usable t h p out → Feeding t h left p out bytes s out′ → Handed p out bytes (s .progress) out′
+  pub handed : {left : ℕ} {p : Progress} {out bytes : List ℕ} {s : Rest} {out′ : List ℕ} → Usable t h p out → Feeding t h left p out bytes s out′
+      → Handed p out bytes (s .progress) out′
   handed u (fed.stopped n) = absurd (n (u .going))
   handed u (fed.last g x) = last-handed u x refl
   handed u (fed.more g some x f) = next-handed u x some f (λ v. handed v f)
 
   -- the events among the first bytes of a log, and those that were read on
-  pub begun-handed : {log out : List ℕ} {n : ℕ} {m : Monitor} {p : Progress} {out₁ : List ℕ} {limit : ℕ} {bytes : List ℕ} {s : Rest} {out₂ : List ℕ} → Opening log (started n) t h m
-      → 256 ≤ length out → Followed t h (begun m) (drop n log) out p out₁ → Feeding t h limit p out₁ bytes s out₂ → Handed (begun m) out (drop n log ++ bytes) (s .progress) out₂
+  pub begun-handed : {log out : List ℕ} {n : ℕ} {m : Monitor} {p : Progress} {out₁ : List ℕ} {limit : ℕ} {bytes : List ℕ} {s : Rest} {out₂ : List ℕ}
+      → Opening log (started n) t h m
+      → 256 ≤ length out → Followed t h (begun m) (drop n log) out p out₁ → Feeding t h limit p out₁ bytes s out₂
+      → Handed (begun m) out (drop n log ++ bytes) (s .progress) out₂
   begun-handed {p = p} o room a f =
       let u = started-usable o in
       behind record { going = refl; within = u .0; few = omega (arith, u .1); inside = omega arith; room = room } a f (λ v. handed v f) (going? (p .status))
@@ -223,13 +258,15 @@ record Last (r : Progress) (out text : List ℕ) (q : Progress) : Type 0 where
   room : q .at + 256 ≤ length out
   monitor : q .monitor ≡ r .monitor
 
-last-of : {r q : Progress} {out text : List ℕ} (gone : List ℕ) → gone ++ take (r .at) out ≡ text → 256 ≤ length out → (q .status ≡ Closed → ⊥) → Roomy r out q → Last r out text q
+last-of : {r q : Progress} {out text : List ℕ} (gone : List ℕ) → gone ++ take (r .at) out ≡ text → 256 ≤ length out → (q .status ≡ Closed → ⊥) → Roomy r out q
+    → Last r out text q
 last-of gone kept room not (free l) = record { gone = gone; kept = kept; room = l; monitor = refl }
 last-of {r = r} {out = out} gone kept room not (emptied full l) =
     record { gone = gone ++ take (r .at) out; kept = append-nil (gone ++ take (r .at) out) ∙ kept; room = omega arith; monitor = refl }
 last-of gone kept room not (closed full) = absurd (not refl)
 
-print-last : {input out out′ : List ℕ} {at : ℕ} {line : Line} (gone text end : List ℕ) → gone ++ take at out ≡ text → at + 256 ≤ length out → Output input (text ++ end)
+print-last : {input out out′ : List ℕ} {at : ℕ} {line : Line} (gone text end : List ℕ) → gone ++ take at out ≡ text → at + 256 ≤ length out
+    → Output input (text ++ end)
     → Written roomAtEnd out at end line out′ → HasPrinted input out′ (placeOf line 0)
 print-last gone text end kept room o (no-room full) = absurd (full (omega arith))
 print-last {input} {out} {at = at} gone text end kept room o (written space fit) =
@@ -238,22 +275,27 @@ print-last {input} {out} {at = at} gone text end kept room o (written space fit)
     record { gone = gone; output = subst (Output input) (sym all-of) o }
 
 -- a log that was read to its end: what it has printed, with what was written out before, is the output of its input
-pub read-log : {input t out out₁ out₂ : List ℕ} {h : Header} {m : Monitor} {n : ℕ} {r : Progress} → Opening input (started n) t h m → Handed t h (begun m) out (drop n input) r out₁
-    → 256 ≤ length out₁ → r .status ≡ Ended → (e : EndLines r out₁ out₂) → (not : e .last .status ≡ Closed → ⊥) → HasPrinted input out₂ (placeOf (e .written not .line) 0)
+pub read-log : {input t out out₁ out₂ : List ℕ} {h : Header} {m : Monitor} {n : ℕ} {r : Progress} → Opening input (started n) t h m
+    → Handed t h (begun m) out (drop n input) r out₁
+    → 256 ≤ length out₁ → r .status ≡ Ended → (e : EndLines r out₁ out₂) → (not : e .last .status ≡ Closed → ⊥)
+    → HasPrinted input out₂ (placeOf (e .written not .line) 0)
 read-log {input} {t} {out} {out₁} {out₂} {h} {m} {n} {r} o x room ended e not =
     let l = last-of (x .gone) (x .kept) room not (e .roomy) in
-    let all-lines = lines-output o (take-append-drop (x .taken) (drop n input)) (x .lines) (x .few) (why (r .status) r (x .taken) (drop n input) ended (x .left)) in
+    let all-lines = lines-output o (take-append-drop (x .taken) (drop n input)) (x .lines) (x .few)
+    (why (r .status) r (x .taken) (drop n input) ended (x .left)) in
     print-last (l .gone) (x .text) (lastLines (e .last .monitor)) (l .kept) (l .room)
     (subst (λ (k : Monitor). Output input (x .text ++ lastLines k)) (sym (l .monitor)) all-lines) (e .written not .put)
 
 -- a log that has started, however the input was cut into reads: it was read on and ended, and the output took all
-fed-log : {first input t out out₁ out₂ out₃ : List ℕ} {h : Header} {m : Monitor} {n limit : ℕ} {p : Progress} {s : Rest} (f : Front first input) → Opening first (started n) t h m
+fed-log : {first input t out out₁ out₂ out₃ : List ℕ} {h : Header} {m : Monitor} {n limit : ℕ} {p : Progress} {s : Rest} (f : Front first input)
+    → Opening first (started n) t h m
     → 256 ≤ length out → Followed t h (begun m) (drop n first) out p out₁ → Feeding t h limit p out₁ (f .later) s out₂ → s .progress .status ≡ Ended
     → (e : EndLines (s .progress) out₂ out₃) → (not : e .last .status ≡ Closed → ⊥) → HasPrinted input out₃ (placeOf (e .written not .line) 0)
 fed-log {first} {input} {t} {out} {out₁} {out₂} {out₃} {h} {m} {n} {limit} {p} {s} f o room a feeding ended e not =
     let events : drop n first ++ f .later ≡ drop n input = sym (drop-append-le n first (f .later) (started-within o .1)) ∙ ap (drop n) (f .splits) in
     let x = begun-handed t h o room a feeding in
-    read-log {out = out} (front-opens f .0 o) (subst (λ (l : List ℕ). Handed t h (begun m) out l (s .progress) out₂) events x) (omega (arith, x .size)) ended e not
+    read-log {out = out} (front-opens f .0 o) (subst (λ (l : List ℕ). Handed t h (begun m) out l (s .progress) out₂) events x)
+    (omega (arith, x .size)) ended e not
 
 -- a refused log: its one line
 refused-log : {first input t out out′ : List ℕ} {h : Header} {m : Monitor} (r : Refusal) → Front first input → Opening first (refused (numberOf r)) t h m
@@ -288,7 +330,13 @@ module _ {first out : List ℕ} {size : ℕ} {out′ : List ℕ} {over : ℕ} (r
     where
       go : (e .last .status ≡ Closed) ⊎ (e .last .status ≡ Closed → ⊥) → LeftBehind r
       go (inl is) = no-last (full (e .roomy) ended is) (e .closed is)
-      go (inr not) = whole e not (fed-log (record { later = r .fed .bytes; splits = refl; enough = inl (subst (λ (k : ℕ). k ≤ length first) (started-within o .0) (started-within o .1)) }) o room a (r .fed .feeding) ended e not)
+      go (inr not) =
+          whole e not
+          (fed-log (record {
+            later = r .fed .bytes;
+            splits = refl;
+            enough = inl (subst (λ (k : ℕ). k ≤ length first) (started-within o .0) (started-within o .1));
+          }) o room a (r .fed .feeding) ended e not)
 
   opened-behind : {n : ℕ} {m : Monitor} → Opening first (started n) (r .begun .table) (r .begun .header) m
       → Followed (r .begun .table) (r .begun .header) (begun m) (drop n first) out (r .begun .progress) (r .out₁)

@@ -63,7 +63,8 @@ pub data TakenIn (t : List ℕ) (h : Header) (q : Progress) (out input : List �
   no-more : TakenIn t h q out input fetched.End (record { progress = withStatus q Ended; brought = 0 }) out
   not-fetched : TakenIn t h q out input fetched.Failed (record { progress = withStatus q Failed; brought = 0 }) out
 
--- one more read, on an output that is written out before it. It brings bytes, and all of them are followed, in order; or the input has ended, or the read failed
+-- one more read, on an output that is written out before it. It brings bytes, and all of them are followed, in order; or the input has ended, or the read
+-- failed
 pub data Turning (t : List ℕ) (h : Header) (left : ℕ) (p : Progress) (out input : List ℕ) : Reading → List ℕ → Type 0 where
   unwritten : {q : Progress} → WrittenOut p out q → (q .status ≡ Going → ⊥) → Turning t h left p out input (record { progress = q; brought = 0 }) out
   ended : {q : Progress} → WrittenOut p out q → q .status ≡ Going → Turning t h left p out input (record { progress = withStatus q Ended; brought = 0 }) out
@@ -118,7 +119,8 @@ pub record Ran (log out : List ℕ) (size : ℕ) (out′ : List ℕ) (over : ℕ
 -- how a log that ran was left
 pub data LeftBehind {first out : List ℕ} {size : ℕ} {out′ : List ℕ} {over : ℕ} (r : Ran first out size out′ over) : Type 0 where
   -- it was refused: its one line, up to its end, is the output of every input that begins so
-  one-line : {n : Refusal} (l : RefusalLine n out (r .out₁)) → out′ ≡ r .out₁ → ((input : List ℕ) → Front first input → HasPrinted input (r .out₁) (placeOf (l .line) 0))
+  one-line : {n : Refusal} (l : RefusalLine n out (r .out₁)) → out′ ≡ r .out₁
+      → ((input : List ℕ) → Front first input → HasPrinted input (r .out₁) (placeOf (l .line) 0))
       → LeftBehind r
   -- it was read to its end: up to the end of the last line, with what was written out before, stands the output of the first bytes and those handed on
   whole : (e : EndLines (r .rest .progress) (r .out₂) out′) (not : e .last .status ≡ Closed → ⊥)
@@ -128,7 +130,8 @@ pub data LeftBehind {first out : List ℕ} {size : ℕ} {out′ : List ℕ} {ove
   not-written : r .rest .progress .status ≡ Closed → out′ ≡ r .out₂ → LeftBehind r
   no-last : (r .rest .progress .at + 256 ≤ length (r .out₂) → ⊥) → out′ ≡ r .out₂ → LeftBehind r
 
--- all of a log of at most so many bytes: its first bytes are there, and it runs; or a read failed among them, and nothing is written. And how many were not read
+-- all of a log of at most so many bytes: its first bytes are there, and it runs; or a read failed among them, and nothing is written. And how many were not
+-- read
 pub data Monitors (size : ℕ) (out : List ℕ) : ℕ → List ℕ → Type 0 where
   ran : {first out′ : List ℕ} {n over : ℕ} → length first ≡ n → n ≤ size → Ran first out (size - n) out′ over → Monitors size out over out′
   unread : Monitors size out 0 out

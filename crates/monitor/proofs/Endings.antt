@@ -14,7 +14,8 @@ not-idle (suc n) j l = refl
 
 -- none
 pub with-none : (m : Monitor) → m .offered ≡ 0
-    → idleLine (m .opening .verdicts .own .weak) (m .opening .verdicts .own .strong) (m .opening .size) ++ endLine (m .accepted) (m .released) (m .enforcer .count) ≡ lastLines m
+    → idleLine (m .opening .verdicts .own .weak) (m .opening .verdicts .own .strong) (m .opening .size) ++ endLine (m .accepted) (m .released)
+    (m .enforcer .count) ≡ lastLines m
 with-none m e = ap (λ (n : ℕ). beforeLast n (m .opening) ++ endLine (m .accepted) (m .released) (m .enforcer .count)) (sym e)
 
 -- some

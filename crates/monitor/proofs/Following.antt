@@ -55,7 +55,8 @@ printed-append {out} {out′} {out″} {xs} {ys} {at} {to} {to′} p q = record 
   size = q .size ∙ p .size;
 }
 
-pub along-start : (t : List ℕ) (h : Header) (m : Monitor) (events out : List ℕ) (at : ℕ) → Within t h m → m .offered ≤ 4294967295 → Along t h m events out at m at 0 out
+pub along-start : (t : List ℕ) (h : Header) (m : Monitor) (events out : List ℕ) (at : ℕ) → Within t h m → m .offered ≤ 4294967295
+    → Along t h m events out at m at 0 out
 along-start t h m events out at b few = record {
   among = omega arith;
   text = [];
@@ -65,7 +66,8 @@ along-start t h m events out at b few = record {
   few = few;
 }
 
-pub along-next : (t : List ℕ) (h : Header) (m : Monitor) (events out : List ℕ) (at : ℕ) (e : Monitor) (to i : ℕ) (out′ : List ℕ) (e′ : Monitor) (to′ : ℕ) (out″ : List ℕ)
+pub along-next : (t : List ℕ) (h : Header) (m : Monitor) (events out : List ℕ) (at : ℕ) (e : Monitor) (to i : ℕ) (out′ : List ℕ) (e′ : Monitor) (to′ : ℕ)
+    (out″ : List ℕ)
     → Along t h m events out at e to i out′ → i < length events → Ready e out′ to → Stepped t h e (getD events i 0) out′ to e′ to′ out″
     → Along t h m events out at e′ to′ (i + 1) out″
 along-next t h m events out at e to i out′ e′ to′ out″ a l ready s = record {
@@ -79,9 +81,11 @@ along-next t h m events out at e to i out′ e′ to′ out″ a l ready s = rec
 
 -- at the end the bytes are all taken, or the monitor is not ready
 pub along-end : (t : List ℕ) (h : Header) (m : Monitor) (events out : List ℕ) (at : ℕ) (e : Monitor) (to i : ℕ) (out′ : List ℕ) → Within t h m
-    → Along t h m events out at e to i out′ → (i ≡ length events) ⊎ (Ready e out′ to → ⊥) → Advancing t h m events out at (taken (record { taken = i; next = to })) e out′
+    → Along t h m events out at e to i out′ → (i ≡ length events) ⊎ (Ready e out′ to → ⊥) → Advancing t h m events out at
+    (taken (record { taken = i; next = to })) e out′
 along-end t h m events out at e to i out′ b a stop =
-    let here : (l : List ℕ) (k : ℕ) → l ≡ sets out at (a .text) → k ≡ at + length (a .text) → (i ≡ length events) ⊎ (Ready e l k → ⊥) → Advancing t h m events out at (taken (record { taken = i; next = k })) e l =
+    let here : (l : List ℕ) (k : ℕ) → l ≡ sets out at (a .text) → k ≡ at + length (a .text) → (i ≡ length events) ⊎ (Ready e l k → ⊥)
+    → Advancing t h m events out at (taken (record { taken = i; next = k })) e l =
     λ l k x y s. rw (x, y) (advanced b (a .among) (a .lines) (a .within) (a .printed .inside) (a .few) (rw (x, y) at s)) in
     here out′ to (a .printed .bytes) (a .printed .place) stop
 

@@ -52,7 +52,8 @@ pub data Idle (t : List ℕ) (h : Header) : List ℕ → Type 0 where
 idle-text : (t : List ℕ) (h : Header) (v w : Verdict) (n : ℕ) → (OpeningLeak Weak t h → ⊥) → RightOwn t h [] (record { weak = v; strong = w }) n
     → Idle t h (idleLine v w n ++ endLine 0 0 0)
 idle-text t h v w n closed right =
-    by (opening-verdict t h Weak v (right .weak (stepsOf v) .0 refl)) (opening-verdict t h Strong w (right .strong (stepsOf w) .0 refl)) (right .size .exactly n .0 refl)
+    by (opening-verdict t h Weak v (right .weak (stepsOf v) .0 refl)) (opening-verdict t h Strong w (right .strong (stepsOf w) .0 refl))
+    (right .size .exactly n .0 refl)
   where
     by : ((v ≡ NoLeak) × (OpeningLeak Weak t h → ⊥)) ⊎ ((v ≡ Leak 0) × OpeningLeak Weak t h)
         → ((w ≡ NoLeak) × (OpeningLeak Strong t h → ⊥)) ⊎ ((w ≡ Leak 0) × OpeningLeak Strong t h) → EstimateSize (automatonOf t h) [] n

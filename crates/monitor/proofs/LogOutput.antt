@@ -43,7 +43,12 @@ use Rattle.monitor.proofs.OneOutput.{one-output}
 
 -- two inputs of which one is opened as the other is
 decodes-as : {a b t : List ℕ} {h : Header} {o : Outcome} → encodingOf a ≡ encodingOf b → Decodes a h o t → Decodes b h o t
-decodes-as {a} {b} {t} {h} {o} e d = record { before = d .before; words = d .words; decoding = subst (λ (x : List ℕ). Decoding x (d .before) h o t) e (d .decoding) }
+decodes-as {a} {b} {t} {h} {o} e d = record {
+  before = d .before;
+  words = d .words;
+  decoding =
+      subst (λ (x : List ℕ). Decoding x (d .before) h o t) e (d .decoding);
+}
 
 opens-as : (a b : List ℕ) → frontSize a ≡ frontSize b → encodingOf a ≡ encodingOf b → frontSize a ≤ length a → frontSize b ≤ length b
     → {says : opening.OpenOutcome} {t : List ℕ} {h : Header} {m : Monitor} → Opening a says t h m → Opening b says t h m
@@ -134,7 +139,8 @@ called t h m events out at says e out′ w (Advancing.advanced {n = n} {text = t
   stop = λ zero some room. full zero some room stop (decLt (e .offered) 4294967295);
 }
   where
-    full : n ≡ 0 → 0 < length events → at + 256 ≤ length out → (n ≡ length events) ⊎ (advancing.Ready e (sets out at text) (at + length text) → ⊥) → Dec (e .offered < 4294967295)
+    full : n ≡ 0 → 0 < length events → at + 256 ≤ length out → (n ≡ length events) ⊎ (advancing.Ready e (sets out at text) (at + length text) → ⊥)
+        → Dec (e .offered < 4294967295)
         → e .offered ≡ 4294967295
     full zero some room (inl all-taken) d = absurd (omega arith)
     full zero some room (inr no-more) (no d) = omega arith
@@ -151,7 +157,8 @@ record Fed (t : List ℕ) (h : Header) (m : Monitor) (left text : List ℕ) (e :
   few : e .offered ≤ 4294967295
   stop : (rest ≡ []) ⊎ (e .offered ≡ 4294967295)
 
-fed : {t : List ℕ} {h : Header} {m e : Monitor} {left text : List ℕ} → Within t h m → m .offered ≤ 4294967295 → Follows t h m left text e → Fed t h m left text e
+fed : {t : List ℕ} {h : Header} {m e : Monitor} {left text : List ℕ} → Within t h m → m .offered ≤ 4294967295 → Follows t h m left text e
+    → Fed t h m left text e
 fed w few all = record { bytes = []; rest = []; splits = refl; lines = lines-none; few = few; stop = inl refl }
 fed {t} {h} {m} {e} {left} w few (stops {events = events} {out = out} {out′ = out′} {at = at} later says cut some room a none) =
     let c = called t h m events out at says e out′ w a in
@@ -178,8 +185,10 @@ fed {t} {h} {m} {e} {left} w few (call {n = n} {events = events} {out = out} {ou
     }
 
 -- those are the events of the input
-fed-events : {left bytes rest : List ℕ} → bytes ++ rest ≡ left → length bytes ≤ 4294967295 → (rest ≡ []) ⊎ (length bytes ≡ 4294967295) → bytes ≡ take 4294967295 left
-fed-events {left} {bytes} {rest} e few (inl none) = sym (ap (take 4294967295) (sym e ∙ ap (λ (l : List ℕ). bytes ++ l) none ∙ append-nil bytes) ∙ take-all 4294967295 bytes few)
+fed-events : {left bytes rest : List ℕ} → bytes ++ rest ≡ left → length bytes ≤ 4294967295 → (rest ≡ []) ⊎ (length bytes ≡ 4294967295)
+    → bytes ≡ take 4294967295 left
+fed-events {left} {bytes} {rest} e few (inl none) = sym (ap (take 4294967295) (sym e ∙ ap (λ (l : List ℕ). bytes ++ l) none ∙ append-nil bytes)
+    ∙ take-all 4294967295 bytes few)
 fed-events {left} {bytes} {rest} e few (inr full) = sym (ap (take 4294967295) (sym e) ∙ take-at bytes rest 4294967295 full)
 
 -- a fresh monitor is within its limits, and nobody is sure before the first event
@@ -227,11 +236,13 @@ ends-there input none whole = omega (arith, none)
 fresh-idle : {input t : List ℕ} {h : Header} {m : Monitor} → Monitored input t h → Fresh t h m → length input ≡ frontSize input → Output input (lastLines m)
 fresh-idle {input} {t} {h} {m} monitored f e =
     let pending : 0 ≡ m .enforcer .count = omega (arith, f .enforcer .queue .few) in
-    subst (Output input) ((λ i. idleLine (m .opening .verdicts .own .weak) (m .opening .verdicts .own .strong) (m .opening .size) ++ endLine (sym (f .accepted) i) (sym (f .released) i) (pending i)) ∙ with-none m (f .offered))
+    subst (Output input) ((λ i. idleLine (m .opening .verdicts .own .weak) (m .opening .verdicts .own .strong)
+    (m .opening .size) ++ endLine (sym (f .accepted) i) (sym (f .released) i) (pending i)) ∙ with-none m (f .offered))
     (log.idle (m .opening .verdicts .own) (m .opening .size) monitored e (f .opening))
 
 -- the lines of all events that a log may have, and the last lines
-pub lines-output : {input t bytes rest text : List ℕ} {h : Header} {m e : Monitor} {n : ℕ} → Opening input (opening.started n) t h m → bytes ++ rest ≡ drop n input
+pub lines-output : {input t bytes rest text : List ℕ} {h : Header} {m e : Monitor} {n : ℕ} → Opening input (opening.started n) t h m
+    → bytes ++ rest ≡ drop n input
     → Lines t h m bytes text e → e .offered ≤ 4294967295 → (rest ≡ []) ⊎ (e .offered ≡ 4294967295)
     → Output input (text ++ lastLines e)
 lines-output {input} {t} {bytes} {rest} {text} {h} {m} {e} (Opening.opened l d fresh) splits lines few stop =
@@ -254,7 +265,10 @@ lines-output {input} {t} {bytes} {rest} {text} {h} {m} {e} (Opening.opened l d f
 
 -- a log that has started is within its limits, and no event byte is counted yet
 pub started-usable : {input t : List ℕ} {h : Header} {m : Monitor} {n : ℕ} → Opening input (opening.started n) t h m → Within t h m × (m .offered ≡ 0)
-started-usable {input} {t} {h} {m} (Opening.opened l d fresh) = (fresh-within t h m (decoded-well-formed (encodingOf input) (d .before) h t (d .decoding)) fresh, fresh .offered)
+started-usable {input} {t} {h} {m} (Opening.opened l d fresh) = (
+  fresh-within t h m (decoded-well-formed (encodingOf input) (d .before) h t (d .decoding)) fresh,
+  fresh .offered,
+)
 
 monitors : {input t text : List ℕ} {h : Header} {m e : Monitor} {n : ℕ} → Opening input (opening.started n) t h m → Follows t h m (drop n input) text e
     → Output input (text ++ lastLines e)
@@ -266,7 +280,8 @@ monitors o f =
 -- the calls for an input write its output
 pub log-output : (input text : List ℕ) → Runs input text → Output input text
 log-output input text (running.refused r f o w) = subst (Output input) (sym (line-is w)) (log.refused r (refuses (front-opens f .0 o)))
-log-output input text (running.ended {text = lines} f o calls w) = subst (Output input) (ap (λ (l : List ℕ). lines ++ l) (sym (line-is w))) (monitors (front-opens f .0 o) calls)
+log-output input text (running.ended {text = lines} f o calls w) = subst (Output input) (ap (λ (l : List ℕ). lines ++ l) (sym (line-is w)))
+    (monitors (front-opens f .0 o) calls)
 
 -- and nothing else, however the input was cut into reads and the output into writes
 pub prints-exactly : (input text : List ℕ) → Runs input text → (other : List ℕ) → (text ≡ other) ↔ Output input other

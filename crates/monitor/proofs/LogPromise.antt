@@ -56,19 +56,24 @@ module _ (t : List ℕ) (h : Header) (sound : WellFormed t h) where
   by-verifier : (trace : List ℕ) (r : ℕ) (m : Monitor) (b : ℕ) (q : Refusal) (n : ℕ) (s : Estimator) (bytes rest after : List ℕ) (r′ : ℕ) → After trace r m
       → numberOf q ≡ n → Accepting t h (m .estimator) b (verifier.refused n) s → Prints t h trace r bytes rest after r′
       → Prints t h trace r (b ∷ bytes) (refusedLine b q ++ rest) after r′
-  by-verifier trace r m b q n s bytes rest after r′ a e (Accepting.malformed bad) p = absurd (bad (sound, grown-limits (automatonOf t h) _ trace (m .estimator) (a .estimator) (sound .symbols-small)))
+  by-verifier trace r m b q n s bytes rest after r′ a e (Accepting.malformed bad) p = absurd
+      (bad (sound, grown-limits (automatonOf t h) _ trace (m .estimator) (a .estimator) (sound .symbols-small)))
   by-verifier trace r m b q n s bytes rest after r′ a e (Accepting.not-observable so li never) p =
       subst (λ (l : List ℕ). Prints t h trace r (b ∷ bytes) (l ++ rest) after r′) (sym (refused-as b q NotObservable (sym e))) (log.not-observable never p)
   by-verifier trace r m b q n s bytes rest after r′ a e (Accepting.incompatible so li ob impossible) p =
-      subst (λ (l : List ℕ). Prints t h trace r (b ∷ bytes) (l ++ rest) after r′) (sym (refused-as b q Incompatible (sym e))) (log.incompatible ob (impossible trace (a .estimator)) p)
+      subst (λ (l : List ℕ). Prints t h trace r (b ∷ bytes) (l ++ rest) after r′) (sym (refused-as b q Incompatible (sym e)))
+      (log.incompatible ob (impossible trace (a .estimator)) p)
 
   -- the enforcer refuses nothing that the verifier accepts
   agree : (trace : List ℕ) (r : ℕ) (m : Monitor) (b n : ℕ) (j : Findings) (s : Estimator) (output left : List ℕ) (e : Enforcer) → After trace r m
       → Accepting t h (m .estimator) b (verifier.verdicts j) s → length output ≡ 17 → Offering t h (m .enforcer) b output (enforcer.refused n) e left → ⊥
-  agree trace r m b n j s output left e a acc wide (Offering.malformed bad) = bad (sound, third.held Weak t h noFurther trace (m .enforcer) (a .enforcer) .limits)
+  agree trace r m b n j s output left e a acc wide (Offering.malformed bad) =
+      bad (sound, third.held Weak t h noFurther trace (m .enforcer) (a .enforcer) .limits)
   agree trace r m b n j s output left e a acc wide (Offering.output-too-small so li small) = omega arith
-  agree trace r m b n j s output left e a (Accepting.accepted so li ob same ls many bounded size exact) wide (Offering.not-observable so′ li′ enough never) = never ob
-  agree trace r m b n j s output left e a (Accepting.accepted so li ob same ls many bounded size exact) wide (Offering.incompatible so′ li′ enough ob′ impossible) =
+  agree trace r m b n j s output left e a (Accepting.accepted so li ob same ls many bounded size exact) wide (Offering.not-observable so′ li′ enough never) =
+      never ob
+  agree trace r m b n j s output left e a (Accepting.accepted so li ob same ls many bounded size exact) wide
+      (Offering.incompatible so′ li′ enough ob′ impossible) =
       let x = exact trace (a .estimator) in
       let p = x .grown .possible in
       impossible Weak trace (third.held Weak t h noFurther trace (m .enforcer) (a .enforcer)) (p .run) (p .compatible)
@@ -109,12 +114,16 @@ module _ (t : List ℕ) (h : Header) (sound : WellFormed t h) where
         };
       }
 
-  print-accepted : (trace : List ℕ) (r : ℕ) (m : Monitor) (b : ℕ) (j : Judgement) (s : Estimator) (f : ℕ) (e : Enforcer) (left bytes rest after : List ℕ) (r′ : ℕ) → After trace r m
+  print-accepted : (trace : List ℕ) (r : ℕ) (m : Monitor) (b : ℕ) (j : Judgement) (s : Estimator) (f : ℕ) (e : Enforcer) (left bytes rest after : List ℕ)
+      (r′ : ℕ) → After trace r m
       → Accepted trace r m b j s f e left → Prints t h (trace ++ b ∷ []) (r + f) bytes rest after r′
-      → Prints t h trace r (b ∷ bytes) (acceptedLine (m .accepted + 1) b (j .verdicts .own .weak) (j .verdicts .own .strong) (j .size) (take f left) ++ rest) after r′
+      → Prints t h trace r (b ∷ bytes) (acceptedLine (m .accepted + 1) b (j .verdicts .own .weak) (j .verdicts .own .strong) (j .size)
+      (take f left) ++ rest) after r′
   print-accepted trace r m b j s f e left bytes rest after r′ a x p =
-      subst (λ (l : List ℕ). Prints t h trace r (b ∷ bytes) (acceptedLine (m .accepted + 1) b (j .verdicts .own .weak) (j .verdicts .own .strong) (j .size) l ++ rest) after r′) (sym (x .piece))
-      (subst (λ (k : ℕ). Prints t h trace r (b ∷ bytes) (acceptedLine (k + 1) b (j .verdicts .own .weak) (j .verdicts .own .strong) (j .size) (take f (drop r (trace ++ b ∷ []))) ++ rest) after r′) (sym (a .accepted))
+      subst (λ (l : List ℕ). Prints t h trace r (b ∷ bytes) (acceptedLine (m .accepted + 1) b (j .verdicts .own .weak) (j .verdicts .own .strong)
+      (j .size) l ++ rest) after r′) (sym (x .piece))
+      (subst (λ (k : ℕ). Prints t h trace r (b ∷ bytes) (acceptedLine (k + 1) b (j .verdicts .own .weak) (j .verdicts .own .strong) (j .size)
+      (take f (drop r (trace ++ b ∷ []))) ++ rest) after r′) (sym (a .accepted))
       (log.accepted (j .verdicts .own) (j .size) f (x .observable) (x .possible) (x .told) (x .longest) p))
 
   -- all event bytes
@@ -159,7 +168,8 @@ module _ (t : List ℕ) (h : Header) (sound : WellFormed t h) where
       one trace r m n (v .byte) (v .line) (bytesOf rest) (linesOf rest) e a s (λ later k g. follow later k n rest e g ls)
 
 -- a log that has started prints what the definitions say, however its bytes were cut into reads (Following, lines-append)
-pub log-promise : (log : List ℕ) (n : ℕ) (t : List ℕ) (h : Header) (m : Monitor) (bytes text : List ℕ) (e : Monitor) → Opening log (started n) t h m → Lines t h m bytes text e
+pub log-promise : (log : List ℕ) (n : ℕ) (t : List ℕ) (h : Header) (m : Monitor) (bytes text : List ℕ) (e : Monitor) → Opening log (started n) t h m
+    → Lines t h m bytes text e
     → MonitorPromise t h bytes text e
 log-promise log n t h m bytes text e (opened within d fresh) ls =
     let sound = decoded-well-formed (encodingOf log) (d .before) h t (d .decoding) in

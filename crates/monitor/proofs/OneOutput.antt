@@ -25,13 +25,16 @@ left accept b t = t
 left (refuse n) b t = b
 
 -- what decoding says does not depend on the table that it finds
-on-table : (bytes a b : List ℕ) {h : Header} {o : Outcome} {t : List ℕ} → length a ≡ 2048 → length b ≡ 2048 → Decoding bytes a h o t → Decoding bytes b h o (left o b t)
+on-table : (bytes a b : List ℕ) {h : Header} {o : Outcome} {t : List ℕ} → length a ≡ 2048 → length b ≡ 2048 → Decoding bytes a h o t
+    → Decoding bytes b h o (left o b t)
 on-table bytes a b x y (Decoding.malformed bad) = absurd (bad x)
 on-table bytes a b x y (Decoding.refused size n e) = Decoding.refused y n e
 on-table bytes a b x y (Decoding.accepted size d next is after holds) = Decoding.accepted y d next is after holds
 
-one-decodes : {log t t′ : List ℕ} {h h′ : Header} {o o′ : Outcome} (d : Decodes log h o t) (d′ : Decodes log h′ o′ t′) → Same h h′ o o′ (left o (d′ .before) t) t′
-one-decodes {log} d d′ = one-decoding (encodingOf log) (d′ .before) (on-table (encodingOf log) (d .before) (d′ .before) (d .words) (d′ .words) (d .decoding)) (d′ .decoding)
+one-decodes : {log t t′ : List ℕ} {h h′ : Header} {o o′ : Outcome} (d : Decodes log h o t) (d′ : Decodes log h′ o′ t′)
+    → Same h h′ o o′ (left o (d′ .before) t) t′
+one-decodes {log} d d′ = one-decoding (encodingOf log) (d′ .before) (on-table (encodingOf log) (d .before) (d′ .before) (d .words) (d′ .words) (d .decoding))
+    (d′ .decoding)
 
 not-accepted : {n : ℕ} → refuse n ≡ accept → ⊥
 not-accepted e = let z : _≡_ {A = ℕ} 0 1 = cc in absurd (omega arith)
@@ -88,7 +91,8 @@ record Alike (text text′ after after′ : List ℕ) (r r′ : ℕ) : Type 0 wh
   released-is : r ≡ r′
 
 module _ (t : List ℕ) (h : Header) where
-  print-more : (trace : List ℕ) (r : ℕ) (bytes : List ℕ) {text text′ after after′ : List ℕ} {k k′ : ℕ} → Prints t h trace r bytes text after k → Prints t h trace r bytes text′ after′ k′
+  print-more : (trace : List ℕ) (r : ℕ) (bytes : List ℕ) {text text′ after after′ : List ℕ} {k k′ : ℕ} → Prints t h trace r bytes text after k
+      → Prints t h trace r bytes text′ after′ k′
       → Alike text text′ after after′ k k′
   print-more trace r bytes none none = record { text-is = refl; after-is = refl; released-is = refl }
   print-more trace r bytes (not-observable {bytes = bs} {b = b} n p) (not-observable n′ p′) =
@@ -108,7 +112,8 @@ module _ (t : List ℕ) (h : Header) where
       let one = one-judgement t h (trace ++ b ∷ []) v w n m ri ri′ in
       let y = print-more (trace ++ b ∷ []) (r + f) bs p (subst (λ (k : ℕ). Prints t h (trace ++ b ∷ []) (r + k) bs text′ after′ k′) same p′) in
       record {
-        text-is = λ i. acceptedLine (length trace + 1) b (one .verdicts i .weak) (one .verdicts i .strong) (one .size i) (take (sym same i) (drop r (trace ++ b ∷ []))) ++ y .text-is i;
+        text-is = λ i. acceptedLine (length trace + 1) b (one .verdicts i .weak) (one .verdicts i .strong) (one .size i)
+            (take (sym same i) (drop r (trace ++ b ∷ []))) ++ y .text-is i;
         after-is = y .after-is;
         released-is = y .released-is;
       }

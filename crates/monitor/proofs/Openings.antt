@@ -71,7 +71,8 @@ decodes log size before h answer t e w d = record {
   decoding = subst (λ (k : ℕ). Decoding (take (k - 2) (drop 2 log)) before h answer t) e d;
 }
 
-pub opens : (log : List ℕ) (size : ℕ) (t : List ℕ) (h : Header) (says : OpenOutcome) (t′ : List ℕ) (h′ : Header) (m : Monitor) → size ≡ frontSize log → size ≤ length log
+pub opens : (log : List ℕ) (size : ℕ) (t : List ℕ) (h : Header) (says : OpenOutcome) (t′ : List ℕ) (h′ : Header) (m : Monitor) → size ≡ frontSize log
+    → size ≤ length log
     → Decodes log h accept t → StartedOn t h size says t′ h′ m → Opening log says t′ h′ m
 opens log size t h says t′ h′ m e l d (leaks start out) = Opening.initial-leak (omega arith) d start out
 opens log size t h says t′ h′ m e l d (begun fresh) = subst (λ (k : ℕ). Opening log (started k) t h m) (sym e) (opened (omega arith) d fresh)

@@ -42,17 +42,21 @@ refused-within t h m w = record {
   balanced = record { among = omega (arith, w .balanced .among); balance = w .balanced .balance };
 }
 
-pub by-verifier : (t : List ℕ) (h : Header) (m : Monitor) (byte : ℕ) (r : Refusal) (s : Estimator) (after : Monitor) {out out′ : List ℕ} {at next : ℕ} → Within t h m
+pub by-verifier : (t : List ℕ) (h : Header) (m : Monitor) (byte : ℕ) (r : Refusal) (s : Estimator) (after : Monitor) {out out′ : List ℕ} {at next : ℕ}
+    → Within t h m
     → Accepting t h (m .estimator) byte (verifier.refused (numberOf r)) s → after ≡ offeredOnce m → Printed out at (refusedLine byte r) next out′
     → Stepped t h m byte out at after next out′
 by-verifier t h m byte r s after {out} {out′} {at} {next} b acc e p = subst (λ (x : Monitor). Stepped t h m byte out at x next out′) (sym e)
     record { text = refusedLine byte r; steps = not-verified r acc; printed = p; within = refused-within t h m b }
 
-pub by-enforcer : (t : List ℕ) (h : Header) (m : Monitor) (byte : ℕ) (r : Refusal) (j : Findings) (s : Estimator) (e : Enforcer) (output left : List ℕ) (after : Monitor)
+pub by-enforcer : (t : List ℕ) (h : Header) (m : Monitor) (byte : ℕ) (r : Refusal) (j : Findings) (s : Estimator) (e : Enforcer) (output left : List ℕ)
+    (after : Monitor)
     {out out′ : List ℕ} {at next : ℕ} → Within t h m → Accepting t h (m .estimator) byte (verifier.verdicts j) s
-    → length output ≡ 17 → Offering t h (m .enforcer) byte output (enforcer.refused (numberOf r)) e left → after ≡ offeredOnce m → Printed out at (refusedLine byte r) next out′
+    → length output ≡ 17 → Offering t h (m .enforcer) byte output (enforcer.refused (numberOf r)) e left → after ≡ offeredOnce m
+    → Printed out at (refusedLine byte r) next out′
     → Stepped t h m byte out at after next out′
-by-enforcer t h m byte r j s e output left after {out} {out′} {at} {next} b acc wide off eq p = subst (λ (x : Monitor). Stepped t h m byte out at x next out′) (sym eq)
+by-enforcer t h m byte r j s e output left after {out} {out′} {at} {next} b acc wide off eq p =
+    subst (λ (x : Monitor). Stepped t h m byte out at x next out′) (sym eq)
     record { text = refusedLine byte r; steps = not-enforced r acc wide off; printed = p; within = refused-within t h m b }
 
 accepted-limits : (t : List ℕ) (h : Header) (self : Estimator) (byte : ℕ) (j : Findings) (s : Estimator) → Accepting t h self byte (verifier.verdicts j) s
@@ -65,11 +69,13 @@ record Counted (h : Header) (m : Monitor) (f : ℕ) (e : Enforcer) : Type 0 wher
   kept : f + e .count ≡ m .enforcer .count + 1
   limits : enforcers.InLimits h e
 
-counted : (t : List ℕ) (h : Header) (m : Monitor) (byte : ℕ) (r : Release) (e : Enforcer) (output left : List ℕ) → Offering t h (m .enforcer) byte output (enforcer.released r) e left → Counted h m (r .count) e
+counted : (t : List ℕ) (h : Header) (m : Monitor) (byte : ℕ) (r : Release) (e : Enforcer) (output left : List ℕ)
+    → Offering t h (m .enforcer) byte output (enforcer.released r) e left → Counted h m (r .count) e
 counted t h m byte r e output left (Offering.accepted so li wide ob same after bal front rest size exact) =
     record { few = omega (arith, li .few, look-back-small h (m .enforcer .estimator .further) (so .back) (li .estimator .allowed)); kept = bal; limits = after }
 
-pub countable : (t : List ℕ) (h : Header) (m : Monitor) (byte : ℕ) (r : Release) (e : Enforcer) (output left : List ℕ) (out : List ℕ) (at : ℕ) → Within t h m → Ready m out at
+pub countable : (t : List ℕ) (h : Header) (m : Monitor) (byte : ℕ) (r : Release) (e : Enforcer) (output left : List ℕ) (out : List ℕ) (at : ℕ) → Within t h m
+    → Ready m out at
     → Offering t h (m .enforcer) byte output (enforcer.released r) e left → Countable m (r .count)
 countable t h m byte r e output left out at b ready off =
     let c = counted t h m byte r e output left off in
@@ -79,7 +85,8 @@ countable t h m byte r e output left out at b ready off =
       released = omega (arith, b .balanced .among, b .balanced .balance, ready .allowed, c .kept);
     }
 
-pub by-both : (t : List ℕ) (h : Header) (m : Monitor) (byte : ℕ) (j : Judgement) (s : Estimator) (r : Release) (e : Enforcer) (output left : List ℕ) (after : Monitor)
+pub by-both : (t : List ℕ) (h : Header) (m : Monitor) (byte : ℕ) (j : Judgement) (s : Estimator) (r : Release) (e : Enforcer) (output left : List ℕ)
+    (after : Monitor)
     {out out′ : List ℕ} {at next : ℕ} → Within t h m
     → Accepting t h (m .estimator) byte (verifier.verdicts (findings (m .estimator .further) j)) s
     → length output ≡ 17 → Offering t h (m .enforcer) byte output (enforcer.released r) e left → after ≡ acceptedOnce m s e (r .count)

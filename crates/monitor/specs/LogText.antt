@@ -24,7 +24,8 @@ pub data Prints (t : List ℕ) (h : Header) : (trace : List ℕ) (released : ℕ
   none : {trace : List ℕ} {r : ℕ} → Prints t h trace r [] [] trace r
   not-observable : {trace bytes text after : List ℕ} {r r′ b : ℕ} → (Observable h b → ⊥) → Prints t h trace r bytes text after r′
       → Prints t h trace r (b ∷ bytes) (refusedLine b NotObservable ++ text) after r′
-  incompatible : {trace bytes text after : List ℕ} {r r′ b : ℕ} → Observable h b → Impossible (automatonOf t h) (trace ++ b ∷ []) → Prints t h trace r bytes text after r′
+  incompatible : {trace bytes text after : List ℕ} {r r′ b : ℕ} → Observable h b → Impossible (automatonOf t h) (trace ++ b ∷ [])
+      → Prints t h trace r bytes text after r′
       → Prints t h trace r (b ∷ bytes) (refusedLine b Incompatible ++ text) after r′
   -- an accepted event: its place, itself, the verdicts, how many states are possible, and what is now in the longest safe prefix and was not before
   accepted : {trace bytes text after : List ℕ} {r r′ b : ℕ} (v : Verdicts) (n f : ℕ) → Observable h b → Possible (automatonOf t h) (trace ++ b ∷ [])

@@ -86,9 +86,11 @@ pub data Opening (log : List ℕ) : OpenOutcome → (table : List ℕ) → Heade
       → Opening log (refused n) t h m
   initial-leak : {t t′ : List ℕ} {h h′ : Header} {m : Monitor} {e : Enforcer} → frontSize log ≤ length log → Decodes log h′ accept t′
       → Starting t′ h′ noFurther Weak (not-started 8) e → NoMonitor h m → Opening log (refused 8) t h m
-  opened : {t : List ℕ} {h : Header} {m : Monitor} → frontSize log ≤ length log → Decodes log h accept t → Fresh t h m → Opening log (started (frontSize log)) t h m
+  opened : {t : List ℕ} {h : Header} {m : Monitor} → frontSize log ≤ length log → Decodes log h accept t → Fresh t h m
+      → Opening log (started (frontSize log)) t h m
 
 -- a start on an automaton, inside `open`
 pub data StartedOn (t : List ℕ) (h : Header) (events : ℕ) : OpenOutcome → List ℕ → Header → Monitor → Type 0 where
-  leaks : {t′ : List ℕ} {h′ : Header} {m : Monitor} {e : Enforcer} → Starting t h noFurther Weak (not-started 8) e → NoMonitor h′ m → StartedOn t h events (refused 8) t′ h′ m
+  leaks : {t′ : List ℕ} {h′ : Header} {m : Monitor} {e : Enforcer} → Starting t h noFurther Weak (not-started 8) e → NoMonitor h′ m
+      → StartedOn t h events (refused 8) t′ h′ m
   begun : {m : Monitor} → Fresh t h m → StartedOn t h events (started events) t h m

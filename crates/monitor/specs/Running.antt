@@ -40,7 +40,8 @@ pub data Follows (t : List ℕ) (h : Header) : Monitor → (left text : List ℕ
   -- no event byte is left
   all : {m : Monitor} → Follows t h m [] [] m
   -- a call takes none, though it has some and room for a line
-  stops : {m e : Monitor} {left events out out′ : List ℕ} {at : ℕ} (later : List ℕ) (says : AdvanceOutcome) → events ++ later ≡ left → 0 < length events → at + 256 ≤ length out
+  stops : {m e : Monitor} {left events out out′ : List ℕ} {at : ℕ} (later : List ℕ) (says : AdvanceOutcome) → events ++ later ≡ left → 0 < length events
+      → at + 256 ≤ length out
       → Advancing t h m events out at says e out′ → takenBy says ≡ 0 → Follows t h m left (writtenBy says at out′) e
   -- the bytes that a call does not take are left for the next
   call : {m n e : Monitor} {left events out out′ text : List ℕ} {at : ℕ} (later : List ℕ) (says : AdvanceOutcome) → events ++ later ≡ left

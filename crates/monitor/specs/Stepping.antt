@@ -45,11 +45,25 @@ pub record Countable (m : Monitor) (f : ℕ) : Type 0 where
 
 -- one event byte more, which was refused
 abbrev pub offeredOnce : Monitor → Monitor
-offeredOnce m = record { opening = m .opening; estimator = m .estimator; enforcer = m .enforcer; offered = m .offered + 1; accepted = m .accepted; released = m .released }
+offeredOnce m = record {
+  opening = m .opening;
+  estimator = m .estimator;
+  enforcer = m .enforcer;
+  offered = m .offered + 1;
+  accepted = m .accepted;
+  released = m .released;
+}
 
 -- one event more, which was accepted: the estimator and the enforcer after it, and how many events it released
 abbrev pub acceptedOnce : Monitor → Estimator → Enforcer → ℕ → Monitor
-acceptedOnce m s e f = record { opening = m .opening; estimator = s; enforcer = e; offered = m .offered + 1; accepted = m .accepted + 1; released = m .released + f }
+acceptedOnce m s e f = record {
+  opening = m .opening;
+  estimator = s;
+  enforcer = e;
+  offered = m .offered + 1;
+  accepted = m .accepted + 1;
+  released = m .released + f;
+}
 
 -- an event byte: the line, and the monitor after it. The byte is offered to the verifier, and where that accepts it to the enforcer, with an output of 17
 -- bytes. The verdicts of the automaton's own secret and the number of possible states in the line are the verifier's

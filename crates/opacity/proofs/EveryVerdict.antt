@@ -59,7 +59,8 @@ crossed? p secret j run = go (find Late (λ s. both (decLe j (length (shown p s)
     Late : List Step → Type 0
     Late s = (j ≤ length (shown p s)) × In (endOf (p .initial) s) secret
 
-    go : Found Late run ⊎ ((m : Position run) → Late (m .before) → ⊥) → Crossed p secret run j ⊎ ((m : Position run) → j ≤ count p m → In (stateAt p m) secret → ⊥)
+    go : Found Late run ⊎ ((m : Position run) → Late (m .before) → ⊥) → Crossed p secret run j
+        ⊎ ((m : Position run) → j ≤ count p m → In (stateAt p m) secret → ⊥)
     go (inl f) = inl (record { position = f .position; late = f .holds .0; inside = f .holds .1 })
     go (inr missing) = inr (λ m late bad. missing m (late, bad))
 
@@ -75,7 +76,8 @@ unclear-sure Weak p secret trace j never = λ run f m c. elim (in? (stateAt p m)
 ]
 unclear-sure Strong p secret trace j never = λ run f. go run f (crossed? p (secret .states) j run)
   where
-    go : (run : List Step) → Compatible p trace run → Crossed p (secret .states) run j ⊎ ((m : Position run) → j ≤ count p m → In (stateAt p m) (secret .states) → ⊥) → Crossed p (secret .states) run j
+    go : (run : List Step) → Compatible p trace run → Crossed p (secret .states) run j
+        ⊎ ((m : Position run) → j ≤ count p m → In (stateAt p m) (secret .states) → ⊥) → Crossed p (secret .states) run j
     go run f (inl x) = x
     go run f (inr out) = absurd (never (record { run = run; compatible = f; outside = out }))
 
@@ -88,7 +90,15 @@ module _ (notion : Notion) (p : Automaton) (secret : Secret) (trace : List ℕ) 
       take-up : NoLeakBelow notion p secret trace k → Dec (Clear notion p secret trace (length trace - k))
           → ((l : ℕ) × Tells notion p secret trace (leak l)) ⊎ NoLeakBelow notion p secret trace (suc k)
       take-up x (yes c) = inr (λ m less. below-step notion p secret trace k x c m (omega arith))
-      take-up x (no never) = inl (k, record { within = omega arith; reached = omega arith; sure = unclear-sure notion p secret trace (length trace - k) never; least = x })
+      take-up x (no never) = inl (
+        k,
+        record {
+          within = omega arith;
+          reached = omega arith;
+          sure = unclear-sure notion p secret trace (length trace - k) never;
+          least = x;
+        },
+      )
 
       go : ((l : ℕ) × Tells notion p secret trace (leak l)) ⊎ NoLeakBelow notion p secret trace k
           → ((l : ℕ) × Tells notion p secret trace (leak l)) ⊎ NoLeakBelow notion p secret trace (suc k)
@@ -99,6 +109,7 @@ module _ (notion : Notion) (p : Automaton) (secret : Secret) (trace : List ℕ) 
   pub every-verdict : (v : Steps) × Tells notion p secret trace v
   every-verdict = go (search-back (suc (min (secret .k) (length trace))) (omega arith) (omega arith))
     where
-      go : ((l : ℕ) × Tells notion p secret trace (leak l)) ⊎ NoLeakBelow notion p secret trace (suc (min (secret .k) (length trace))) → (v : Steps) × Tells notion p secret trace v
+      go : ((l : ℕ) × Tells notion p secret trace (leak l)) ⊎ NoLeakBelow notion p secret trace (suc (min (secret .k) (length trace)))
+          → (v : Steps) × Tells notion p secret trace v
       go (inl (l, x)) = (leak l, x)
       go (inr x) = (none, λ l low short. x l (omega arith))

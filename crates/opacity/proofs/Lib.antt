@@ -1,5 +1,5 @@
--- Numbering: the secrets that are given, by their numbers. Exactness: laws of verdicts. Searching, Deciding, EveryVerdict: whether some run excuses the system can
--- be tested, so that each trace has a verdict.
+-- Numbering: the secrets that are given, by their numbers. Exactness: laws of verdicts. Searching, Deciding, EveryVerdict: whether some run excuses the system
+-- can be tested, so that each trace has a verdict.
 pub mod Numbering
 pub mod Exactness
 pub mod Searching

@@ -10,7 +10,8 @@ use lib.Seq.{getD-take, length-take-le}
 use Rattle.automaton.specs.declared.Header.{Header}
 use Rattle.opacity.specs.declared.Secret.{Secret}
 use Rattle.opacity.specs.declared.Further.{Further}
-use Rattle.opacity.specs.Secrets.{own, placeOf, placesOf, furtherOf, secretsOf, emptySecret, secretAt, ForEach, largest, lookBackOf, clearedOf, noFurther, Allowed, TooLarge}
+use Rattle.opacity.specs.Secrets.{own, placeOf, placesOf, furtherOf, secretsOf, emptySecret, secretAt, ForEach, largest, lookBackOf, clearedOf, noFurther}
+use Rattle.opacity.specs.Secrets.{Allowed, TooLarge}
 
 -- the largest K is that of an arbitrary secret at least, no more than a bound of all, and above a number where one of them is
 pub largest-bounds : (cs : List Secret) → ForEach cs (λ i c. c .k ≤ largest cs)
@@ -89,7 +90,8 @@ not-placed f j more = List·getD-eq-default (furtherOf f) emptySecret (long more
 
 -- what a state keeps are the same secrets
 cleared-places : (n : ℕ) (a b c : Secret)
-    → take n (getD (take n (a ∷ b ∷ c ∷ [])) 0 emptySecret ∷ getD (take n (a ∷ b ∷ c ∷ [])) 1 emptySecret ∷ getD (take n (a ∷ b ∷ c ∷ [])) 2 emptySecret ∷ []) ≡ take n (a ∷ b ∷ c ∷ [])
+    → take n (getD (take n (a ∷ b ∷ c ∷ [])) 0 emptySecret ∷ getD (take n (a ∷ b ∷ c ∷ [])) 1 emptySecret ∷ getD (take n (a ∷ b ∷ c ∷ [])) 2 emptySecret ∷ [])
+    ≡ take n (a ∷ b ∷ c ∷ [])
 cleared-places zero a b c = refl
 cleared-places (suc zero) a b c = refl
 cleared-places (suc (suc zero)) a b c = refl

@@ -72,7 +72,8 @@ module _ (p q : Automaton) (like : Alike p q) (a b : List ℕ) (x : SameEvents p
       (words-agree p q a b g secret notion v, words-agree q p b a (agree-back p q a b g) secret notion v)
 
 -- so where no two observable events share a symbol, each verdict on the symbols of events is the one on these events without symbols
-module _ (p q : Automaton) (d : Distinct p) (w : WithoutSymbols q) (s : SameButSymbols p q) (es : List ℕ) (each : Events p es) (secret : Secret) (notion : Notion)
+module _ (p q : Automaton) (d : Distinct p) (w : WithoutSymbols q) (s : SameButSymbols p q) (es : List ℕ) (each : Events p es) (secret : Secret)
+    (notion : Notion)
     (v : Steps) where
   pub distinct-tells : Tells notion p secret (symbolsOf p es) v ↔ Tells notion q secret es v
   distinct-tells = alike-tells p q (distinct-alike p q d w s) (symbolsOf p es) es (events-spelled p q d w s es each) secret notion v

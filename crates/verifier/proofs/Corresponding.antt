@@ -61,7 +61,8 @@ use Rattle.opacity.proofs.Numbering.{allowed-not-large}
 use Rattle.verifier.proofs.SecondPoint.{second-point}
 
 -- lists of verdicts that tell the same of each number
-pub same-told : (vs vs′ : List Told) → length vs ≡ length vs′ → ((notion : Notion) (i : ℕ) → i < length vs → toldAt notion vs i ≡ toldAt notion vs′ i) → vs ≡ vs′
+pub same-told : (vs vs′ : List Told) → length vs ≡ length vs′ → ((notion : Notion) (i : ℕ) → i < length vs → toldAt notion vs i ≡ toldAt notion vs′ i)
+    → vs ≡ vs′
 same-told [] [] e each = refl
 same-told [] (v ∷ vs) e each = absurd (omega arith)
 same-told (v ∷ vs) [] e each = absurd (omega arith)
@@ -71,7 +72,8 @@ same-told (v ∷ vs) (v′ ∷ vs′) e each =
     ap₂ (λ (x y : Steps). record { weak = x; strong = y } ∷ vs) weak strong
     ∙ ap (λ (xs : List Told). v′ ∷ xs) (same-told vs vs′ (omega arith) (λ notion i h. each notion (suc i) (omega arith)))
 
-module _ (t : List ℕ) (h h′ : Header) (like : Alike (automatonOf t h) (automatonOf t h′)) (secret : h .secret ≡ h′ .secret) (k : h .k ≡ h′ .k) (given : Further) where
+module _ (t : List ℕ) (h h′ : Header) (like : Alike (automatonOf t h) (automatonOf t h′)) (secret : h .secret ≡ h′ .secret) (k : h .k ≡ h′ .k)
+    (given : Further) where
   abbrev Same : List ℕ → List ℕ → Type 0
   Same a b = SameEvents (automatonOf t h) (automatonOf t h′) a b
 
@@ -90,7 +92,8 @@ module _ (t : List ℕ) (h h′ : Header) (like : Alike (automatonOf t h) (autom
       let size = sizes-agree _ _ a b (alike-agree _ _ like a b x) (j .size) (j′ .size) (y .size) (z .size) in
       let many : length (j .each) ≡ length (j′ .each) = y .as-many ∙ ap length secrets ∙ sym (z .as-many) in
       let others : (notion : Notion) → ForEach (secretsOf h given) (λ i c. Exactly notion (automatonOf t h′) c b (toldAt notion (j′ .each) i)) =
-      λ notion. subst (λ (cs : List Secret). ForEach cs (λ i c. Exactly notion (automatonOf t h′) c b (toldAt notion (j′ .each) i))) (sym secrets) (z .each notion) in
+      λ notion. subst (λ (cs : List Secret). ForEach cs (λ i c. Exactly notion (automatonOf t h′) c b (toldAt notion (j′ .each) i))) (sym secrets)
+      (z .each notion) in
       let each = same-told (j .each) (j′ .each) many (λ notion i less.
       let g : i < length (secretsOf h given) = omega (arith, y .as-many) in
       exactly-alike notion (secretAt (secretsOf h given) i) a b _ _ x (y .each notion i g) (others notion i g)) in

@@ -41,7 +41,8 @@ estimated p from entry silent r states size start small-entry small g within rea
     }
 
 -- its number, for a trace by which the entry set was entered
-pub estimated-size : (p : Automaton) (from entry : ℕ) (silent : List ℕ) (e : Estimate) (trace : List ℕ) → Estimated p from entry silent e → Is entry (Enters p trace)
+pub estimated-size : (p : Automaton) (from entry : ℕ) (silent : List ℕ) (e : Estimate) (trace : List ℕ) → Estimated p from entry silent e
+    → Is entry (Enters p trace)
     → EstimateSize p trace (e .size)
 estimated-size p from entry silent e trace s E = set-size p trace (e .states) (e .size) (s .reach .each trace E) (s .size-is)
 

@@ -30,7 +30,9 @@ use Rattle.verifier.specs.declared.Estimator.{Estimator}
 use Rattle.opacity.specs.Verdicts.{Steps, none, leak, stepsOf, Tells}
 use Rattle.opacity.specs.Secrets.{secretOf, own, secretsOf, secretAt, ForEach, lookBackOf, clearedOf, Allowed}
 use Rattle.verifier.specs.Estimators.{Limits, InLimits, Grown, GrownOn}
-use Rattle.verifier.specs.Replies.{FindingsBy, toldOf, noneTold, noLeaks, stepsBy, toldAt, numbered, toldEach, refused, said, OthersNoLeak, Others, refused-by, verdicts-by, saidBy, OthersBy, chosen, Bounded, Opening, opened, Accepting, accepted, Moved, TellsBy, AcceptingBy, turned-back, accepted-by}
+use Rattle.verifier.specs.Replies.{FindingsBy, toldOf, noneTold, noLeaks, stepsBy, toldAt, numbered, toldEach, refused, said, OthersNoLeak, Others}
+use Rattle.verifier.specs.Replies.{refused-by, verdicts-by, saidBy, OthersBy, chosen, Bounded, Opening, opened, Accepting, accepted, Moved, TellsBy}
+use Rattle.verifier.specs.Replies.{AcceptingBy, turned-back, accepted-by}
 use Rattle.verifier.specs.Inner.{Estimated, Stepped, Found, upTo, Asks, askFor, chosenAnswer, WhereAsked, Judged, JudgedAt, JudgedAll, Opened, AcceptingAsked}
 use Rattle.verifier.specs.declared.Reply.{Reply}
 use Rattle.verifier.specs.declared.Asked.{Asked}
@@ -66,7 +68,8 @@ found-tells : (notion : Notion) (p : Automaton) (secret : Secret) (K : ℕ) (tra
     → Found notion p (upTo (s .count) secret) (s .count) s v → Tells notion p secret trace (stepsOf v)
 found-tells notion p secret K trace s v low g f =
     let c = g .count-is in
-    tells-up notion p secret (min (secret .k) (s .count)) trace (stepsOf v) (omega arith) (f .exact trace (grown-remembers p K trace s g (s .count) (omega arith)))
+    tells-up notion p secret (min (secret .k) (s .count)) trace (stepsOf v) (omega arith)
+    (f .exact trace (grown-remembers p K trace s g (s .count) (omega arith)))
 
 pub judged-of : (t : List ℕ) (h : Header) (s : Estimator) (c d : Secret) (a : Asked) (v : Verdicts) → c ≡ d → Judged t h s c a v → Judged t h s d a v
 judged-of t h s c d a v e j = subst (λ (x : Secret). Judged t h s x a v) e j
@@ -78,7 +81,8 @@ not-both b t f = subst T (sym t ∙ f) tt
 -- both verdicts of one secret
 pub judged-both : (t : List ℕ) (h : Header) (s : Estimator) (c : Secret) (a : Asked) (weak strong : Verdict)
     → WhereAsked Weak a weak (Found Weak (automatonOf t h) (upTo (s .count) c) (s .count) s weak)
-    → WhereAsked Strong a strong (Found Strong (automatonOf t h) (upTo (s .count) c) (s .count) s strong) → Judged t h s c a (record { weak = weak; strong = strong })
+    → WhereAsked Strong a strong (Found Strong (automatonOf t h) (upTo (s .count) c) (s .count) s strong)
+    → Judged t h s c a (record { weak = weak; strong = strong })
 judged-both t h s c a weak strong x y Weak = x
 judged-both t h s c a weak strong x y Strong = y
 
@@ -91,7 +95,8 @@ both a weak strong Weak = weak
 both a weak strong Strong = strong
 
 -- the verdicts of four places make those of all
-pub judged-four : (t : List ℕ) (h : Header) (s : Estimator) (a : Asked) (v w x y : Verdicts) → s .further .count ≤ 3 → JudgedAt t h s a 0 v → JudgedAt t h s a 1 w
+pub judged-four : (t : List ℕ) (h : Header) (s : Estimator) (a : Asked) (v w x y : Verdicts) → s .further .count ≤ 3 → JudgedAt t h s a 0 v
+    → JudgedAt t h s a 1 w
     → JudgedAt t h s a 2 x → JudgedAt t h s a 3 y → JudgedAll t h s a (record { own = v; first = w; second = x; third = y })
 judged-four t h s a v w x y few j k l m zero = j
 judged-four t h s a v w x y few j k l m (suc zero) = k
@@ -104,7 +109,8 @@ judged-four t h s a v w x y few j k l m (suc (suc (suc (suc i)))) =
 pub judged-alone : (t : List ℕ) (h : Header) (s : Estimator) (a : Asked) (v : Verdicts) → s .further .count ≡ 0 → Judged t h s (own h) a v
     → JudgedAll t h s a (record { own = v; first = noLeaks; second = noLeaks; third = noLeaks })
 judged-alone t h s a v alone j =
-    judged-four t h s a v noLeaks noLeaks noLeaks (omega arith) (record { given = λ g. j; other = λ o. absurd (omega arith) }) (not-given 1 (omega arith)) (not-given 2 (omega arith))
+    judged-four t h s a v noLeaks noLeaks noLeaks (omega arith) (record { given = λ g. j; other = λ o. absurd (omega arith) }) (not-given 1 (omega arith))
+    (not-given 2 (omega arith))
     (not-given 3 (omega arith))
   where
     not-given : (i : ℕ) → 0 < i → JudgedAt t h s a i noLeaks
@@ -141,8 +147,10 @@ others-no-leak : (t : List ℕ) (h : Header) (s : Estimator) (a : Asked) (v : Se
 others-no-leak t h s a v j i more = j i .other (omega (arith, how-many-most h (s .further)))
 
 -- the verdicts of a grown estimator, where both notions are asked for
-pub judged-tells : (t : List ℕ) (h : Header) (trace : List ℕ) (s : Estimator) (a : Asked) (v : SecretVerdicts) → Asks Weak a → Asks Strong a → GrownOn t h trace s
-    → JudgedAll t h s a v → (notion : Notion) → ForEach (secretsOf h (s .further)) (λ i c. Tells notion (automatonOf t h) c trace (toldAt notion (toldEach (s .further) v) i))
+pub judged-tells : (t : List ℕ) (h : Header) (trace : List ℕ) (s : Estimator) (a : Asked) (v : SecretVerdicts) → Asks Weak a → Asks Strong a
+    → GrownOn t h trace s
+    → JudgedAll t h s a v → (notion : Notion) → ForEach (secretsOf h (s .further))
+    (λ i c. Tells notion (automatonOf t h) c trace (toldAt notion (toldEach (s .further) v) i))
 judged-tells t h trace s a v weak strong g j notion i given =
     subst (Tells notion (automatonOf t h) (secretAt (secretsOf h (s .further)) i) trace)
     (sym (told-place h (s .further) v notion i given))
@@ -216,7 +224,8 @@ moved-by t h self symbol n from k silent e s so li ob x is largest same after pu
     }
 
 -- the verdict of one secret that was found for an estimator, as that of the symbol that led to it
-found-by : (notion : Notion) (t : List ℕ) (h : Header) (self : Estimator) (symbol n : ℕ) (s : Estimator) (c : Secret) (v : Verdict) → c .k ≤ lookBackOf h (s .further)
+found-by : (notion : Notion) (t : List ℕ) (h : Header) (self : Estimator) (symbol n : ℕ) (s : Estimator) (c : Secret) (v : Verdict)
+    → c .k ≤ lookBackOf h (s .further)
     → Moved t h self symbol n s → Found notion (automatonOf t h) (upTo (s .count) c) (s .count) s v → TellsBy notion t h self symbol c (stepsOf v)
 found-by notion t h self symbol n s c v low m f =
     record {
@@ -241,7 +250,8 @@ judged-by a t h self symbol j s m all = (
 )
 
 -- a refusal
-pub refused-asked : (a : Asked) (t : List ℕ) (h : Header) (self : Estimator) (symbol : ℕ) (refusal : Refusal) (r : Reply) → r .estimator ≡ self → r .answer ≡ answer.Refused refusal
+pub refused-asked : (a : Asked) (t : List ℕ) (h : Header) (self : Estimator) (symbol : ℕ) (refusal : Refusal) (r : Reply) → r .estimator ≡ self
+    → r .answer ≡ answer.Refused refusal
     → Accepting t h self symbol (refused (numberOf refusal)) self → AcceptingAsked a t h self symbol (r .answer) (r .estimator)
 refused-asked a t h self symbol refusal r e f x = rw (e, f) x
 
@@ -251,7 +261,8 @@ pub asked-both : (t : List ℕ) (h : Header) (self : Estimator) (symbol : ℕ) (
 asked-both t h self symbol a (answer.Refused n) s weak strong x = (x, tt)
 asked-both t h self symbol a (answer.Accepted j) s weak strong x = (
   accepted (m .sound) (m .limits) (m .observable) (m .same) (m .limits-after) (as-many h (self .further) (j .verdicts) (m .limits .allowed .few))
-      (λ notion i given. subst (Bounded (secretAt (secretsOf h (self .further)) i .k)) (sym (place notion i given)) (by notion i given .bounded)) (m .size-within)
+      (λ notion i given. subst (Bounded (secretAt (secretsOf h (self .further)) i .k)) (sym (place notion i given)) (by notion i given .bounded))
+      (m .size-within)
       (λ trace g.
       let n = m .grown trace g in
       record {
@@ -268,10 +279,12 @@ asked-both t h self symbol a (answer.Accepted j) s weak strong x = (
     m : Moved t h self symbol (j .size) s
     m = x .0
 
-    place : (notion : Notion) (i : ℕ) → i < length (secretsOf h (self .further)) → toldAt notion (toldEach (self .further) (j .verdicts)) i ≡ stepsOf (chosen notion (getD (numbered (j .verdicts)) i noLeaks))
+    place : (notion : Notion) (i : ℕ) → i < length (secretsOf h (self .further)) → toldAt notion (toldEach (self .further) (j .verdicts)) i
+        ≡ stepsOf (chosen notion (getD (numbered (j .verdicts)) i noLeaks))
     place notion i given = told-place h (self .further) (j .verdicts) notion i given
 
-    by : (notion : Notion) → ForEach (secretsOf h (self .further)) (λ i c. TellsBy notion t h self symbol c (stepsOf (chosen notion (getD (numbered (j .verdicts)) i noLeaks))))
+    by : (notion : Notion) → ForEach (secretsOf h (self .further))
+        (λ i c. TellsBy notion t h self symbol c (stepsOf (chosen notion (getD (numbered (j .verdicts)) i noLeaks))))
     by notion i given = x .2 notion i given .found (both a weak strong notion)
 
 -- a place that is not given says nothing by either notion
@@ -289,10 +302,13 @@ pub asked-one : (notion : Notion) (t : List ℕ) (h : Header) (self : Estimator)
     → AcceptingBy notion t h self symbol (saidBy (self .further) (chosenAnswer notion r)) s × OthersBy (self .further) (chosenAnswer notion r)
 asked-one notion t h self symbol a (answer.Refused n) s one x = (turned-back x, tt)
 asked-one notion t h self symbol a (answer.Accepted j) s one x = (
-  accepted-by (x .0) (length-take-le (suc (self .further .count)) (map (λ v. stepsOf (chosen notion v)) (numbered (j .verdicts))) (omega (arith, few)) ∙ sym (how-many h (self .further) few))
+  accepted-by (x .0) (length-take-le (suc (self .further .count)) (map (λ v. stepsOf (chosen notion v)) (numbered (j .verdicts))) (omega (arith, few))
+      ∙ sym (how-many h (self .further) few))
       (λ i given.
       subst (TellsBy notion t h self symbol (secretAt (secretsOf h (self .further)) i))
-      (sym (getD-take (suc (self .further .count)) (map (λ v. stepsOf (chosen notion v)) (numbered (j .verdicts))) i none (omega (arith, how-many-most h (self .further))) ∙ getD-map (λ v. stepsOf (chosen notion v)) (numbered (j .verdicts)) i noLeaks none (ap stepsOf (nothing notion))))
+      (sym (getD-take (suc (self .further .count)) (map (λ v. stepsOf (chosen notion v)) (numbered (j .verdicts))) i none
+      (omega (arith, how-many-most h (self .further))) ∙ getD-map (λ v. stepsOf (chosen notion v)) (numbered (j .verdicts)) i noLeaks none
+      (ap stepsOf (nothing notion))))
       (x .2 notion i given .found (subst (Asks notion) (sym one) (asks-one notion)))),
   λ i more. getD-map (chosen notion) (numbered (j .verdicts)) i noLeaks NoLeak (nothing notion) ∙ ap (chosen notion) (x .1 i more) ∙ nothing notion,
 )
@@ -301,7 +317,8 @@ asked-one notion t h self symbol a (answer.Accepted j) s one x = (
     few = x .0 .limits .allowed .few
 
 -- and the other way round
-pub refused-of : {notion : Notion} {t : List ℕ} {h : Header} {self : Estimator} {symbol n : ℕ} {s : Estimator} → AcceptingBy notion t h self symbol (refused-by n) s
+pub refused-of : {notion : Notion} {t : List ℕ} {h : Header} {self : Estimator} {symbol n : ℕ} {s : Estimator}
+    → AcceptingBy notion t h self symbol (refused-by n) s
     → Accepting t h self symbol (refused n) s
 refused-of (turned-back x) = x
 

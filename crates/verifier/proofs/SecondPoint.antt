@@ -21,7 +21,8 @@ use Rattle.automaton.proofs.Estimates.{right-size}
 use Rattle.verifier.proofs.Growing.{grown-limits}
 
 -- what an answer tells of a trace is right
-pub right : (t : List ℕ) (h : Header) (f : Further) (trace : List ℕ) (j : Findings) (s : Estimator) → length (j .each) ≡ length (secretsOf h f) → SizeWithin (j .size)
+pub right : (t : List ℕ) (h : Header) (f : Further) (trace : List ℕ) (j : Findings) (s : Estimator) → length (j .each) ≡ length (secretsOf h f)
+    → SizeWithin (j .size)
     → Exact t h (secretsOf h f) trace j s → Right t h f trace j
 right t h f trace j s as-many within x =
     record {
@@ -46,7 +47,12 @@ module _ (t : List ℕ) (h : Header) (f : Further) (sound : WellFormed t h) wher
       let x = exact trace g in
       let secrets : secretsOf h (s .further) ≡ secretsOf h f = ap (secretsOf h) same ∙ same-secrets h f in
       record {
-        answered = (ob, x .possible, right t h f _ j m (as-many ∙ ap length secrets) within (subst (λ (cs : List Secret). Exact t h cs (trace ++ byte ∷ []) j m) secrets x));
+        answered = (
+          ob,
+          x .possible,
+          right t h f _ j m (as-many ∙ ap length secrets) within
+              (subst (λ (cs : List Secret). Exact t h cs (trace ++ byte ∷ []) j m) secrets x),
+        );
         same = kept ∙ same;
         grown = x .grown;
       }
@@ -57,7 +63,8 @@ module _ (t : List ℕ) (h : Header) (f : Further) (sound : WellFormed t h) wher
     same : e .further ≡ clearedOf f
     grown : GrownOn t h (trace ++ acceptedOf cs) e
 
-  follow : (trace : List ℕ) (s : Estimator) (cs : List Call) (e : Estimator) → s .further ≡ clearedOf f → GrownOn t h trace s → Calls t h s cs e → After trace cs e
+  follow : (trace : List ℕ) (s : Estimator) (cs : List Call) (e : Estimator) → s .further ≡ clearedOf f → GrownOn t h trace s → Calls t h s cs e
+      → After trace cs e
   follow trace s cs e same g done = record { answered = end; same = same; grown = rw (append-nil trace) g }
   follow trace s cs e same g (next {m = m} {c = c} {cs = rest} a more-calls) =
       let x = one trace s (c .byte) (c .says) m same g a in

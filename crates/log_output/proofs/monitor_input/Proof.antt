@@ -15,19 +15,35 @@ enum-known-n : tie.Need-enum-known-n
 enum-known-n c = search needs
 
 sub-run : tie.Need-sub-run
-sub-run c = let g = subst (λ (r : Gathered). UpTo (c .before .before .before .before .before .before .before .gather .last .0) (c .before .before .before .before .before .before .before .before .before .before .before .args .size) r) (c .before .before .before .n .given .1) (c .before .before .before .before .before .before .before .gather .ensures) in omega (arith, g .1)
+sub-run c =
+    let f = c .before .before .before .before .before .before .before in
+    let g = subst (λ (r : Gathered). UpTo (f .gather .last .0) (f .before .before .before .before .args .size) r) (c .before .before .before .n .given .1)
+    (f .gather .ensures) in
+    omega (arith, g .1)
 
 run-requires : tie.Need-run-requires
-run-requires c κs = let g = subst (λ (r : Gathered). UpTo (c .before .before .before .before .before .before .before .gather .last .0) (c .before .before .before .before .before .before .before .before .before .before .before .args .size) r) (c .before .before .before .n .given .1) (c .before .before .before .before .before .before .before .gather .ensures) in g .0
+run-requires c κs =
+    let f = c .before .before .before .before .before .before .before in
+    let g = subst (λ (r : Gathered). UpTo (f .gather .last .0) (f .before .before .before .before .args .size) r) (c .before .before .before .n .given .1)
+    (f .gather .ensures) in
+    g .0
 
 enum-known-n-2 : tie.Need-enum-known-n-2
 enum-known-n-2 c = search needs
 
 sub-run-2 : tie.Need-sub-run-2
-sub-run-2 c = let g = subst (λ (r : Gathered). UpTo (c .before .before .before .before .before .before .before .gather .last .0) (c .before .before .before .before .before .before .before .before .before .before .before .args .size) r) (c .before .before .before .n2 .given .1) (c .before .before .before .before .before .before .before .gather .ensures) in omega (arith, g .1)
+sub-run-2 c =
+    let f = c .before .before .before .before .before .before .before in
+    let g = subst (λ (r : Gathered). UpTo (f .gather .last .0) (f .before .before .before .before .args .size) r) (c .before .before .before .n2 .given .1)
+    (f .gather .ensures) in
+    omega (arith, g .1)
 
 run-requires-2 : tie.Need-run-requires-2
-run-requires-2 c κs = let g = subst (λ (r : Gathered). UpTo (c .before .before .before .before .before .before .before .gather .last .0) (c .before .before .before .before .before .before .before .before .before .before .before .args .size) r) (c .before .before .before .n2 .given .1) (c .before .before .before .before .before .before .before .gather .ensures) in g .0
+run-requires-2 c κs =
+    let f = c .before .before .before .before .before .before .before in
+    let g = subst (λ (r : Gathered). UpTo (f .gather .last .0) (f .before .before .before .before .args .size) r) (c .before .before .before .n2 .given .1)
+    (f .gather .ensures) in
+    g .0
 
 enum-told : tie.Need-enum-told
 enum-told c = search needs
@@ -40,8 +56,10 @@ same-length-2 c = search needs
 
 returns : tie.Need-returns
 returns c =
-    let g = subst (λ (r : Gathered). UpTo (c .before .before .before .before .before .before .before .before .before .before .before .before .gather .last .0) (c .before .before .before .before .before .before .before .before .before .before .before .before .before .before .before .before .args .size) r) (c .before .before .before .before .before .before .before .before .n .given .1) (c .before .before .before .before .before .before .before .before .before .before .before .before .gather .ensures) in
-    runs (c .before .before .before .before .before .before .before .before .before .before .before .before .gather .last .0) (g .0) (g .1) (c .before .before .before .before .run .ensures)
+    let f = c .before .before .before .before .before .before .before .before .before .before .before .before in
+    let g = subst (λ (r : Gathered). UpTo (f .gather .last .0) (f .before .before .before .before .args .size) r)
+    (c .before .before .before .before .before .before .before .before .n .given .1) (f .gather .ensures) in
+    runs (f .gather .last .0) (g .0) (g .1) (c .before .before .before .before .run .ensures)
 
 same-length-3 : tie.Need-same-length-3
 same-length-3 c = search needs
@@ -51,8 +69,10 @@ same-length-4 c = search needs
 
 returns-2 : tie.Need-returns-2
 returns-2 c =
-    let g = subst (λ (r : Gathered). UpTo (c .before .before .before .before .before .before .before .before .before .before .before .before .gather .last .0) (c .before .before .before .before .before .before .before .before .before .before .before .before .before .before .before .before .args .size) r) (c .before .before .before .before .before .before .before .before .n2 .given .1) (c .before .before .before .before .before .before .before .before .before .before .before .before .gather .ensures) in
-    runs (c .before .before .before .before .before .before .before .before .before .before .before .before .gather .last .0) (g .0) (g .1) (c .before .before .before .before .run2 .ensures)
+    let f = c .before .before .before .before .before .before .before .before .before .before .before .before in
+    let g = subst (λ (r : Gathered). UpTo (f .gather .last .0) (f .before .before .before .before .args .size) r)
+    (c .before .before .before .before .before .before .before .before .n2 .given .1) (f .gather .ensures) in
+    runs (f .gather .last .0) (g .0) (g .1) (c .before .before .before .before .run2 .ensures)
 
 same-length-5 : tie.Need-same-length-5
 same-length-5 c = search needs

@@ -13,7 +13,8 @@ use Rattle.log_output.proofs.Fetching.{whole-front}
 use Rattle.log_output.proofs.taken_in.Statement.{statement}
 use Rattle.log_output.proofs.taken_in.Tie as tie
 
-by-cases : {t : List ℕ} {h : Header} {q : Progress} {out input : List ℕ} {f g : Fetched} {r : Reading} {out′ : List ℕ} → f ≡ g → TakenIn t h q out input g r out′ → TakenIn t h q out input f r out′
+by-cases : {t : List ℕ} {h : Header} {q : Progress} {out input : List ℕ} {f g : Fetched} {r : Reading} {out′ : List ℕ} → f ≡ g
+    → TakenIn t h q out input g r out′ → TakenIn t h q out input f r out′
 by-cases {t} {h} {q} {out} {input} {r = r} {out′ = out′} e x = subst (λ (y : Fetched). TakenIn t h q out input y r out′) (sym e) x
 
 enum-known-fetched : tie.Need-enum-known-fetched

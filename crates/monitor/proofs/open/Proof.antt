@@ -22,9 +22,12 @@ abbrev tableAfter : tie.After-decode → List ℕ
 tableAfter x = x .decode .last .1 .0
 
 -- what was decoded, by the answer that was taken
-decoded : (x : tie.After-decode) (r : Answer.Answer) → x .decode .result .answer ≡ r → Decodes (logAt x) (x .decode .result .header) (answerMeans r) (tableAfter x)
-decoded x r e = decodes (logAt x) (x .before .before .before .front-size .result) (replicate 2048 0) (x .decode .result .header) (answerMeans r) (tableAfter x) (x .before .before .before .front-size .ensures) refl
-    (subst (λ (a : Answer.Answer). Decoding (take (x .before .before .before .front-size .result - 2) (drop 2 (logAt x))) (replicate 2048 0) (x .decode .result .header) (answerMeans a) (tableAfter x)) e (x .decode .ensures))
+decoded : (x : tie.After-decode) (r : Answer.Answer) → x .decode .result .answer ≡ r → Decodes (logAt x) (x .decode .result .header) (answerMeans r)
+    (tableAfter x)
+decoded x r e = decodes (logAt x) (x .before .before .before .front-size .result) (replicate 2048 0) (x .decode .result .header) (answerMeans r) (tableAfter x)
+    (x .before .before .before .front-size .ensures) refl
+    (subst (λ (a : Answer.Answer). Decoding (take (x .before .before .before .front-size .result - 2) (drop 2 (logAt x))) (replicate 2048 0)
+    (x .decode .result .header) (answerMeans a) (tableAfter x)) e (x .decode .ensures))
 
 -- the length and the encoding are there
 whole : (x : tie.Else1) → frontSize (now (x .before .before .before .args .log)) ≤ length (now (x .before .before .before .args .log))
@@ -38,7 +41,9 @@ refused-requires c κs = search needs
 
 returns : tie.Need-returns
 returns c =
-    rw (c .refused .ensures .0) (Opening.truncated (short (now (c .before .before .before .before .args .log)) (fails (c .before .before .has-encoding .result) (not-true _ (c .before .if1 .taken)) (c .before .before .has-encoding .ensures))) (c .refused .ensures .1))
+    rw (c .refused .ensures .0) (Opening.truncated (short (now (c .before .before .before .before .args .log))
+    (fails (c .before .before .has-encoding .result) (not-true _ (c .before .if1 .taken)) (c .before .before .has-encoding .ensures)))
+    (c .refused .ensures .1))
 
 shared-slice-read-front-size : tie.Need-shared-slice-read-front-size
 shared-slice-read-front-size c = omega (arith, whole (c .before))
@@ -83,14 +88,17 @@ returns-2 : tie.Need-returns-2
 returns-2 c =
     let x = c .before .before .before .before .before .before in
     let r = c .before .before .answer .given .0 .0 in
-    rw (c .refused2 .ensures .0) (not-decoded (whole (x .before .before .before .before .before .before)) (decoded x (Answer.the-variants.Refused r) (c .before .before .answer .given .1)) (c .refused2 .ensures .1))
+    rw (c .refused2 .ensures .0) (not-decoded (whole (x .before .before .before .before .before .before))
+    (decoded x (Answer.the-variants.Refused r) (c .before .before .answer .given .1)) (c .refused2 .ensures .1))
 
 returns-3 : tie.Need-returns-3
 returns-3 c =
     let x = c .before .before .before .before .before in
     let size = x .before .before .before .front-size in
-    opens (logAt x) (size .result) (tableAfter x) (x .decode .result .header) (openOutcome (c .start .result .answer)) (c .start .result .table) (c .start .result .header) (c .start .result .monitor)
-    (size .ensures) (omega (arith, whole (x .before .before .before .before .before .before))) (decoded x Answer.the-variants.Accepted (c .before .enum-told .given .1)) (c .start .ensures)
+    opens (logAt x) (size .result) (tableAfter x) (x .decode .result .header) (openOutcome (c .start .result .answer)) (c .start .result .table)
+    (c .start .result .header) (c .start .result .monitor)
+    (size .ensures) (omega (arith, whole (x .before .before .before .before .before .before)))
+    (decoded x Answer.the-variants.Accepted (c .before .enum-told .given .1)) (c .start .ensures)
 
 pub open-spec : {M : Type 1} → statement M
 open-spec =

@@ -17,7 +17,8 @@ array-read-t14 : tie.Need-array-read-t14
 array-read-t14 c = search needs
 
 returns : tie.Need-returns
-returns c = let a = c .before .before .before .before .before .args in sym (placed (a .further) (a .place) (c .before .before .before .if1 .taken) (c .before .before .if2 .taken))
+returns c = let a = c .before .before .before .before .before .args in
+    sym (placed (a .further) (a .place) (c .before .before .before .if1 .taken) (c .before .before .if2 .taken))
 
 returns-2 : tie.Need-returns-2
 returns-2 c = let a = c .before .before .before .args in sym (not-placed (a .further) (a .place) (inr (omega (arith, c .if2 .left))))

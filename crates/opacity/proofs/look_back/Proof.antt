@@ -39,7 +39,12 @@ returns-4 : tie.Need-returns-4
 returns-4 c =
     let a = c .before .before .before .before .before .before .before .args in
     rw (c .larger3 .ensures, c .before .before .larger2 .ensures, c .before .before .before .before .larger .ensures)
-    (back-three (a .header) (a .further) (omega (arith, c .before .if3 .left, c .before .before .before .if2 .left, c .before .before .before .before .before .before .if1 .left)))
+    (back-three (a .header) (a .further) (omega (
+      arith,
+      c .before .if3 .left,
+      c .before .before .before .if2 .left,
+      c .before .before .before .before .before .before .if1 .left,
+    )))
 
 pub look-back-spec : {M : Type 1} → statement M
 look-back-spec =

@@ -29,27 +29,33 @@ use Rattle.enforcer.proofs.Enforcer.offer.Tie as tie
 abbrev begin : tie.After-pending-within → tie.Start
 begin u = u .before .before .before .before .before .before .before
 
-pending-test : (u : tie.After-pending-within) → Decided (u .pending-within .result) (PendingWithin (lookBackOf (begin u .args .header) (begin u .args .self .estimator .further)) (begin u .args .self))
+pending-test : (u : tie.After-pending-within) → Decided (u .pending-within .result)
+    (PendingWithin (lookBackOf (begin u .args .header) (begin u .args .self .estimator .further)) (begin u .args .self))
 pending-test u =
     subst (λ (k : ℕ). Decided (u .pending-within .result) (PendingWithin k (begin u .args .self))) (u .before .look-back .ensures) (u .pending-within .ensures)
 
 -- past it they are
-pending : (x : tie.Else3) → PendingWithin (lookBackOf (begin (x .before) .args .header) (begin (x .before) .args .self .estimator .further)) (begin (x .before) .args .self)
+pending : (x : tie.Else3) → PendingWithin (lookBackOf (begin (x .before) .args .header) (begin (x .before) .args .self .estimator .further))
+    (begin (x .before) .args .self)
 pending x = holds (x .before .pending-within .result) (not-false _ (x .if3 .left)) (pending-test (x .before))
 
 -- and where the verifier has accepted the symbol, it has tested the rest
 abbrev asked : tie.After-answer2 → tie.Start
 asked x = begin (x .before .before .before .before)
 
-all : (x : tie.After-answer2) → Moved (now (asked x .args .table)) (asked x .args .header) (asked x .args .self .estimator) (asked x .args .byte) (x .answer2 .given .0 .0 .size)
+all : (x : tie.After-answer2) → Moved (now (asked x .args .table)) (asked x .args .header) (asked x .args .self .estimator) (asked x .args .byte)
+    (x .answer2 .given .0 .0 .size)
     (x .before .before .accept-by .result .estimator)
-    × ForEach (secretsIn (asked x .args .header) (asked x .args .self)) (λ i c. TellsBy (asked x .args .self .notion) (now (asked x .args .table)) (asked x .args .header)
-    (asked x .args .self .estimator) (asked x .args .byte) c (getD (stepsEach (asked x .args .self .estimator .further) (x .answer2 .given .0 .0 .verdicts)) i none))
+    × ForEach (secretsIn (asked x .args .header) (asked x .args .self))
+    (λ i c. TellsBy (asked x .args .self .notion) (now (asked x .args .table)) (asked x .args .header)
+    (asked x .args .self .estimator) (asked x .args .byte) c
+    (getD (stepsEach (asked x .args .self .estimator .further) (x .answer2 .given .0 .0 .verdicts)) i none))
 all x =
     let called = x .before .before in
     let a = asked x .args in
     accepted-of
-    (subst (λ (y : AnswerBy). AcceptingBy (a .self .notion) (now (a .table)) (a .header) (a .self .estimator) (a .byte) (saidBy (a .self .estimator .further) y) (called .accept-by .result .estimator))
+    (subst (λ (y : AnswerBy). AcceptingBy (a .self .notion) (now (a .table)) (a .header) (a .self .estimator) (a .byte) (saidBy (a .self .estimator .further) y)
+    (called .accept-by .result .estimator))
     (x .answer2 .given .1) (called .accept-by .ensures .0))
 
 -- so the largest K is at most 15
@@ -127,7 +133,8 @@ returns-4 c =
     (refused-outcome (now (a .table)) (a .header) (a .self) (a .byte) (now (a .output)) (numberOf (told .0 .0)) (called .accept-by .result .estimator)
     (pending e3) (e3 .before .before .before .before .before .if1 .left)
     (refused-of
-    (subst (λ (x : AnswerBy). AcceptingBy (a .self .notion) (now (a .table)) (a .header) (a .self .estimator) (a .byte) (saidBy (a .self .estimator .further) x) (called .accept-by .result .estimator))
+    (subst (λ (x : AnswerBy). AcceptingBy (a .self .notion) (now (a .table)) (a .header) (a .self .estimator) (a .byte) (saidBy (a .self .estimator .further) x)
+    (called .accept-by .result .estimator))
     (told .1) (called .accept-by .ensures .0))))
 
 same-length : tie.Need-same-length
@@ -143,10 +150,13 @@ returns-5 c =
     let taken = c .before .before .take-in in
     let j = x .answer2 .given .0 .0 in
     let moved = all x .0 in
-    taken-outcome (now (a .table)) (a .header) (a .self) (a .byte) (now (a .output)) (stepsEach (a .self .estimator .further) (j .verdicts)) (waited .longest-wait .result) (j .size)
+    taken-outcome (now (a .table)) (a .header) (a .self) (a .byte) (now (a .output)) (stepsEach (a .self .estimator .further) (j .verdicts))
+    (waited .longest-wait .result) (j .size)
     (called .accept-by .result .estimator) (taken .result .answer) (taken .result .enforcer) (taken .last .1 .1 .1 .1 .1 .1 .0) (moved .sound)
-    (limits-joined _ (a .self) (moved .limits) (pending e3)) (e3 .before .before .before .before .before .if1 .left) moved (all x .1) (waited .longest-wait .ensures)
-    (subst (λ (k : ℕ). Enqueues k (a .self) (called .accept-by .result .estimator) (waited .longest-wait .result) (j .size) (a .byte) (now (a .output)) (taken .result .answer)
+    (limits-joined _ (a .self) (moved .limits) (pending e3)) (e3 .before .before .before .before .before .if1 .left) moved (all x .1)
+    (waited .longest-wait .ensures)
+    (subst (λ (k : ℕ). Enqueues k (a .self) (called .accept-by .result .estimator) (waited .longest-wait .result) (j .size) (a .byte) (now (a .output))
+    (taken .result .answer)
     (taken .result .enforcer) (taken .last .1 .1 .1 .1 .1 .1 .0)) (e3 .before .before .look-back .ensures) (taken .ensures))
 
 pub offer-spec : {M : Type 1} → statement M

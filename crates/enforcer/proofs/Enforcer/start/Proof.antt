@@ -37,7 +37,8 @@ opening : (u : tie.After-choose-each) → Opening (now (begin u .args .table)) (
 opening u =
     let a = begin u .args in
     let called = u .before .before .before .before .before .fresh in
-    subst (λ (x : Answer). Opening (now (a .table)) (a .header) (a .further) (verifier.said (a .further) x) (called .result .estimator)) (u .before .before .answer2 .given .1)
+    subst (λ (x : Answer). Opening (now (a .table)) (a .header) (a .further) (verifier.said (a .further) x) (called .result .estimator))
+    (u .before .before .answer2 .given .1)
     (called .ensures .0)
 
 longest-wait-requires : tie.Need-longest-wait-requires
@@ -49,7 +50,8 @@ longest : (u : tie.After-longest-wait) → LargestWait (secretsOf (begin (u .bef
     (u .longest-wait .result)
 longest u =
     let a = begin (u .before) .args in
-    subst (λ (v : VerdictsBy). LargestWait (secretsOf (a .header) (a .further)) (stepsEach (a .further) v) (u .longest-wait .result)) (u .before .choose-each .ensures)
+    subst (λ (v : VerdictsBy). LargestWait (secretsOf (a .header) (a .further)) (stepsEach (a .further) v) (u .longest-wait .result))
+    (u .before .choose-each .ensures)
     (u .longest-wait .ensures)
 
 returns : tie.Need-returns
@@ -64,7 +66,8 @@ returns-2 c =
     let a = after-fresh .before .before .args in
     let called = after-fresh .fresh in
     start-refused (now (a .table)) (a .header) (a .further) (a .notion) (numberOf (c .before .answer .given .0 .0)) (called .result .estimator) _
-    (subst (λ (x : Answer). Opening (now (a .table)) (a .header) (a .further) (verifier.said (a .further) x) (called .result .estimator)) (c .before .answer .given .1) (called .ensures .0)) refl
+    (subst (λ (x : Answer). Opening (now (a .table)) (a .header) (a .further) (verifier.said (a .further) x) (called .result .estimator))
+    (c .before .answer .given .1) (called .ensures .0)) refl
 
 returns-3 : tie.Need-returns-3
 returns-3 c =

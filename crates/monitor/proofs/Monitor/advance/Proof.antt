@@ -26,7 +26,9 @@ returns c = Advancing.malformed (fails (c .before .well-formed .result) (not-tru
 loop-holds : tie.Need-loop-holds Inv-loop μ-loop
 loop-holds c =
     let a = c .before .before .before .before .before .args in
-    along-start (value (a .table)) (a .header) (a .self) (value (a .events)) (value (a .out)) (a .at) (holds (c .before .well-formed .result) (not-false _ (c .if1 .left)) (c .before .well-formed .ensures)) (omega (arith, c .before .before .before .before .before .good))
+    along-start (value (a .table)) (a .header) (a .self) (value (a .events)) (value (a .out)) (a .at)
+    (holds (c .before .well-formed .result) (not-false _ (c .if1 .left)) (c .before .well-formed .ensures))
+    (omega (arith, c .before .before .before .before .before .good))
 
 ready-requires : tie.Need-ready-requires Inv-loop μ-loop
 ready-requires c κs = search needs
@@ -35,7 +37,10 @@ shared-slice-read-step : tie.Need-shared-slice-read-step Inv-loop μ-loop
 shared-slice-read-step c = omega arith
 
 step-requires : tie.Need-step-requires Inv-loop μ-loop
-step-requires c κs = (c .before .before .before .before .before .before .loop .inv .within, holds (c .before .before .before .ready .result) (not-false _ (c .before .before .if2 .left)) (c .before .before .before .ready .ensures))
+step-requires c κs = (
+  c .before .before .before .before .before .before .loop .inv .within,
+  holds (c .before .before .before .ready .result) (not-false _ (c .before .before .if2 .left)) (c .before .before .before .ready .ensures),
+)
 
 add-i : tie.Need-add-i Inv-loop μ-loop
 add-i c = omega (arith, c .before .before .before .before .before .before .before .before .before .before .before .before .before .before .before .before .good)
@@ -47,9 +52,12 @@ loop-again : tie.Need-loop-again Inv-loop μ-loop
 loop-again c =
     let a = c .before .before .before .before .before .before .before .before .before .before .before .before .before .before .before .before .args in
     let l = c .before .before .before .before .before .before .before .before .before .before .loop in
-    along-next (value (a .table)) (a .header) (a .self) (value (a .events)) (value (a .out)) (a .at) (l .now) (l .next) (l .i) (l .out) (c .before .before .before .step .result .monitor) (c .before .before .before .step .result .next) _
+    along-next (value (a .table)) (a .header) (a .self) (value (a .events)) (value (a .out)) (a .at) (l .now) (l .next) (l .i) (l .out)
+    (c .before .before .before .step .result .monitor) (c .before .before .before .step .result .next) _
     (l .inv) (c .before .before .before .before .before .before .before .before .before .loop-test .taken)
-    (holds (c .before .before .before .before .before .before .before .ready .result) (not-false _ (c .before .before .before .before .before .before .if2 .left)) (c .before .before .before .before .before .before .before .ready .ensures)) (c .before .before .before .step .ensures)
+    (holds (c .before .before .before .before .before .before .before .ready .result)
+    (not-false _ (c .before .before .before .before .before .before .if2 .left))
+    (c .before .before .before .before .before .before .before .ready .ensures)) (c .before .before .before .step .ensures)
 
 same-length : tie.Need-same-length Inv-loop μ-loop
 same-length c = c .before .loop .inv .printed .size
@@ -58,7 +66,9 @@ returns-2 : tie.Need-returns-2 Inv-loop μ-loop
 returns-2 c =
     let a = c .before .before .before .before .before .before .before .args in
     let l = c .before .loop in
-    along-end (value (a .table)) (a .header) (a .self) (value (a .events)) (value (a .out)) (a .at) (l .now) (l .next) (l .i) (l .out) (holds (c .before .before .before .well-formed .result) (not-false _ (c .before .before .if1 .left)) (c .before .before .before .well-formed .ensures)) (l .inv) (inl (omega arith))
+    along-end (value (a .table)) (a .header) (a .self) (value (a .events)) (value (a .out)) (a .at) (l .now) (l .next) (l .i) (l .out)
+    (holds (c .before .before .before .well-formed .result) (not-false _ (c .before .before .if1 .left)) (c .before .before .before .well-formed .ensures)) (l .inv)
+    (inl (omega arith))
 
 same-length-2 : tie.Need-same-length-2 Inv-loop μ-loop
 same-length-2 c = c .before .before .before .before .loop .inv .printed .size
@@ -67,7 +77,9 @@ returns-3 : tie.Need-returns-3 Inv-loop μ-loop
 returns-3 c =
     let a = c .before .before .before .before .before .before .before .before .before .before .args in
     let l = c .before .before .before .before .loop in
-    along-end (value (a .table)) (a .header) (a .self) (value (a .events)) (value (a .out)) (a .at) (l .now) (l .next) (l .i) (l .out) (holds (c .before .before .before .before .before .before .well-formed .result) (not-false _ (c .before .before .before .before .before .if1 .left)) (c .before .before .before .before .before .before .well-formed .ensures)) (l .inv)
+    along-end (value (a .table)) (a .header) (a .self) (value (a .events)) (value (a .out)) (a .at) (l .now) (l .next) (l .i) (l .out)
+    (holds (c .before .before .before .before .before .before .well-formed .result) (not-false _ (c .before .before .before .before .before .if1 .left))
+    (c .before .before .before .before .before .before .well-formed .ensures)) (l .inv)
     (inr (fails (c .before .ready .result) (not-true _ (c .if2 .taken)) (c .before .ready .ensures)))
 
 pub advance-spec : {M : Type 1} → statement M

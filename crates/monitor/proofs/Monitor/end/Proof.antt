@@ -22,7 +22,8 @@ returns : tie.Need-returns
 returns c =
     let a = c .before .before .before .before .before .before .before .before .before .before .args in
     let called = c .before .before .idle in
-    subst (λ (l : List ℕ). Written roomAtEnd (now (a .out)) (a .at) l (called .result) (called .last .0)) (with-none (a .self) (c .before .before .before .before .before .if1 .taken)) (called .ensures)
+    subst (λ (l : List ℕ). Written roomAtEnd (now (a .out)) (a .at) l (called .result) (called .last .0))
+    (with-none (a .self) (c .before .before .before .before .before .if1 .taken)) (called .ensures)
 
 ended-requires : tie.Need-ended-requires
 ended-requires c κs = search needs
@@ -34,7 +35,8 @@ returns-2 : tie.Need-returns-2
 returns-2 c =
     let a = c .before .before .before .before .before .before .before .before .before .args in
     let called = c .before .before .ended in
-    subst (λ (l : List ℕ). Written roomAtEnd (now (a .out)) (a .at) l (called .result) (called .last .0)) (with-some (a .self) (omega (arith, c .before .before .before .before .if1 .left))) (called .ensures)
+    subst (λ (l : List ℕ). Written roomAtEnd (now (a .out)) (a .at) l (called .result) (called .last .0))
+    (with-some (a .self) (omega (arith, c .before .before .before .before .if1 .left))) (called .ensures)
 
 pub end-spec : {M : Type 1} → statement M
 end-spec =

@@ -24,19 +24,24 @@ given x = x .answer2 .given .0 .0
 abbrev count : tie.After-answer2 → ℕ
 count x = given x .count
 
-offered : (x : tie.After-answer2) → Offering (now (x .before .before .before .before .before .before .before .before .args .table)) (x .before .before .before .before .before .before .before .before .args .header) (x .before .before .before .before .before .before .before .before .args .self .enforcer) (x .before .before .before .before .before .before .before .before .args .byte) (replicate 17 0)
+offered : (x : tie.After-answer2) → Offering (now (x .before .before .before .before .before .before .before .before .args .table))
+    (x .before .before .before .before .before .before .before .before .args .header)
+    (x .before .before .before .before .before .before .before .before .args .self .enforcer)
+    (x .before .before .before .before .before .before .before .before .args .byte) (replicate 17 0)
     (enforcer.released (given x)) (x .before .before .before .offer .result .enforcer) (left x)
 offered x =
     let a = x .before .before .before .before .before .before .before .before .args in
     let called = x .before .before .before .offer in
-    subst (λ (r : OfferAnswer). Offering (now (a .table)) (a .header) (a .self .enforcer) (a .byte) (replicate 17 0) (enforcer.offerOutcome r) (called .result .enforcer) (left x))
+    subst (λ (r : OfferAnswer). Offering (now (a .table)) (a .header) (a .self .enforcer) (a .byte) (replicate 17 0) (enforcer.offerOutcome r)
+    (called .result .enforcer) (left x))
     (x .answer2 .given .1) (called .ensures)
 
 counts : (x : tie.After-answer2) → Countable (x .before .before .before .before .before .before .before .before .args .self) (count x)
 counts x =
     let a = x .before .before .before .before .before .before .before .before .args in
     let p = x .before .before .before .before .before .before .before .before .pre in
-    countable (now (a .table)) (a .header) (a .self) (a .byte) (given x) (x .before .before .before .offer .result .enforcer) (replicate 17 0) (left x) (now (a .out)) (a .at) (p .0) (p .1) (offered x)
+    countable (now (a .table)) (a .header) (a .self) (a .byte) (given x) (x .before .before .before .offer .result .enforcer) (replicate 17 0) (left x)
+    (now (a .out)) (a .at) (p .0) (p .1) (offered x)
 
 within : (x : tie.After-answer2) → count x ≤ length (left x)
 within x = omega (arith, counts x .few)
@@ -72,7 +77,8 @@ log-accepted-requires : tie.Need-log-accepted-requires
 log-accepted-requires c κs =
     let x = c .before .before .before .before .before .before in (
       x .before .before .before .before .before .before .before .before .pre .1,
-      subst (Countable (x .before .before .before .before .before .before .before .before .args .self)) (sym (part-size (left x) (count x) (within x))) (counts x),
+      subst (Countable (x .before .before .before .before .before .before .before .before .args .self)) (sym (part-size (left x) (count x) (within x)))
+          (counts x),
     )
 
 same-length : tie.Need-same-length
@@ -85,9 +91,11 @@ returns c =
     let called = c .before .before .before .before .before .before .before .before .offer in
     let done = c .before .before .log-refused in
     let r = c .before .before .before .before .before .answer .given .0 .0 in
-    by-enforcer (now (a .table)) (a .header) (a .self) (a .byte) r _ (a .estimator) (called .result .enforcer) (replicate 17 0) (called .last .1 .1 .1 .1 .0) (done .result .monitor)
+    by-enforcer (now (a .table)) (a .header) (a .self) (a .byte) r _ (a .estimator) (called .result .enforcer) (replicate 17 0) (called .last .1 .1 .1 .1 .0)
+    (done .result .monitor)
     (p .0) (p .2) refl
-    (subst (λ (x : OfferAnswer). Offering (now (a .table)) (a .header) (a .self .enforcer) (a .byte) (replicate 17 0) (enforcer.offerOutcome x) (called .result .enforcer) (called .last .1 .1 .1 .1 .0)) (c .before .before .before .before .before .answer .given .1) (called .ensures))
+    (subst (λ (x : OfferAnswer). Offering (now (a .table)) (a .header) (a .self .enforcer) (a .byte) (replicate 17 0) (enforcer.offerOutcome x)
+    (called .result .enforcer) (called .last .1 .1 .1 .1 .0)) (c .before .before .before .before .before .answer .given .1) (called .ensures))
     (done .ensures .0) (done .ensures .1)
 
 same-length-2 : tie.Need-same-length-2

@@ -27,7 +27,16 @@ same-length : tie.Need-same-length
 same-length c = search needs
 
 returns : tie.Need-returns
-returns c = (refl, rw (c .place .ensures) (printed (omega (arith, c .before .before .before .before .before .before .before .before .before .before .before .pre .0 .room, c .before .before .before .before .before .before .before .before .before .before .before .pre .1 .few)) (c .before .before .before .before .before .accepted .ensures)))
+returns c = (
+  refl,
+  rw (c .place .ensures)
+      (printed (omega (
+        arith,
+        c .before .before .before .before .before .before .before .before .before .before .before .pre .0 .room,
+        c .before .before .before .before .before .before .before .before .before .before .before .pre .1 .few,
+      ))
+      (c .before .before .before .before .before .accepted .ensures)),
+)
 
 pub log-accepted-spec : {M : Type 1} → statement M
 log-accepted-spec =

@@ -18,7 +18,11 @@ same-length : tie.Need-same-length
 same-length c = search needs
 
 returns : tie.Need-returns
-returns c = (refl, rw (c .place .ensures) (printed (omega (arith, c .before .before .before .before .before .before .before .before .before .before .pre .room)) (c .before .before .before .before .refused .ensures)))
+returns c = (
+  refl,
+  rw (c .place .ensures) (printed (omega (arith, c .before .before .before .before .before .before .before .before .before .before .pre .room))
+      (c .before .before .before .before .refused .ensures)),
+)
 
 pub log-refused-spec : {M : Type 1} → statement M
 log-refused-spec = tie.close (tie.spec refused-requires add-t12 place-requires same-length returns)

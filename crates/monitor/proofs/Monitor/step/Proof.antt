@@ -26,7 +26,8 @@ enforce-requires c κs =
     let called = c .before .before .before .before .before .accept in (
       c .before .before .before .before .before .before .before .before .before .pre .0,
       c .before .before .before .before .before .before .before .before .before .pre .1,
-      subst (λ (x : Answer). Accepting (now (a .table)) (a .header) (a .self .estimator) (a .byte) (verifier.said (a .self .estimator .further) x) (called .result .estimator)) (c .before .before .before .answer2 .given .1) (called .ensures .0),
+      subst (λ (x : Answer). Accepting (now (a .table)) (a .header) (a .self .estimator) (a .byte) (verifier.said (a .self .estimator .further) x)
+          (called .result .estimator)) (c .before .before .before .answer2 .given .1) (called .ensures .0),
     )
 
 same-length : tie.Need-same-length
@@ -37,8 +38,10 @@ returns c =
     let a = c .before .before .before .before .before .before .before .before .before .before .before .args in
     let called = c .before .before .before .before .before .before .before .accept in
     let done = c .before .before .log-refused in
-    by-verifier (now (a .table)) (a .header) (a .self) (a .byte) (c .before .before .before .before .before .answer .given .0 .0) (called .result .estimator) (done .result .monitor) (c .before .before .before .before .before .before .before .before .before .before .before .pre .0)
-    (subst (λ (x : Answer). Accepting (now (a .table)) (a .header) (a .self .estimator) (a .byte) (verifier.said (a .self .estimator .further) x) (called .result .estimator)) (c .before .before .before .before .before .answer .given .1) (called .ensures .0))
+    by-verifier (now (a .table)) (a .header) (a .self) (a .byte) (c .before .before .before .before .before .answer .given .0 .0) (called .result .estimator)
+    (done .result .monitor) (c .before .before .before .before .before .before .before .before .before .before .before .pre .0)
+    (subst (λ (x : Answer). Accepting (now (a .table)) (a .header) (a .self .estimator) (a .byte) (verifier.said (a .self .estimator .further) x)
+    (called .result .estimator)) (c .before .before .before .before .before .answer .given .1) (called .ensures .0))
     (done .ensures .0) (done .ensures .1)
 
 same-length-2 : tie.Need-same-length-2

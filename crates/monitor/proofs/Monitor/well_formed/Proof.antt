@@ -22,8 +22,10 @@ well-formed-requires-2 c κs = search needs
 
 returns-3 : tie.Need-returns-3
 returns-3 c =
-    let good = holds (c .before .before .before .before .before .well-formed .result) (not-false _ (c .before .before .before .before .if1 .left)) (c .before .before .before .before .before .well-formed .ensures) in
-    let agree = holds (c .before .before .before .balanced .result) (not-false _ (c .before .before .if2 .left)) (c .before .before .before .balanced .ensures) in
+    let good = holds (c .before .before .before .before .before .well-formed .result) (not-false _ (c .before .before .before .before .if1 .left))
+    (c .before .before .before .before .before .well-formed .ensures) in
+    let agree = holds (c .before .before .before .balanced .result) (not-false _ (c .before .before .if2 .left))
+    (c .before .before .before .balanced .ensures) in
     decided-as (c .well-formed2 .result)
     (λ x. record { sound = x .0; estimator = good .1; enforcer = x .1; balanced = agree })
     (λ w. (w .sound, w .enforcer))

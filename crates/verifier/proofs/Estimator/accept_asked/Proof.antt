@@ -21,14 +21,19 @@ use Rattle.verifier.proofs.Estimator.accept_asked.Statement.{statement}
 use Rattle.verifier.proofs.Estimator.accept_asked.Tie as tie
 
 -- the tests that were passed
-ok : (c : tie.Else1) → WellFormed (now (c .before .before .before .args .table)) (c .before .before .before .args .header) × InLimits (c .before .before .before .args .header) (c .before .before .before .args .t1)
+ok : (c : tie.Else1) → WellFormed (now (c .before .before .before .args .table)) (c .before .before .before .args .header)
+    × InLimits (c .before .before .before .args .header) (c .before .before .before .args .t1)
 ok c = holds (c .before .well-formed .result) (not-false _ (c .if1 .left)) (c .before .well-formed .ensures)
 
 -- the events that show the symbol
-showing : (c : tie.After-events-with) → Showing (automatonOf (now (c .before .before .before .before .before .before .before .before .args .table)) (c .before .before .before .before .before .before .before .before .args .header)) (c .before .before .before .before .before .before .before .before .args .symbol) (c .events-with .result)
-showing c = c .events-with .ensures _ (ok (c .before .before .before .before .before) .0 .symbols-small) (c .before .before .before .by-symbol .ensures (now (c .before .before .before .before .before .before .before .before .args .table)))
+showing : (c : tie.After-events-with) → Showing (automatonOf (now (c .before .before .before .before .before .before .before .before .args .table))
+    (c .before .before .before .before .before .before .before .before .args .header))
+    (c .before .before .before .before .before .before .before .before .args .symbol) (c .events-with .result)
+showing c = c .events-with .ensures _ (ok (c .before .before .before .before .before) .0 .symbols-small)
+    (c .before .before .before .by-symbol .ensures (now (c .before .before .before .before .before .before .before .before .args .table)))
 
-observed : (c : tie.Else2) → Observable (c .before .before .before .before .before .before .before .before .before .args .header) (c .before .before .before .before .before .before .before .before .before .args .symbol)
+observed : (c : tie.Else2) → Observable (c .before .before .before .before .before .before .before .before .before .args .header)
+    (c .before .before .before .before .before .before .before .before .before .args .symbol)
 observed c =
     let a = c .before .before .before .before .before .before .before .before .before .args in
     some-observable (now (a .table)) (a .header) _ _ (showing (c .before)) (omega arith) (c .if2 .left)
@@ -43,7 +48,8 @@ returns : tie.Need-returns
 returns c =
     let r = c .refused .ensures in
     let s = c .before .before in
-    refused-asked _ _ _ _ _ refusal.Malformed _ (r .0) (r .1) (Accepting.malformed (fails (s .well-formed .result) (not-true _ (c .before .if1 .taken)) (s .well-formed .ensures)))
+    refused-asked _ _ _ _ _ refusal.Malformed _ (r .0) (r .1)
+    (Accepting.malformed (fails (s .well-formed .result) (not-true _ (c .before .if1 .taken)) (s .well-formed .ensures)))
 
 slice-aggregate-by-symbol : tie.Need-slice-aggregate-by-symbol
 slice-aggregate-by-symbol c = search needs
@@ -88,8 +94,12 @@ next-estimate-requires : tie.Need-next-estimate-requires
 next-estimate-requires c κs =
     let g = c .before .before .before in
     let f = g .before .before in
-    let o = ok (f .before .before .before .before .before .before .before) in
-    (o .0 .words, o .0 .start, λ x i. showing (f .before .before) .sound x i .0, gained-part _ _ _ _ _ (λ q i. f .entered .ensures 0 q (omega arith) i) (g .silent-rows .ensures))
+    let o = ok (f .before .before .before .before .before .before .before) in (
+      o .0 .words,
+      o .0 .start,
+      λ x i. showing (f .before .before) .sound x i .0,
+      gained-part _ _ _ _ _ (λ q i. f .entered .ensures 0 q (omega arith) i) (g .silent-rows .ensures),
+    )
 
 enum-known-next : tie.Need-enum-known-next
 enum-known-next c = search needs
@@ -107,7 +117,9 @@ returns-3 c =
     let o = ok (e .before .before .before .before .before .before) in
     refused-asked _ _ _ _ _ refusal.Incompatible _ (r .0) (r .1)
     (incompatible (o .0) (o .1) (observed e)
-    (λ trace g. none-left (c .before .before .before .before .next-estimate .ensures _ (showing (c .before .before .before .before .before .before .before .before .before .before .before .before))) (c .before .enum-told .given .1) trace (grown-entry _ _ trace _ g)))
+    (λ trace g. none-left (c .before .before .before .before .next-estimate .ensures _
+    (showing (c .before .before .before .before .before .before .before .before .before .before .before .before))) (c .before .enum-told .given .1) trace
+    (grown-entry _ _ trace _ g)))
 
 look-back-requires : tie.Need-look-back-requires
 look-back-requires c κs = search needs
@@ -124,7 +136,9 @@ push-requires c κs =
     )
 
 slice-aggregate-assess : tie.Need-slice-aggregate-assess
-slice-aggregate-assess c = sym (c .before .before .before .before .before .before .before .before .before .before .before .before .before .before .before .before .before .before .before .by-symbol .ensures [] .size)
+slice-aggregate-assess c =
+    let e = c .before .before .before .before .before .before .before .before .before .before .before .before .before .before .before in
+    sym (e .before .before .before .before .by-symbol .ensures [] .size)
 
 slice-aggregate-assess-2 : tie.Need-slice-aggregate-assess-2
 slice-aggregate-assess-2 c = search needs
@@ -136,7 +150,8 @@ assess-requires : tie.Need-assess-requires
 assess-requires c κs =
     let pushed = c .before .before .before in
     let k = pushed .before .before .before in
-    let x = some-left (k .before .before .before .before .next-estimate .ensures _ (showing (k .before .before .before .before .before .before .before .before .before .before .before .before))) (k .before .next .given .1) in
+    let x = some-left (k .before .before .before .before .next-estimate .ensures _
+    (showing (k .before .before .before .before .before .before .before .before .before .before .before .before))) (k .before .next .given .1) in
     let f = k .before .before .before .before .before .before .before .before .before .before in
     let e = f .before in
     let o = ok (e .before .before .before .before .before .before) in
@@ -148,7 +163,8 @@ assess-requires c κs =
         sets-are = e .before .before .before .before .by-symbol .ensures _;
         near = record {
           closed = x .estimated .closed;
-          inside = after .3 _ (x .estimated .new) (λ l q h i. x .estimated .old q (k .before .before .before .before .before .before .before .before .silent-rows .ensures .more q (f .entered .ensures l q h i)));
+          inside = after .3 _ (x .estimated .new) (λ l q h i. x .estimated .old q
+              (k .before .before .before .before .before .before .before .before .silent-rows .ensures .more q (f .entered .ensures l q h i)));
         };
         reach = reach-as (after .2) (x .estimated .reach);
       },
@@ -164,7 +180,9 @@ returns-4 c =
     let o = ok (e .before .before .before .before .before .before) in
     let after = pushed .push .ensures in
     let moved : Moved (now (a .table)) (a .header) (a .t1) (a .symbol) (c .before .assess .result .size) (pushed .push .result) =
-    moved-by _ _ _ _ _ _ _ _ _ _ (o .0) (o .1) (observed e) (some-left (k .before .before .before .before .next-estimate .ensures _ (showing (k .before .before .before .before .before .before .before .before .before .before .before .before))) (k .before .next .given .1)) (c .before .assess .ensures .1) (pushed .before .look-back .ensures) (after .0) (after .1) (λ trace g E y. after .4 _ trace g E y) in
+    moved-by _ _ _ _ _ _ _ _ _ _ (o .0) (o .1) (observed e) (some-left (k .before .before .before .before .next-estimate .ensures _
+    (showing (k .before .before .before .before .before .before .before .before .before .before .before .before))) (k .before .next .given .1))
+    (c .before .assess .ensures .1) (pushed .before .look-back .ensures) (after .0) (after .1) (λ trace g E y. after .4 _ trace g E y) in
     judged-by _ _ _ _ _ (c .before .assess .result) _ moved (c .before .assess .ensures .0)
 
 pub accept-asked-spec : {M : Type 1} → statement M

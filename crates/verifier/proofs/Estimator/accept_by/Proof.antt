@@ -16,7 +16,8 @@ choose-answer-requires c κs = search needs
 returns : tie.Need-returns
 returns c =
     let called = c .before .before in
-    rw (c .choose-answer .ensures) (asked-one _ _ _ _ _ _ (called .accept-asked .result .answer) (called .accept-asked .result .estimator) (called .before .ask .ensures) (called .accept-asked .ensures))
+    rw (c .choose-answer .ensures) (asked-one _ _ _ _ _ _ (called .accept-asked .result .answer) (called .accept-asked .result .estimator)
+    (called .before .ask .ensures) (called .accept-asked .ensures))
 
 pub accept-by-spec : {M : Type 1} → statement M
 accept-by-spec = tie.close (tie.spec ask-requires accept-asked-requires choose-answer-requires returns)

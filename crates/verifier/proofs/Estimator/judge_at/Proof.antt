@@ -27,7 +27,8 @@ judge-requires c κs =
       s .pre .0,
       s .pre .2,
       s .pre .3,
-      subst (λ (x : Secret). StrongGiven (now (s .args .table)) (s .args .header) (s .args .self) (s .args .asked) x (s .args .found)) (sym (c .secret-at .ensures))
+      subst (λ (x : Secret). StrongGiven (now (s .args .table)) (s .args .header) (s .args .self) (s .args .asked) x (s .args .found))
+          (sym (c .secret-at .ensures))
           (s .pre .4 (omega (arith, c .before .before .if1 .left))),
     )
 
@@ -35,7 +36,8 @@ returns-2 : tie.Need-returns-2
 returns-2 c =
     let s = c .before .before .before .before .before .before .before in
     record {
-      given = λ g. judged-of (now (s .args .table)) (s .args .header) (s .args .self) _ _ (s .args .asked) (c .judge .result) (c .before .secret-at .ensures) (c .judge .ensures);
+      given = λ g. judged-of (now (s .args .table)) (s .args .header) (s .args .self) _ _ (s .args .asked) (c .judge .result) (c .before .secret-at .ensures)
+          (c .judge .ensures);
       other = λ o. absurd (omega (arith, o, c .before .before .before .if1 .left, how-many (s .args .header) (s .args .self .further) (s .pre .1)));
     }
 

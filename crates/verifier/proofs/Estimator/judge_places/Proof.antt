@@ -18,7 +18,8 @@ judge-at-requires-4 c κs = let x = c .before .before .before .before .before .p
 
 returns : tie.Need-returns
 returns c =
-    judged-four _ _ _ _ _ _ _ _ (c .before .before .before .before .before .before .pre .1) (c .before .before .before .judge-at .ensures) (c .before .before .judge-at2 .ensures)
+    judged-four _ _ _ _ _ _ _ _ (c .before .before .before .before .before .before .pre .1) (c .before .before .before .judge-at .ensures)
+    (c .before .before .judge-at2 .ensures)
     (c .before .judge-at3 .ensures) (c .judge-at4 .ensures)
 
 pub judge-places-spec : {M : Type 1} → statement M

@@ -1,0 +1,22 @@
+-- `verifier::look_back::shared_estimates` meets its contract: where they are not used, nothing is said of them.
+use borrow.Author.Needs.{needs}
+use Rattle.verifier.proofs.Judging.{not-both}
+use borrow.Author.Tests.{not-true}
+use Rattle.verifier.proofs.look_back.shared_estimates.Statement.{statement}
+use Rattle.verifier.proofs.look_back.shared_estimates.Tie as tie
+
+returns : tie.Need-returns
+returns c = (c .before .before .before .before .before .before .before .pre .2, λ asks. absurd (not-both _ asks (not-true _ (c .if1 .taken))))
+
+delayed-estimates-requires : tie.Need-delayed-estimates-requires
+delayed-estimates-requires c κs = search needs
+
+same-length : tie.Need-same-length
+same-length c = search needs
+
+returns-2 : tie.Need-returns-2
+returns-2 c = let d = c .before .before .delayed-estimates .ensures in (d .size, λ asks. d)
+
+pub shared-estimates-spec : {M : Type 1} → statement M
+shared-estimates-spec =
+    tie.close (tie.spec returns delayed-estimates-requires same-length returns-2)

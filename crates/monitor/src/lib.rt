@@ -17,8 +17,8 @@ ghost use lib.ListN.{length};
 ghost use Rattle.stateset.specs.Set.{Decided};
 ghost use Rattle.report.specs.Writing.{roomAtEnd, Written};
 ghost use Rattle.monitor.specs.Stepping.{Balanced, Within};
-ghost use Rattle.monitor.specs.Opening.{frontSize, Opening, said as opened};
-ghost use Rattle.monitor.specs.Advancing.{Advancing, said as advanced};
+ghost use Rattle.monitor.specs.Opening.{frontSize, Opening, openOutcome as opened};
+ghost use Rattle.monitor.specs.Advancing.{Advancing, advanceOutcome as advanced};
 ghost use Rattle.monitor.specs.Ending.{lastLines};
 
 // The opening verdicts with how many states are possible, the verifier's and the enforcer's state, and how many event bytes were offered, events accepted,

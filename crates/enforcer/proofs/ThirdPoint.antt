@@ -15,7 +15,7 @@ use Rattle.automaton.proofs.Estimates.{right-size}
 use Rattle.enforcer.specs.SafePrefix.{SafeForAll}
 use Rattle.enforcer.specs.Enforcers.{Grown, GrownOn}
 use Rattle.enforcer.specs.Offerings.{OfferOutcome, refused, started, Starting, Offering}
-use Rattle.enforcer.specs.Offers.{Offer, Offered, Offers, acceptedOf, releasedCount, releasedOf, TurnedBack, Answered, EnforcerPromise}
+use Rattle.enforcer.specs.Offers.{Offer, Offered, Offers, acceptedOf, releasedCount, TurnedBack, Answered, EnforcerPromise}
 use Rattle.enforcer.specs.declared.Enforcer.{Enforcer}
 use Rattle.enforcer.proofs.ForAll.{kept-secrets, safe-for-all-laws, all-by-runs, some-unsafe}
 use Rattle.enforcer.proofs.Unique.{grown-unique}

@@ -25,7 +25,7 @@ use Rattle.enforcer.specs.declared.Enforcer.{Enforcer}
 use Rattle.enforcer.specs.Offerings as offering
 use Rattle.enforcer.specs.Offerings.{Offering}
 use Rattle.enforcer.specs.Offers.{Offers}
-use Rattle.layout.specs.Sizes.{headerSize, furtherCount, mostRemembered, estimatorSize, strongByte, notionPlace, enforcerSize, judgementSize, releaseSize}
+use Rattle.layout.specs.Sizes.{headerSize, estimatorSize, strongByte, notionPlace, enforcerSize, judgementSize, releaseSize}
 use Rattle.layout.specs.Layout.{headerAt, estimatorAt, enforcerAt, verdictAt, verdictByte, judgementBytes, verdictsAt}
 use Rattle.gateway.specs.Interface.{Accept, Offer}
 use Rattle.gateway.specs.SavedCalls.{AcceptCall, AcceptCalled, AcceptCalls, acceptSaid, listedIf, callsOf, OfferCall, OfferCalled, OfferCalls, offerSaid, offersOf}

@@ -1,10 +1,8 @@
 -- The mission's first point: each row of an entry's contract gives its refusal on its condition, and the others' conditions fail there. Assumes nothing.
 use mathlib.Core.Path.{_≡_, refl, ap, subst, sym, _∙_}
-use mathlib.Core.List.{List, _∷_, [], _++_}
-use mathlib.Core.Logic.{_⊎_, inl, inr, _↔_}
-use Prim.Native.Nat.{ℕ, _≤_, _<_}
+use mathlib.Core.Logic.{inl, inr}
+use Prim.Native.Nat.{ℕ}
 use native.Mathlib.Omega.{arith}
-use lib.ListN.{length}
 use Rattle.refusal.specs.Refusals.{numberOf}
 use Rattle.refusal.specs.declared.Refusal.{Refusal}
 use Rattle.bitfields.specs.Parser as parser
@@ -13,14 +11,9 @@ use Rattle.encoding.specs.Encoding.{Encoding}
 use Rattle.encoding.specs.Table.{Holds}
 use Rattle.encoding.specs.Answers.{headerOf}
 use Rattle.encoding.specs.Decoding.{Outcome, accept, refuse, Decoding}
-use Rattle.automaton.specs.declared.Header.{Header}
-use Rattle.opacity.specs.declared.Notion.{Notion}
-use Rattle.opacity.specs.declared.Further.{Further}
 use Rattle.opacity.proofs.Numbering.{allowed-not-large}
-use Rattle.verifier.specs.declared.Estimator.{Estimator}
 use Rattle.verifier.specs.Replies as verifier
 use Rattle.verifier.specs.Replies.{Findings, Opening, Accepting}
-use Rattle.enforcer.specs.declared.Enforcer.{Enforcer}
 use Rattle.enforcer.specs.declared.Release.{Release}
 use Rattle.enforcer.specs.Offerings as offering
 use Rattle.enforcer.specs.Offerings.{Starting, Offering}

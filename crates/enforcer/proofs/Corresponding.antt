@@ -341,7 +341,8 @@ module _ (t : List ℕ) (h : Header) (symbols : List ℕ) (g : SameSymbols (auto
       Starting.ready (sound-to so) allowed (λ i given. same-tells _ _ g [] _ notion none .0 (each-none i given)) same
       (same-grown _ _ g notion (secretsIn h s) [] s .0 x)
 
-  offering-to : (self : Enforcer) (byte : ℕ) (output : List ℕ) (r : OfferOutcome) (after : Enforcer) (left : List ℕ) → Offering t h self byte output r after left
+  offering-to : (self : Enforcer) (byte : ℕ) (output : List ℕ) (r : OfferOutcome) (after : Enforcer) (left : List ℕ)
+      → Offering t h self byte output r after left
       → Offering t other self byte output r after left
   offering-to self byte output r after left (Offering.malformed bad) = Offering.malformed (λ x. bad (same-well-formed t h other g refl .1 (x .0), x .1))
   offering-to self byte output r after left (Offering.output-too-small so li few) = Offering.output-too-small (sound-to so) li few

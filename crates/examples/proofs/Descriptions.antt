@@ -62,4 +62,5 @@ same-contents (refusal n) (automaton b) t = absurd t
 same-contents (refusal n) (refusal m) t = ap refusal (eqb→eq n m t)
 
 abbrev pub description? : (bytes : List ℕ) (contents : Contents) → Check (contentsOf (encoding (bitsOf bytes) 0) ≡ contents)
-description? bytes contents = by (sameContents (contentsOf (encoding (bitsOf bytes) 0)) contents) (same-contents (contentsOf (encoding (bitsOf bytes) 0)) contents)
+description? bytes contents = by (sameContents (contentsOf (encoding (bitsOf bytes) 0)) contents)
+    (same-contents (contentsOf (encoding (bitsOf bytes) 0)) contents)

@@ -30,7 +30,9 @@ use Rattle.opacity.proofs.Exactness.{exactly}
 use Rattle.automaton.proofs.Estimates.{right-size}
 use Rattle.enforcer.specs.Offerings.{StartOutcome, started, not-started}
 use Rattle.enforcer.proofs.ForAll.{only}
-use Rattle.examples.specs.Meaning.{Question, verdicts-of, answers-after, start-of, releases-of, verdicts-of-all, start-for-all, releases-for-all, VerdictsAre, Opened, StartIs, ReleasedIs, EachReleases, VerdictsOfAll, OpenedForAll, StartForAll, ReleasedForAll, Says, Example, Row, about, description, AboutHolds, RowHolds, All}
+use Rattle.examples.specs.Meaning.{Question, verdicts-of, answers-after, start-of, releases-of, verdicts-of-all, start-for-all, releases-for-all}
+use Rattle.examples.specs.Meaning.{VerdictsAre, Opened, StartIs, ReleasedIs, EachReleases, VerdictsOfAll, OpenedForAll, StartForAll, ReleasedForAll}
+use Rattle.examples.specs.Meaning.{Says, Example, Row, about, description, AboutHolds, RowHolds, All}
 use Rattle.examples.specs.StarredRows.{rows, EveryRowHolds}
 use Rattle.examples.proofs.Booleans.{every, sameList, same-list, list-same}
 use Rattle.examples.proofs.Checks.{Check, done, failed, checked, map, then, both, either, by, le?, eq?, all-below, some-below}
@@ -111,7 +113,8 @@ module _ (ts : List Transition) (h : Header) (range : T (every inRange ts)) wher
       (both (possible? ts h range trace) (both (told? Weak trace v) (both (told? Strong trace w) (size? ts h range trace n))))
 
   -- the answer holds the verdicts of the one secret
-  abbrev alone? : (trace : List ℕ) (byte : ℕ) (vs : List Told) (n : ℕ) → Check (For ts (λ t. Answered t h noFurther trace byte (verdicts (record { each = vs; size = n }))))
+  abbrev alone? : (trace : List ℕ) (byte : ℕ) (vs : List Told) (n : ℕ)
+      → Check (For ts (λ t. Answered t h noFurther trace byte (verdicts (record { each = vs; size = n }))))
   alone? trace byte [] n = failed
   alone? trace byte (v ∷ []) n =
       map (λ f x. (f .0, f .1 .1 x .possible, right (x .table) h (trace ++ byte ∷ []) v n (f .1 .0) (f .1 .1 x)))
@@ -165,7 +168,8 @@ module _ (ts : List Transition) (h : Header) (range : T (every inRange ts)) wher
         right = right-for-all (x .table) h f trace vs n (g .1 .1 .0) (g .1 .1 .1 .0) (g .1 .1 .1 .1 .0 x) (g .1 .1 .1 .1 .1 .0 x) (g .1 .1 .1 .1 .1 .1 x);
       })
       (both (allowed? f) (both (possible? ts h range trace) (both (eq? (length vs) (length cs)) (both (within? n)
-      (both (tells-each? ts h range cs Weak trace (toldAt Weak vs)) (both (tells-each? ts h range cs Strong trace (toldAt Strong vs)) (size? ts h range trace n)))))))
+      (both (tells-each? ts h range cs Weak trace (toldAt Weak vs))
+          (both (tells-each? ts h range cs Strong trace (toldAt Strong vs)) (size? ts h range trace n)))))))
 
   abbrev opened-for-all? : (f : Further) (notion : Notion) (answer : StartOutcome) → Check (For ts (λ t. OpenedForAll t h f notion answer))
   opened-for-all? f notion started = tells-each? ts h range (secretsOf h f) notion [] (λ i. none)

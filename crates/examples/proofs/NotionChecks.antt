@@ -63,7 +63,8 @@ module _ (ts : List Transition) (h : Header) (range : T (every inRange ts)) wher
   abbrev different? : (states : List ℕ) (n : ℕ) → Check ((j : ℕ) → j < n → (i : ℕ) → i < j → getD states i 0 ≡ getD states j 0 → ⊥)
   different? states n =
       all-below (λ j. all-below
-      (λ i. by (not (eqb (getD states i 0) (getD states j 0))) (λ t same. T-not (eqb (getD states i 0) (getD states j 0)) t (eq-eqb (getD states i 0) (getD states j 0) same))) j) n
+      (λ i. by (not (eqb (getD states i 0) (getD states j 0)))
+          (λ t same. T-not (eqb (getD states i 0) (getD states j 0)) t (eq-eqb (getD states i 0) (getD states j 0) same))) j) n
 
   -- how many states are possible: the search lists them
   abbrev pub size? : (trace : List ℕ) (n : ℕ) → Check (For ts (λ t. EstimateSize (automatonOf t h) trace n))
@@ -84,10 +85,12 @@ module _ (ts : List Transition) (h : Header) (range : T (every inRange ts)) wher
 
     abbrev pub tells? : (notion : Notion) (trace : List ℕ) (v : Steps) → Check (For ts (λ t. Tells notion (automatonOf t h) secret trace v))
     tells? notion trace none =
-        map (λ f x l low short. f l (omega arith) short x) (all-below (λ l. where-le l (length trace) (clear? notion trace (length trace - l))) (suc (secret .k)))
+        map (λ f x l low short. f l (omega arith) short x)
+            (all-below (λ l. where-le l (length trace) (clear? notion trace (length trace - l))) (suc (secret .k)))
     tells? notion trace (leak l) =
         map (λ f x. record { within = f .0; reached = f .1 .0; sure = f .1 .1 .0 x; least = λ m less. f .1 .1 .1 m less x })
-        (both (le? l (secret .k)) (both (le? l (length trace)) (both (sure? notion trace (length trace - l)) (all-below (λ m. clear? notion trace (length trace - m)) l))))
+        (both (le? l (secret .k)) (both (le? l (length trace))
+            (both (sure? notion trace (length trace - l)) (all-below (λ m. clear? notion trace (length trace - m)) l))))
 
     abbrev by-runs? : (notion : Notion) (first : List ℕ) (n : ℕ) → Check (For ts (λ t. SafeByRuns notion (automatonOf t h) secret first n))
     by-runs? Weak first n =
@@ -96,7 +99,8 @@ module _ (ts : List Transition) (h : Header) (range : T (every inRange ts)) wher
         map (λ f x. ⊎-elim (λ old. inl old) (λ c. inr (excused (M x) secret first n (c x))) f)
         (either (le? (suc (length first + secret .k)) n) (clear? Strong first (n - secret .k)))
 
-    pub unsafe-weak : (first : List ℕ) (n : ℕ) → Below (λ j. (n ≤ j + secret .k) × For ts (λ t. SureAt (automatonOf t h) (secret .states) first j)) (suc (length first))
+    pub unsafe-weak : (first : List ℕ) (n : ℕ) → Below (λ j. (n ≤ j + secret .k) × For ts (λ t. SureAt (automatonOf t h) (secret .states) first j))
+        (suc (length first))
         → For ts (λ t. Unsafe Weak (automatonOf t h) secret first n)
     unsafe-weak first n b x = let s = b .small in record { at = b .at; reached = omega arith; near = b .holds .0; sure = b .holds .1 x }
 
@@ -120,12 +124,14 @@ module _ (ts : List Transition) (h : Header) (range : T (every inRange ts)) wher
         → Check (For ts (λ t. ForEach cs (λ i c. Tells notion (automatonOf t h) c trace (v i))))
     tells-each? notion trace v =
         map (λ f x i given. f i given x)
-        (all-below {A = λ i. For ts (λ t. Tells notion (automatonOf t h) (secretAt cs i) trace (v i))} (λ i. tells? (secretAt cs i) notion trace (v i)) (length cs))
+        (all-below {A = λ i. For ts (λ t. Tells notion (automatonOf t h) (secretAt cs i) trace (v i))} (λ i. tells? (secretAt cs i) notion trace (v i))
+            (length cs))
 
     abbrev pub opens-as-leak? : (notion : Notion) → Check (For ts (λ t. OpensAsLeak notion (automatonOf t h) cs))
     opens-as-leak? notion =
         map (λ b x. record { number = b .at; given = b .small; tells = b .holds x })
-        (some-below {A = λ i. For ts (λ t. Tells notion (automatonOf t h) (secretAt cs i) [] (leak 0))} (λ i. tells? (secretAt cs i) notion [] (leak 0)) (length cs))
+        (some-below {A = λ i. For ts (λ t. Tells notion (automatonOf t h) (secretAt cs i) [] (leak 0))} (λ i. tells? (secretAt cs i) notion [] (leak 0))
+            (length cs))
 
     -- no longer prefix is safe for all: one of them is unsafe
     abbrev pub longest-for-all? : (notion : Notion) (trace : List ℕ) (r : ℕ) → Check (For ts (λ t. Longest (SafeForAll notion (automatonOf t h) cs) trace r))

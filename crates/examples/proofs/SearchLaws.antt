@@ -11,7 +11,8 @@ use Rattle.automaton.specs.Run.{Automaton, Step, Takes, shows, shown, Compatibl
 use Rattle.automaton.proofs.Runs.{shows-short}
 use Rattle.encoding.specs.Transitions.{Transition, sameTransition, listed}
 use Rattle.examples.proofs.Booleans.{every, any, implied, meet, and-left, and-right, and-both, or-assoc, same-eq, eq-same, eq-eqb, sameList, same-list}
-use Rattle.examples.proofs.Search.{Node, isNode, isNil, isOne, flagOf, traceOf, silent, showing, covered, passes, other, ahead, first, after, none, find, stepsListed, isRun, some}
+use Rattle.examples.proofs.Search.{Node, isNode, isNil, isOne, flagOf, traceOf, silent, showing, covered, passes, other, ahead, first, after, none}
+use Rattle.examples.proofs.Search.{find, stepsListed, isRun, some}
 use Rattle.examples.proofs.Marks.{flag}
 
 abbrev pub triple : (from event to : ℕ) → Transition
@@ -94,7 +95,8 @@ module _ (ts : List Transition) (p : Automaton) (d : Listing p ts) (mark : ℕ �
   never-step s ss rec [] e short c rest S q f t here step takes sh fl =
       rec c rest S (s .to) (f || mark c q) t
       (pass (silent W mark) c S S (closed c rest S t) q (s .event) (s .to) f here step (subst (λ (v : List ℕ). T (isNil v)) (sym e) tt))
-      takes sh (sym (or-assoc f (mark c q) (flagOf W mark c (s .to) ss)) ∙ subst (λ (n : ℕ). (f || (mark c q || flagOf W mark n (s .to) ss)) ≡ b) (omega arith) fl)
+      takes sh (sym (or-assoc f (mark c q) (flagOf W mark c (s .to) ss))
+          ∙ subst (λ (n : ℕ). (f || (mark c q || flagOf W mark n (s .to) ss)) ≡ b) (omega arith) fl)
   never-step s ss rec (x ∷ []) e short c [] S q f t here step takes sh fl = let z : _≡_ {A = ℕ} 0 1 = cc in omega arith
   never-step s ss rec (x ∷ []) e short c (a ∷ rest) S q f t here step takes sh fl =
       let same-a : x ≡ a = cc in

@@ -10,7 +10,8 @@ use Rattle.opacity.specs.Verdicts.{Steps, none, leak}
 use Rattle.verifier.specs.Replies.{Told, Said, refused, verdicts}
 use Rattle.verifier.specs.Calls.{Call}
 use Rattle.enforcer.specs.Offerings.{started, not-started}
-use Rattle.examples.specs.Meaning.{Example, verdicts-of, answers-after, start-of, releases-of, verdicts-of-all, start-for-all, releases-for-all, automaton, refusal, Row, about, description, All}
+use Rattle.examples.specs.Meaning.{Example, verdicts-of, answers-after, start-of, releases-of, verdicts-of-all, start-for-all, releases-for-all}
+use Rattle.examples.specs.Meaning.{automaton, refusal, Row, about, description, All}
 
 abbrev pub transition : (from event to : ℕ) → Transition
 transition from event to = record { from = from; event = event; to = to }
@@ -63,7 +64,8 @@ Later = record {
 
 -- P whose events 1 and 2 have the symbols 2 and 0. Its encoding lists 31 for event 0, which is unobservable: the header has 0 there
 abbrev pub PSymbols : Example
-PSymbols = record { transitions = P 2 .transitions; header = record { initial = 0; k = 2; secret = 2 ^ 1; observable = 2 ^ 1 + 2 ^ 2; symbols = 0 ∷ 2 ∷ replicate 30 0 } }
+PSymbols = record { transitions = P 2 .transitions; header = record
+    { initial = 0; k = 2; secret = 2 ^ 1; observable = 2 ^ 1 + 2 ^ 2; symbols = 0 ∷ 2 ∷ replicate 30 0 } }
 
 abbrev pub call : ℕ → Said → Call
 call byte says = record { byte = byte; says = says }

@@ -24,7 +24,8 @@ use Rattle.enforcer.specs.declared.Release.{Release}
 use Rattle.enforcer.specs.declared.StartAnswer as start
 use Rattle.enforcer.specs.declared.OfferAnswer as offer
 use Rattle.layout.specs.Sizes.{headerSize}
-use Rattle.layout.specs.Layout.{Stored, headerAt, headerBytes, furtherAt, estimatorAt, estimatorBytes, EstimatorSized, notionAt, enforcerAt, enforcerBytes, EnforcerSized}
+use Rattle.layout.specs.Layout.{Stored, headerAt, headerBytes, furtherAt, estimatorAt, estimatorBytes, EstimatorSized, notionAt, enforcerAt, enforcerBytes}
+use Rattle.layout.specs.Layout.{EnforcerSized}
 use Rattle.layout.specs.Layout.{toldBytes, allFindings, judgementBytes, releaseBytes}
 use Rattle.gateway.specs.Interface.{Decode, FreshSizes, Fresh, Accept, Start, Offer, VerifierSizes, StartSizes, OfferSizes}
 use Rattle.layout.proofs.Stores.{whole}
@@ -75,11 +76,13 @@ module _ (t header estimator judgement : List ℕ) (h : Header) (after : Estimat
     said-opening : (x : verdict.Answer) → answer ≡ x
         → Opening t (headerAt header) (furtherAt further 0) (verifier.said (furtherAt further 0) x) after × verifier.Others (furtherAt further 0) x
     said-opening x is =
-        subst (λ (y : verdict.Answer). Opening t (headerAt header) (furtherAt further 0) (verifier.said (furtherAt further 0) y) after × verifier.Others (furtherAt further 0) y) is
+        subst (λ (y : verdict.Answer). Opening t (headerAt header) (furtherAt further 0) (verifier.said (furtherAt further 0) y) after
+            × verifier.Others (furtherAt further 0) y) is
         (subst (λ (y : Further). Opening t (headerAt header) y (verifier.said y answer) after × verifier.Others y answer) is-further
         (subst (λ (y : Header). Opening t y f (verifier.said f answer) after × verifier.Others f answer) is-header did))
 
-    pub fresh-refused : (r : Refusal) (n : ℕ) → answer ≡ verdict.the-variants.Refused r → n ≡ numberOf r → Fresh t header further estimator judgement n estimator judgement
+    pub fresh-refused : (r : Refusal) (n : ℕ) → answer ≡ verdict.the-variants.Refused r → n ≡ numberOf r
+        → Fresh t header further estimator judgement n estimator judgement
     fresh-refused r n is number = rw number (Fresh.refused all (said-opening (verdict.the-variants.Refused r) is .0))
 
     pub fresh-accepted : (j : Judgement) (left told : List ℕ) → answer ≡ verdict.the-variants.Accepted j
@@ -93,13 +96,17 @@ module _ (t header estimator judgement : List ℕ) (h : Header) (after : Estimat
   module _ (symbol : ℕ) (s : Estimator) (is-estimator : s ≡ estimatorAt estimator)
       (did : Accepting t h s symbol (verifier.said (s .further) answer) after × verifier.Others (s .further) answer) where
     said-accepting : (x : verdict.Answer) → answer ≡ x
-        → Accepting t (headerAt header) (estimatorAt estimator) symbol (verifier.said (estimatorAt estimator .further) x) after × verifier.Others (estimatorAt estimator .further) x
+        → Accepting t (headerAt header) (estimatorAt estimator) symbol (verifier.said (estimatorAt estimator .further) x) after
+            × verifier.Others (estimatorAt estimator .further) x
     said-accepting x is =
-        subst (λ (y : verdict.Answer). Accepting t (headerAt header) (estimatorAt estimator) symbol (verifier.said (estimatorAt estimator .further) y) after × verifier.Others (estimatorAt estimator .further) y) is
-        (subst (λ (y : Estimator). Accepting t (headerAt header) y symbol (verifier.said (y .further) answer) after × verifier.Others (y .further) answer) is-estimator
+        subst (λ (y : verdict.Answer). Accepting t (headerAt header) (estimatorAt estimator) symbol (verifier.said (estimatorAt estimator .further) y) after
+            × verifier.Others (estimatorAt estimator .further) y) is
+        (subst (λ (y : Estimator). Accepting t (headerAt header) y symbol (verifier.said (y .further) answer) after × verifier.Others (y .further) answer)
+            is-estimator
         (subst (λ (y : Header). Accepting t y s symbol (verifier.said (s .further) answer) after × verifier.Others (s .further) answer) is-header did))
 
-    pub accept-refused : (r : Refusal) (n : ℕ) → answer ≡ verdict.the-variants.Refused r → n ≡ numberOf r → Accept t header symbol estimator judgement n estimator judgement
+    pub accept-refused : (r : Refusal) (n : ℕ) → answer ≡ verdict.the-variants.Refused r → n ≡ numberOf r
+        → Accept t header symbol estimator judgement n estimator judgement
     accept-refused r n is number = rw number (Accept.refused sizes (said-accepting (verdict.the-variants.Refused r) is .0))
 
     pub accept-accepted : (j : Judgement) (left told : List ℕ) → answer ≡ verdict.the-variants.Accepted j
@@ -107,7 +114,8 @@ module _ (t header estimator judgement : List ℕ) (h : Header) (after : Estimat
     accept-accepted j left told is wrote says =
         let x = said-accepting (verdict.the-variants.Accepted j) is in
         subst (λ (y : List ℕ). Accept t header symbol estimator judgement 0 y told) (sym (filled left wrote))
-        (subst (λ (y : List ℕ). Accept t header symbol estimator judgement 0 (estimatorBytes after) y) (sym (says ∙ given-bytes (estimatorAt estimator .further) j (x .1)))
+        (subst (λ (y : List ℕ). Accept t header symbol estimator judgement 0 (estimatorBytes after) y)
+            (sym (says ∙ given-bytes (estimatorAt estimator .further) j (x .1)))
         (Accept.accepted sizes (x .0) (estimator-saved after (wrote .0))))
 
 module _ (t header : List ℕ) (byte : ℕ) (further saved : List ℕ) (h : Header) (notion : Notion) (f : Further) (after : Enforcer) (answer : start.StartAnswer)
@@ -123,12 +131,14 @@ module _ (t header : List ℕ) (byte : ℕ) (further saved : List ℕ) (h : Head
   pub start-refused : (r : Refusal) (n : ℕ) → answer ≡ start.the-variants.Refused r → n ≡ numberOf r → Start t header byte further saved n saved
   start-refused r n is number = rw number (Start.refused sizes (begun-starting (start.the-variants.Refused r) is))
 
-  pub start-started : (left : List ℕ) → answer ≡ start.the-variants.Started → EnforcerSized after × (left ≡ enforcerBytes after) → Start t header byte further saved 0 left
+  pub start-started : (left : List ℕ) → answer ≡ start.the-variants.Started → EnforcerSized after × (left ≡ enforcerBytes after)
+      → Start t header byte further saved 0 left
   start-started left is wrote =
       subst (λ (x : List ℕ). Start t header byte further saved 0 x) (sym (wrote .1))
       (Start.started sizes (begun-starting start.the-variants.Started is) (enforcer-saved after (wrote .0)))
 
-module _ (t header : List ℕ) (symbol : ℕ) (saved output release out : List ℕ) (h : Header) (s after : Enforcer) (answer : offer.OfferAnswer) (sizes : OfferSizes header saved release)
+module _ (t header : List ℕ) (symbol : ℕ) (saved output release out : List ℕ) (h : Header) (s after : Enforcer) (answer : offer.OfferAnswer)
+    (sizes : OfferSizes header saved release)
     (is-header : h ≡ headerAt header) (is-enforcer : s ≡ enforcerAt saved) (did : Offering t h s symbol output (offering.offerOutcome answer) after out) where
   said-offering : (x : offer.OfferAnswer) → answer ≡ x → Offering t (headerAt header) (enforcerAt saved) symbol output (offering.offerOutcome x) after out
   said-offering x is =
@@ -136,7 +146,8 @@ module _ (t header : List ℕ) (symbol : ℕ) (saved output release out : List �
       (subst (λ (y : Enforcer). Offering t (headerAt header) y symbol output (offering.offerOutcome answer) after out) is-enforcer
       (subst (λ (y : Header). Offering t y s symbol output (offering.offerOutcome answer) after out) is-header did))
 
-  pub offer-refused : (r : Refusal) (n : ℕ) → answer ≡ offer.the-variants.Refused r → n ≡ numberOf r → Offer t header symbol saved output release n saved out release
+  pub offer-refused : (r : Refusal) (n : ℕ) → answer ≡ offer.the-variants.Refused r → n ≡ numberOf r
+      → Offer t header symbol saved output release n saved out release
   offer-refused r n is number =
       let x = said-offering (offer.the-variants.Refused r) is in
       let kept = kept-output t (headerAt header) (enforcerAt saved) symbol output x in
@@ -147,4 +158,5 @@ module _ (t header : List ℕ) (symbol : ℕ) (saved output release out : List �
       → Offer t header symbol saved output release 0 left out told
   offer-released r left told is wrote says =
       subst (λ (x : List ℕ). Offer t header symbol saved output release 0 x out told) (sym (wrote .1))
-      (subst (λ (x : List ℕ). Offer t header symbol saved output release 0 (enforcerBytes after) out x) (sym says) (Offer.released sizes (said-offering (offer.the-variants.Released r) is) (enforcer-saved after (wrote .0))))
+      (subst (λ (x : List ℕ). Offer t header symbol saved output release 0 (enforcerBytes after) out x) (sym says)
+          (Offer.released sizes (said-offering (offer.the-variants.Released r) is) (enforcer-saved after (wrote .0))))

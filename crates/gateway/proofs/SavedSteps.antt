@@ -28,7 +28,8 @@ use Rattle.enforcer.specs.Offers.{Offers}
 use Rattle.layout.specs.Sizes.{headerSize, estimatorSize, strongByte, notionPlace, enforcerSize, judgementSize, releaseSize}
 use Rattle.layout.specs.Layout.{headerAt, estimatorAt, enforcerAt, verdictAt, verdictByte, judgementBytes, verdictsAt}
 use Rattle.gateway.specs.Interface.{Accept, Offer}
-use Rattle.gateway.specs.SavedCalls.{AcceptCall, AcceptCalled, AcceptCalls, acceptSaid, listedIf, callsOf, OfferCall, OfferCalled, OfferCalls, offerSaid, offersOf}
+use Rattle.gateway.specs.SavedCalls.{AcceptCall, AcceptCalled, AcceptCalls, acceptSaid, listedIf, callsOf, OfferCall, OfferCalled, OfferCalls}
+use Rattle.gateway.specs.SavedCalls.{offerSaid, offersOf}
 use Rattle.layout.proofs.Inverse.{verdict-back}
 
 -- the judgement that was written is the one that is read: two verdicts for each secret that is given, none past 15 steps
@@ -85,9 +86,11 @@ module _ (t header : List ℕ) (header-size : length header ≡ headerSize) wher
     size : length m ≡ estimatorSize
     same : estimatorAt m .further ≡ kept
 
-  one-accept : (kept : Further) (s : List ℕ) (symbol : ℕ) (lent : List ℕ) (answer : ℕ) (m told : List ℕ) → length s ≡ estimatorSize → estimatorAt s .further ≡ kept → length lent ≡ judgementSize
+  one-accept : (kept : Further) (s : List ℕ) (symbol : ℕ) (lent : List ℕ) (answer : ℕ) (m told : List ℕ) → length s ≡ estimatorSize
+      → estimatorAt s .further ≡ kept → length lent ≡ judgementSize
       → Accept t header symbol s lent answer m told → OneAccept kept s symbol answer m told
-  one-accept kept s symbol lent answer m told k same nine (Accept.size bad) = absurd (bad (record { header-size = header-size; estimator-size = k; judgement-size = nine }))
+  one-accept kept s symbol lent answer m told k same nine (Accept.size bad) = absurd
+      (bad (record { header-size = header-size; estimator-size = k; judgement-size = nine }))
   one-accept kept s symbol lent answer m told k same nine (Accept.refused sizes x) =
       record { accepting = refused-accept (estimatorAt s) symbol (kept .count) lent x; size = k; same = same }
   one-accept kept s symbol lent answer m told k same nine (Accept.accepted sizes {j = j} {s = after} x saved) =
@@ -103,7 +106,8 @@ module _ (t header : List ℕ) (header-size : length header ≡ headerSize) wher
       }
 
   -- one that lends another number of bytes for the judgement
-  unsized-accept : (s : List ℕ) (symbol : ℕ) (lent : List ℕ) (answer : ℕ) (m told : List ℕ) → (length lent ≡ judgementSize → ⊥) → Accept t header symbol s lent answer m told → m ≡ s
+  unsized-accept : (s : List ℕ) (symbol : ℕ) (lent : List ℕ) (answer : ℕ) (m told : List ℕ) → (length lent ≡ judgementSize → ⊥)
+      → Accept t header symbol s lent answer m told → m ≡ s
   unsized-accept s symbol lent answer m told n (Accept.size bad) = refl
   unsized-accept s symbol lent answer m told n (Accept.refused sizes x) = refl
   unsized-accept s symbol lent answer m told n (Accept.accepted sizes x saved) = absurd (n (sizes .judgement-size))
@@ -113,7 +117,8 @@ module _ (t header : List ℕ) (header-size : length header ≡ headerSize) wher
       → estimatorAt s .further ≡ kept → AcceptCalled t header s c m
       → (length m ≡ estimatorSize → estimatorAt m .further ≡ kept → Calls t head (estimatorAt m) (callsOf (kept .count) rest) (estimatorAt e))
       → (b : Bool) → eqb (length (c .lent)) judgementSize ≡ b
-      → Calls t head (estimatorAt s) (listedIf b (record { byte = c .symbol; says = acceptSaid (kept .count) (c .answer) (c .told) }) ++ callsOf (kept .count) rest) (estimatorAt e)
+      → Calls t head (estimatorAt s) (listedIf b (record { byte = c .symbol; says = acceptSaid (kept .count) (c .answer) (c .told) }) ++ callsOf
+          (kept .count) rest) (estimatorAt e)
   first-accept kept s c m rest e k same a later true is =
       let x = one-accept kept s (c .symbol) (c .lent) (c .answer) m (c .told) k same (eqb-true _ _ is) a in
       next (x .accepting) (later (x .size) (x .same))
@@ -134,7 +139,8 @@ module _ (t header : List ℕ) (header-size : length header ≡ headerSize) wher
     pub known : getD s notionPlace 0 ≤ strongByte
 
   -- a refusal has no number 0, and leaves the enforcer
-  refused-offer : (self : Enforcer) (symbol : ℕ) (output release : List ℕ) {n : ℕ} {after : Enforcer} {left : List ℕ} → Offering t head self symbol output (offering.refused n) after left
+  refused-offer : (self : Enforcer) (symbol : ℕ) (output release : List ℕ) {n : ℕ} {after : Enforcer} {left : List ℕ}
+      → Offering t head self symbol output (offering.refused n) after left
       → Offering t head self symbol output (offerSaid n release) self left
   refused-offer self symbol output release (Offering.malformed bad) = Offering.malformed bad
   refused-offer self symbol output release (Offering.output-too-small so li few) = Offering.output-too-small so li few
@@ -150,12 +156,16 @@ module _ (t header : List ℕ) (header-size : length header ≡ headerSize) wher
       → Offer t header symbol s output lent answer m left release → OneOffer s symbol output answer m left release
   one-offer s symbol output lent answer m left release k two (Offer.size bad) =
       absurd (bad (record { header-size = header-size; enforcer-size = k .size; notion-known = k .known; release-size = two }))
-  one-offer s symbol output lent answer m left release k two (Offer.refused sizes x) = record { offering = refused-offer (enforcerAt s) symbol output lent x; keeps = k }
-  one-offer s symbol output lent answer m left release k two (Offer.released sizes (Offering.accepted so li wide ob same after bal front rest within exact) saved) =
-      record { offering = rw (saved .back) (Offering.accepted so li wide ob same after bal front rest within exact); keeps = record { size = saved .size; known = saved .notion-known } }
+  one-offer s symbol output lent answer m left release k two
+      (Offer.refused sizes x) = record { offering = refused-offer (enforcerAt s) symbol output lent x; keeps = k }
+  one-offer s symbol output lent answer m left release k two
+      (Offer.released sizes (Offering.accepted so li wide ob same after bal front rest within exact) saved) =
+      record { offering = rw (saved .back) (Offering.accepted so li wide ob same after bal front rest within exact); keeps = record
+          { size = saved .size; known = saved .notion-known } }
 
   -- one that lends another number of bytes for the release
-  unsized-offer : (s : List ℕ) (symbol : ℕ) (output lent : List ℕ) (answer : ℕ) (m left release : List ℕ) → (length lent ≡ releaseSize → ⊥) → Offer t header symbol s output lent answer m left release → m ≡ s
+  unsized-offer : (s : List ℕ) (symbol : ℕ) (output lent : List ℕ) (answer : ℕ) (m left release : List ℕ) → (length lent ≡ releaseSize → ⊥)
+      → Offer t header symbol s output lent answer m left release → m ≡ s
   unsized-offer s symbol output lent answer m left release n (Offer.size bad) = refl
   unsized-offer s symbol output lent answer m left release n (Offer.refused sizes x) = refl
   unsized-offer s symbol output lent answer m left release n (Offer.released sizes x saved) = absurd (n (sizes .release-size))

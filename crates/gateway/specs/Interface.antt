@@ -49,7 +49,8 @@ pub data Fresh (t header further estimator judgement : List ℕ) : ℕ → List 
 -- accept: the same, of the estimator that the bytes hold and a symbol
 pub data Accept (t header : List ℕ) (symbol : ℕ) (estimator judgement : List ℕ) : ℕ → List ℕ → List ℕ → Type 0 where
   size : (VerifierSizes header estimator judgement → ⊥) → Accept t header symbol estimator judgement 9 estimator judgement
-  refused : VerifierSizes header estimator judgement → {n : ℕ} {s : Estimator} → Accepting t (headerAt header) (estimatorAt estimator) symbol (verifier.refused n) s
+  refused : VerifierSizes header estimator judgement → {n : ℕ} {s : Estimator}
+      → Accepting t (headerAt header) (estimatorAt estimator) symbol (verifier.refused n) s
       → Accept t header symbol estimator judgement n estimator judgement
   accepted : VerifierSizes header estimator judgement → {j : Findings} {s : Estimator}
       → Accepting t (headerAt header) (estimatorAt estimator) symbol (verifier.verdicts j) s → EstimatorSaved s
@@ -82,7 +83,8 @@ pub record OfferSizes (header enforcer release : List ℕ) : Type 0 where
 pub data Offer (t header : List ℕ) (symbol : ℕ) (enforcer output release : List ℕ) : ℕ → List ℕ → List ℕ → List ℕ → Type 0 where
   size : (OfferSizes header enforcer release → ⊥) → Offer t header symbol enforcer output release 9 enforcer output release
   refused : OfferSizes header enforcer release → {n : ℕ} {s : Enforcer}
-      → Offering t (headerAt header) (enforcerAt enforcer) symbol output (offering.refused n) s output → Offer t header symbol enforcer output release n enforcer output release
+      → Offering t (headerAt header) (enforcerAt enforcer) symbol output (offering.refused n) s output
+          → Offer t header symbol enforcer output release n enforcer output release
   released : OfferSizes header enforcer release → {r : Release} {s : Enforcer} {left : List ℕ}
       → Offering t (headerAt header) (enforcerAt enforcer) symbol output (offering.released r) s left → EnforcerSaved s
       → Offer t header symbol enforcer output release 0 (enforcerBytes s) left (releaseBytes r)

@@ -75,7 +75,8 @@ module _ (p : Automaton) (μ : List ℕ) (run : List Step) (f : Compatible p μ 
     begins = λ j h.
         let n = position-count j (omega arith) (ℕ-discrete j (count p m)) in
         let n′ = position-count (suc j) h (ℕ-discrete (suc j) (count p m)) in
-        shorter-prefix p (positionOf j .before) (positionOf j .after) (positionOf (suc j) .before) (positionOf (suc j) .after) run (positionOf j .splits) (positionOf (suc j) .splits)
+        shorter-prefix p (positionOf j .before) (positionOf j .after) (positionOf (suc j) .before) (positionOf (suc j) .after) run (positionOf j .splits)
+            (positionOf (suc j) .splits)
         (omega arith);
   }
 
@@ -129,7 +130,8 @@ module _ (p : Automaton) (K : ℕ) (μ : List ℕ) where
         trajectory = t .trajectory;
         belongs = t .belongs;
         inside = omega (arith, trajectory-length p K μ (t .trajectory) (t .belongs));
-        is = t .ends i h ∙ position-same p μ (x .run) (x .compatible) (x .position) (length μ - i) (sym (x .here)) (ℕ-discrete (length μ - i) (count p (x .position))) ∙ x .is;
+        is = t .ends i h ∙ position-same p μ (x .run) (x .compatible) (x .position) (length μ - i) (sym (x .here))
+            (ℕ-discrete (length μ - i) (count p (x .position))) ∙ x .is;
       }
 
   -- m(i) is our delayed estimate i steps back. Where i is past |μ| both are the states before the first symbol: m_init repeats its state, and |μ| − i is 0
@@ -223,7 +225,8 @@ module _ (p : Automaton) (K : ℕ) (μ : List ℕ) where
         go : (v : Steps) × Tells Weak p (secretOf secret K) μ v → RightVerdict Weak p (secretOf secret K) μ γ
         go (v, tells) =
             let e : v ≡ γ = verdict-gamma v tells γ .1 gamma in
-            subst (RightVerdict Weak p (secretOf secret K) μ) e (right-verdict Weak p (secretOf secret K) μ v .0 (published p (secretOf secret K) μ x Weak v (exactly Weak p (secretOf secret K) μ v tells)))
+            subst (RightVerdict Weak p (secretOf secret K) μ) e
+                (right-verdict Weak p (secretOf secret K) μ v .0 (published p (secretOf secret K) μ x Weak v (exactly Weak p (secretOf secret K) μ v tells)))
 
 -- a trace has one right verdict
 one-right : (p : Automaton) (secret : Secret) (μ : List ℕ) (v w : Steps) → RightVerdict Weak p secret μ v → RightVerdict Weak p secret μ w → v ≡ w

@@ -12,16 +12,20 @@ use Rattle.opacity.specs.declared.Notion.{Notion}
 use Rattle.opacity.specs.declared.Notion.the-variants.{Weak, Strong}
 use Rattle.opacity.specs.Verdicts.{Steps, none, leak, Tells}
 use Rattle.opacity.proofs.Exactness.{in-words}
-use Rattle.published.specs.Source.{Prefix, Lang, Trace, AllSecret, NoneFree, Excused, Alone, Breaks, WeaklyOpaque, StronglyOpaque, Opaque, LeakSet, RevealsWithin, LeaksByRuns}
-use Rattle.published.proofs.SourceLaws.{prefix-short, position-at, still-at, run-trace, words-leak-at, tells-excused, excused-like, excused-free, excused-opaque}
+use Rattle.published.specs.Source.{Prefix, Lang, Trace, AllSecret, NoneFree, Excused, Alone, Breaks, WeaklyOpaque, StronglyOpaque, Opaque, LeakSet}
+use Rattle.published.specs.Source.{RevealsWithin, LeaksByRuns}
+use Rattle.published.proofs.SourceLaws.{prefix-short, position-at, still-at, run-trace, words-leak-at, tells-excused, excused-like, excused-free}
+use Rattle.published.proofs.SourceLaws.{excused-opaque}
 use Rattle.published.proofs.Corollary.{at-within, opaque-empty, empty-opaque}
 use Rattle.opacity.proofs.EveryVerdict.{every-verdict}
 
 -- Proposition 1: "S is (G, P, K)-weakly opaque iff ∀ μ ∈ T(G), ∀ μ′ ⪯ μ : |μ − μ′| ≤ K ⇒ ⟦μ′/μ⟧ ⊄ L_S(G)"
 pub proposition-1 : (p : Automaton) (secret : Secret)
-    → WeaklyOpaque p secret ↔ ((μ : List ℕ) → Trace p μ → (μ′ : List ℕ) → Prefix ℕ μ′ μ → length μ - length μ′ ≤ secret .k → AllSecret p (secret .states) μ′ μ → ⊥)
+    → WeaklyOpaque p secret ↔ ((μ : List ℕ) → Trace p μ → (μ′ : List ℕ) → Prefix ℕ μ′ μ → length μ - length μ′ ≤ secret .k → AllSecret p (secret .states) μ′ μ
+        → ⊥)
 proposition-1 p secret = (
-  (λ opaque μ x μ′ pre near all. opaque-empty Weak p secret opaque μ (record { observed = x; leaks = record { μ′ = μ′; begins = pre; back = near; all = all } })),
+  (λ opaque μ x μ′ pre near all. opaque-empty Weak p secret opaque μ
+      (record { observed = x; leaks = record { μ′ = μ′; begins = pre; back = near; all = all } })),
   (λ never. empty-opaque Weak p secret (λ μ x. never μ (x .observed) (x .leaks .μ′) (x .leaks .begins) (x .leaks .back) (x .leaks .all))),
 )
 
@@ -78,14 +82,16 @@ breaks-weakly p secret μ r t f =
       near = omega (arith, ap length (f .shown-is), x .here, r .back);
       inside = r .all (m .before) still;
       alone = λ e. e .free (r .all (e .s′) (record {
-        now = record { takes = takes-front p (p .initial) (e .s′) (e .begins .rest) (rw (e .begins .joins) (e .takes)); shown-is = e .like′ ∙ still .now .shown-is };
+        now = record { takes = takes-front p (p .initial) (e .s′) (e .begins .rest) (rw (e .begins .joins) (e .takes)); shown-is = e .like′
+            ∙ still .now .shown-is };
         whole = e .s;
         begins = e .begins;
         then = record { takes = e .takes; shown-is = e .like ∙ f .shown-is };
       }));
     }
 
-breaks : (notion : Notion) (p : Automaton) (secret : Secret) (μ : List ℕ) → LeakSet notion p secret μ → (t : List Step) → Compatible p μ t → Breaks notion p secret t
+breaks : (notion : Notion) (p : Automaton) (secret : Secret) (μ : List ℕ) → LeakSet notion p secret μ → (t : List Step) → Compatible p μ t
+    → Breaks notion p secret t
 breaks Weak p secret μ x t f = breaks-weakly p secret μ (x .leaks) t f
 breaks Strong p secret μ x t f = λ e. x .leaks (e .s) (record { takes = e .takes; shown-is = e .like ∙ f .shown-is }) (e .free)
 
@@ -93,7 +99,8 @@ breaks Strong p secret μ x t f = λ e. x .leaks (e .s) (record { takes = e .tak
 pub not-opaque-leaks : (notion : Notion) (p : Automaton) (secret : Secret) → LeaksByRuns notion p secret
 not-opaque-leaks notion p secret = record { leaks = leaks; breaks = breaks notion p secret; found = found notion p secret; apart = apart notion p secret }
   where
-    pick : (t : List Step) → Breaks notion p secret t → LeakSet notion p secret (shown p t) ⊎ Excused notion p secret (shown p t) → LeakSet notion p secret (shown p t)
+    pick : (t : List Step) → Breaks notion p secret t → LeakSet notion p secret (shown p t) ⊎ Excused notion p secret (shown p t)
+        → LeakSet notion p secret (shown p t)
     pick t x (inl leak-set) = leak-set
     pick t x (inr excused) = absurd (broken notion p secret t x excused)
 

@@ -22,7 +22,8 @@ use Rattle.published.specs.Source.{Published, RightVerdict, RightVerdict
 use Rattle.published.proofs.SourceLaws.{published}
 
 -- the published verdict is the one of Definition 6
-pub right-verdict : (notion : Notion) (p : Automaton) (secret : Secret) (μ : List ℕ) (γ : Steps) → Published notion p secret μ γ ↔ RightVerdict notion p secret μ γ
+pub right-verdict : (notion : Notion) (p : Automaton) (secret : Secret) (μ : List ℕ) (γ : Steps)
+    → Published notion p secret μ γ ↔ RightVerdict notion p secret μ γ
 right-verdict notion p secret μ γ = (
   (λ x. record { domain = λ l e. x .leaks l .0 e .0; leaks = λ l h. ((λ e. x .leaks l .0 e .1), (λ y. x .leaks l .1 (h, y))); clear = x .clear }),
   (λ x. record { leaks = λ l. ((λ e. (x .domain l e, x .leaks l (x .domain l e) .0 e)), (λ y. x .leaks l (y .0) .1 (y .1))); clear = x .clear }),
@@ -45,7 +46,8 @@ module _ (t : List ℕ) (h : Header) (f : Further) where
   }
 
   -- an event of an observed trace is not refused
-  answer-right : (trace : List ℕ) (byte : ℕ) (says : Said) → Answered t h f trace byte says → Observable h byte → Possible (automatonOf t h) (trace ++ byte ∷ [])
+  answer-right : (trace : List ℕ) (byte : ℕ) (says : Said) → Answered t h f trace byte says → Observable h byte
+      → Possible (automatonOf t h) (trace ++ byte ∷ [])
       → (takenBy says byte ≡ byte ∷ []) × RightAfter (trace ++ byte ∷ []) says
   answer-right trace byte (refused n) (inl x) seen possible = absurd (x .1 seen)
   answer-right trace byte (refused n) (inr x) seen possible = absurd (x .2 (possible .run) (possible .compatible))
@@ -72,11 +74,13 @@ module _ (t : List ℕ) (h : Header) (f : Further) where
       let parts = split trace c cs all in
       let here = append-assoc trace (c .byte ∷ []) (offered cs) in
       let later : Possible (automatonOf t h) ((trace ++ c .byte ∷ []) ++ offered cs) = subst (Possible (automatonOf t h)) (sym here) possible in
-      let y = answer-right trace (c .byte) (c .says) (parts .0) (event-seen trace (c .byte) (offered cs) possible) (front-possible (trace ++ c .byte ∷ []) (offered cs) later) in
+      let y = answer-right trace (c .byte) (c .says) (parts .0) (event-seen trace (c .byte) (offered cs) possible)
+          (front-possible (trace ++ c .byte ∷ []) (offered cs) later) in
       let rest : AllAnswered t h f (trace ++ c .byte ∷ []) cs = subst (λ (l : List ℕ). AllAnswered t h f (trace ++ l) cs) (y .0) (parts .1) in
       subst (λ (l : List ℕ). RightAfter l (lastSaid (c .says) cs)) here (follow (trace ++ c .byte ∷ []) (c .says) cs (y .1) rest later)
 
--- Definition 6 of our verifier: a fresh estimator that was not refused and is offered the events of an observed trace refuses none of them, and its verdicts are
+-- Definition 6 of our verifier: a fresh estimator that was not refused and is offered the events of an observed trace refuses none of them, and its
+-- verdicts are
 -- the trace's for every secret, by both notions
 pub definition-6 : (t : List ℕ) (h : Header) (f : Further) → SoundComplete (automatonOf t h) (secretsOf h f) (SaysAfter t h f)
 definition-6 t h f μ x r y =

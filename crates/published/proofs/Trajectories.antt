@@ -125,7 +125,8 @@ module _ (p : Automaton) (K : ℕ) where
         rw (kept j (omega arith), added (suc j) (omega arith)) (record { rest = x .s; joins = ap (λ (n : ℕ). w .part n ++ x .s) e })
 
     ends-on : Ends p K (μ ++ σ ∷ []) part-on (q ∷ take K t)
-    ends-on zero h = sym (end-on p σ (getD t 0 0) q run newest x) ∙ ap (endOf (p .initial)) (sym (added (length (μ ++ σ ∷ []) - 0) (omega (arith, one-longer μ σ))))
+    ends-on zero h = sym (end-on p σ (getD t 0 0) q run newest x)
+        ∙ ap (endOf (p .initial)) (sym (added (length (μ ++ σ ∷ []) - 0) (omega (arith, one-longer μ σ))))
     ends-on (suc i) h =
         let e : length μ - i ≡ length (μ ++ σ ∷ []) - suc i = omega (arith, one-longer μ σ) in
         getD-take K t i 0 (omega arith) ∙ w .ends i (omega arith) ∙ ap (endOf (p .initial)) (sym (kept (length μ - i) (omega arith)) ∙ ap part-on e)

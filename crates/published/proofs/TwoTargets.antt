@@ -63,7 +63,8 @@ steps-opaque K t lang = go (short t lang)
       s = [];
       takes = tt;
       like = sym (word-shown twoTargets t ∙ ap (projected twoTargets) e);
-      free = λ t′ pre near bad. clear t′ (pre .rest ++ aside ∷ []) (sym (append-assoc t′ (pre .rest) (aside ∷ [])) ∙ ap (λ (l : List Step). l ++ aside ∷ []) (pre .joins)) bad;
+      free = λ t′ pre near bad. clear t′ (pre .rest ++ aside ∷ [])
+          (sym (append-assoc t′ (pre .rest) (aside ∷ [])) ∙ ap (λ (l : List Step). l ++ aside ∷ []) (pre .joins)) bad;
     }
     go (inr e) = record {
       s = aside ∷ [];

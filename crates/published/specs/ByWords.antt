@@ -1,4 +1,5 @@
--- Source document 000's Definitions 1, 3 and 4 as they stand there: a state and an event have one target, and an execution sequence is a word, a list of events.
+-- Source document 000's Definitions 1, 3 and 4 as they stand there: a state and an event have one target, and an execution sequence is a word, a list of
+-- events.
 -- One thing differs: the projection names each observable event by its symbol (02, S-2)
 use mathlib.Core.Path.{_≡_}
 use mathlib.Core.List.{List, [], _∷_, _++_}
@@ -56,7 +57,8 @@ pub record EquivalentWord (p : Automaton) (secret : ℕ) (t t′ : List ℕ) : T
 
 abbrev pub WeaklyByWords : Automaton → Secret → Type 0
 WeaklyByWords p secret =
-    (t : List ℕ) → WordLang p t → (t′ : List ℕ) → Prefix ℕ t′ t → length (projected p t) - length (projected p t′) ≤ secret .k → Marked p (secret .states) t′ → EquivalentWord p (secret .states) t t′
+    (t : List ℕ) → WordLang p t → (t′ : List ℕ) → Prefix ℕ t′ t → length (projected p t) - length (projected p t′) ≤ secret .k → Marked p (secret .states) t′
+        → EquivalentWord p (secret .states) t t′
 
 -- Definition 4
 pub record FreeWord (p : Automaton) (secret : Secret) (t : List ℕ) : Type 0 where

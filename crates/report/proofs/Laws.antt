@@ -96,11 +96,13 @@ pub judgement-lined : (a b w s n c : List ℕ)
     → a ++ ((32 ∷ b) ++ (((32 ∷ w) ++ ((32 ∷ s) ++ (32 ∷ n))) ++ ((32 ∷ c) ++ (10 ∷ [])))) ≡ line (a ∷ b ∷ w ∷ s ∷ n ∷ c ∷ [])
 judgement-lined a b w s n c =
     let t = (32 ∷ c) ++ (10 ∷ []) in
-    ap (λ (l : List ℕ). a ++ ((32 ∷ b) ++ l)) (append-assoc (32 ∷ w) ((32 ∷ s) ++ (32 ∷ n)) t ∙ ap (λ (l : List ℕ). (32 ∷ w) ++ l) (append-assoc (32 ∷ s) (32 ∷ n) t))
+    ap (λ (l : List ℕ). a ++ ((32 ∷ b) ++ l))
+        (append-assoc (32 ∷ w) ((32 ∷ s) ++ (32 ∷ n)) t ∙ ap (λ (l : List ℕ). (32 ∷ w) ++ l) (append-assoc (32 ∷ s) (32 ∷ n) t))
     ∙ lined a (b ∷ w ∷ s ∷ n ∷ c ∷ [])
 
 -- the answers of the public functions
-pub entered : {room at next : ℕ} {before after text : List ℕ} → at + room ≤ length before → Wrote room before at text after next → Written room before at text (Next next) after
+pub entered : {room at next : ℕ} {before after text : List ℕ} → at + room ≤ length before → Wrote room before at text after next
+    → Written room before at text (Next next) after
 entered {room} {at} {next} {before} {after} {text} h w =
     subst (λ (l : List ℕ). Written room before at text (Next next) l) (sym (w .bytes))
     (subst (λ (k : ℕ). Written room before at text (Next k) (sets before at text)) (sym (w .place)) (written h (omega (arith, w .place, w .limit))))

@@ -33,7 +33,8 @@ use Rattle.verifier.specs.Estimators.{Limits, InLimits, Grown, GrownOn}
 use Rattle.verifier.specs.Replies.{FindingsBy, toldOf, noneTold, noLeaks, stepsBy, toldAt, numbered, toldEach, refused, said, OthersNoLeak, Others}
 use Rattle.verifier.specs.Replies.{refused-by, verdicts-by, saidBy, OthersBy, chosen, Bounded, Opening, opened, Accepting, accepted, Moved, TellsBy}
 use Rattle.verifier.specs.Replies.{AcceptingBy, turned-back, accepted-by}
-use Rattle.verifier.specs.Inner.{Estimated, Stepped, Found, upTo, Asks, askFor, chosenAnswer, WhereAsked, Judged, JudgedAt, JudgedAll, Opened, AcceptingAsked}
+use Rattle.verifier.specs.Inner.{Estimated, Stepped, Found, upTo, Asks, askFor, chosenAnswer, WhereAsked, Judged, JudgedAt, JudgedAll, Opened}
+use Rattle.verifier.specs.Inner.{AcceptingAsked}
 use Rattle.verifier.specs.declared.Reply.{Reply}
 use Rattle.verifier.specs.declared.Asked.{Asked}
 use Rattle.verifier.specs.declared.Answer.{Answer}
@@ -198,7 +199,8 @@ pub limits-as : (h : Header) (self s : Estimator) (k : ℕ) → k ≡ lookBackOf
 limits-as h self s k e same li = subst (λ (f : Further). Limits (lookBackOf h f) s) (sym same) (subst (λ (n : ℕ). Limits n s) e li)
 
 -- an accepted symbol, from the estimate after it and the estimator with it pushed
-pub moved-by : (t : List ℕ) (h : Header) (self : Estimator) (symbol n from k : ℕ) (silent : List ℕ) (e : Estimate) (s : Estimator) → WellFormed t h → InLimits h self
+pub moved-by : (t : List ℕ) (h : Header) (self : Estimator) (symbol n from k : ℕ) (silent : List ℕ) (e : Estimate) (s : Estimator) → WellFormed t h
+    → InLimits h self
     → Observable h symbol → Stepped (automatonOf t h) from (getD (self .entries) 0 0) symbol silent e → n ≡ e .size → k ≡ lookBackOf h (self .further)
     → s .further ≡ self .further → Limits k s
     → ((trace : List ℕ) → Grown (automatonOf t h) k trace self → Is (e .entry) (Enters (automatonOf t h) (trace ++ symbol ∷ []))

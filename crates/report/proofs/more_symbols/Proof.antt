@@ -41,7 +41,8 @@ loop-again c =
     let l = at-loop .before .before .before .args .released .now in
     let i = at-loop .loop .i in (
       omega arith,
-      same (ap (λ (k : ℕ). led 44 (map decimal (take i l)) ++ (44 ∷ decimal k)) (c .before .before .before .wide .ensures) ∙ led-one 44 l i (omega arith)) (omega arith)
+      same (ap (λ (k : ℕ). led 44 (map decimal (take i l)) ++ (44 ∷ decimal k)) (c .before .before .before .wide .ensures) ∙ led-one 44 l i (omega arith))
+          (omega arith)
           (then (at-loop .loop .inv .1) (c .before .before .field .ensures)),
     )
 

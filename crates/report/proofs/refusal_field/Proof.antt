@@ -21,7 +21,8 @@ same-length : tie.Need-same-length
 same-length c = search needs
 
 returns : tie.Need-returns
-returns c = same (ap (λ (k : ℕ). 32 ∷ decimal k) (c .before .before .before .wide .ensures ∙ c .before .before .before .before .number .ensures)) (omega arith) (c .before .before .field .ensures)
+returns c = same (ap (λ (k : ℕ). 32 ∷ decimal k) (c .before .before .before .wide .ensures ∙ c .before .before .before .before .number .ensures))
+    (omega arith) (c .before .before .field .ensures)
 
 pub refusal-field-spec : {M : Type 1} → statement M
 refusal-field-spec =

@@ -15,7 +15,8 @@ same-length : tie.Need-same-length
 same-length c = search needs
 
 returns : tie.Need-returns
-returns c = entered (holds _ (c .before .before .before .before .if1 .taken) (c .before .before .before .before .before .has-room .ensures)) (c .before .before .put-refused .ensures)
+returns c = entered (holds _ (c .before .before .before .before .if1 .taken) (c .before .before .before .before .before .has-room .ensures))
+    (c .before .before .put-refused .ensures)
 
 same-length-2 : tie.Need-same-length-2
 same-length-2 c = search needs

@@ -11,7 +11,8 @@ same-length : tie.Need-same-length
 same-length c = search needs
 
 returns : tie.Need-returns
-returns c = same (symbols-none (c .before .before .before .before .before .before .before .args .released .now) (c .before .before .before .before .if1 .taken)) (omega arith) (c .before .before .dash .ensures)
+returns c = same (symbols-none (c .before .before .before .before .before .before .before .args .released .now)
+    (c .before .before .before .before .if1 .taken)) (omega arith) (c .before .before .dash .ensures)
 
 shared-slice-read-wide : tie.Need-shared-slice-read-wide
 shared-slice-read-wide c = search needs

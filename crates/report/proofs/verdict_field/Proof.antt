@@ -28,7 +28,8 @@ same-length : tie.Need-same-length
 same-length c = search needs
 
 returns : tie.Need-returns
-returns c = same (sym (ap (λ (v : Verdict). 32 ∷ steps v) (c .before .before .before .before .enum-told .given .1))) (omega arith) (c .before .before .dash .ensures)
+returns c = same (sym (ap (λ (v : Verdict). 32 ∷ steps v) (c .before .before .before .before .enum-told .given .1))) (omega arith)
+    (c .before .before .dash .ensures)
 
 same-length-2 : tie.Need-same-length-2
 same-length-2 c = search needs
@@ -36,7 +37,8 @@ same-length-2 c = search needs
 returns-2 : tie.Need-returns-2
 returns-2 c =
     same (ap (λ (k : ℕ). 32 ∷ decimal k) (c .before .before .before .wide .ensures)
-    ∙ sym (ap (λ (v : Verdict). 32 ∷ steps v) (c .before .before .before .before .before .before .verdict .given .1))) (omega arith) (c .before .before .field .ensures)
+    ∙ sym (ap (λ (v : Verdict). 32 ∷ steps v) (c .before .before .before .before .before .before .verdict .given .1))) (omega arith)
+        (c .before .before .field .ensures)
 
 pub verdict-field-spec : {M : Type 1} → statement M
 verdict-field-spec =

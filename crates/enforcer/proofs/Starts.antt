@@ -116,7 +116,7 @@ never s t h u so li = u _ (look-back-small h (s .estimator .further) (so .back) 
 -- what a refused start hands back is no enforcer: every offer to it, with every table and header, gets 9
 pub refused-start : (t : List ℕ) (h : Header) (f : Further) (notion : Notion) (n : ℕ) (s : Enforcer) → Starting t h f notion (not-started n) s
     → (t′ : List ℕ) (h′ : Header) (byte : ℕ) (output : List ℕ) (r : OfferOutcome) (m : Enforcer) (left : List ℕ) → Offering t′ h′ s byte output r m left
-        → r ≡ refused 9
+    → r ≡ refused 9
 refused-start t h f notion n s x t′ h′ byte output r m left (Offering.malformed bad) = refl
 refused-start t h f notion n s x t′ h′ byte output r m left (Offering.output-too-small so li few) = absurd (never s t′ h′ (outside x) so li)
 refused-start t h f notion n s x t′ h′ byte output r m left (Offering.not-observable so li wide ob) = absurd (never s t′ h′ (outside x) so li)

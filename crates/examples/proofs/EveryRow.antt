@@ -68,7 +68,7 @@ symbols? h =
     (both (eq? (length (h .symbols)) 32) (all-below {A = λ e. getD (h .symbols) e 0 ≤ 31} (λ e. le? (getD (h .symbols) e 0) 31) 32))
 
 -- by the definition, so exactly so in 01's words
-right : (t : List ℕ) (h : Header) (trace : List ℕ) (v : Told) (n : ℕ) → SizeWithin n → VerdictsAre t h trace (v .weak) (v .strong) n 
+right : (t : List ℕ) (h : Header) (trace : List ℕ) (v : Told) (n : ℕ) → SizeWithin n → VerdictsAre t h trace (v .weak) (v .strong) n
     → Right t h noFurther trace (record { each = v ∷ []; size = n })
 right t h trace v n within told = record {
   as-many = refl;
@@ -169,7 +169,7 @@ module _ (ts : List Transition) (h : Header) (range : T (every inRange ts)) wher
       })
       (both (allowed? f) (both (possible? ts h range trace) (both (eq? (length vs) (length cs)) (both (within? n)
       (both (tells-each? ts h range cs Weak trace (toldAt Weak vs))
-          (both (tells-each? ts h range cs Strong trace (toldAt Strong vs)) (size? ts h range trace n)))))))
+      (both (tells-each? ts h range cs Strong trace (toldAt Strong vs)) (size? ts h range trace n)))))))
 
   abbrev opened-for-all? : (f : Further) (notion : Notion) (answer : StartOutcome) → Check (For ts (λ t. OpenedForAll t h f notion answer))
   opened-for-all? f notion started = tells-each? ts h range (secretsOf h f) notion [] (λ i. none)

@@ -64,7 +64,7 @@ module _ (ts : List Transition) (h : Header) (range : T (every inRange ts)) wher
   different? states n =
       all-below (λ j. all-below
       (λ i. by (not (eqb (getD states i 0) (getD states j 0)))
-          (λ t same. T-not (eqb (getD states i 0) (getD states j 0)) t (eq-eqb (getD states i 0) (getD states j 0) same))) j) n
+      (λ t same. T-not (eqb (getD states i 0) (getD states j 0)) t (eq-eqb (getD states i 0) (getD states j 0) same))) j) n
 
   -- how many states are possible: the search lists them
   abbrev pub size? : (trace : List ℕ) (n : ℕ) → Check (For ts (λ t. EstimateSize (automatonOf t h) trace n))
@@ -86,11 +86,11 @@ module _ (ts : List Transition) (h : Header) (range : T (every inRange ts)) wher
     abbrev pub tells? : (notion : Notion) (trace : List ℕ) (v : Steps) → Check (For ts (λ t. Tells notion (automatonOf t h) secret trace v))
     tells? notion trace none =
         map (λ f x l low short. f l (omega arith) short x)
-            (all-below (λ l. where-le l (length trace) (clear? notion trace (length trace - l))) (suc (secret .k)))
+        (all-below (λ l. where-le l (length trace) (clear? notion trace (length trace - l))) (suc (secret .k)))
     tells? notion trace (leak l) =
         map (λ f x. record { within = f .0; reached = f .1 .0; sure = f .1 .1 .0 x; least = λ m less. f .1 .1 .1 m less x })
         (both (le? l (secret .k)) (both (le? l (length trace))
-            (both (sure? notion trace (length trace - l)) (all-below (λ m. clear? notion trace (length trace - m)) l))))
+        (both (sure? notion trace (length trace - l)) (all-below (λ m. clear? notion trace (length trace - m)) l))))
 
     abbrev by-runs? : (notion : Notion) (first : List ℕ) (n : ℕ) → Check (For ts (λ t. SafeByRuns notion (automatonOf t h) secret first n))
     by-runs? Weak first n =
@@ -125,13 +125,13 @@ module _ (ts : List Transition) (h : Header) (range : T (every inRange ts)) wher
     tells-each? notion trace v =
         map (λ f x i given. f i given x)
         (all-below {A = λ i. For ts (λ t. Tells notion (automatonOf t h) (secretAt cs i) trace (v i))} (λ i. tells? (secretAt cs i) notion trace (v i))
-            (length cs))
+        (length cs))
 
     abbrev pub opens-as-leak? : (notion : Notion) → Check (For ts (λ t. OpensAsLeak notion (automatonOf t h) cs))
     opens-as-leak? notion =
         map (λ b x. record { number = b .at; given = b .small; tells = b .holds x })
         (some-below {A = λ i. For ts (λ t. Tells notion (automatonOf t h) (secretAt cs i) [] (leak 0))} (λ i. tells? (secretAt cs i) notion [] (leak 0))
-            (length cs))
+        (length cs))
 
     -- no longer prefix is safe for all: one of them is unsafe
     abbrev pub longest-for-all? : (notion : Notion) (trace : List ℕ) (r : ℕ) → Check (For ts (λ t. Longest (SafeForAll notion (automatonOf t h) cs) trace r))

@@ -68,7 +68,7 @@ module _ (p : Automaton) (trace : List ℕ) where
       (λ out. never (a .run) (a .compatible)
       (is-true (flag-from p (endsOutside states (length trace)) (a .run) m
       (and-both (eqb (count p m) (length trace)) (not (any (eqb (stateAt p m)) states))
-          (eq-eqb (count p m) (length trace) (ap length (a .compatible .shown-is))) out)))))
+      (eq-eqb (count p m) (length trace) (ap length (a .compatible .shown-is))) out)))))
 
   -- the listed states are those in which compatible runs end, and none is listed twice
   pub size : (states : List ℕ) (n : ℕ) → length states ≡ n → ((i : ℕ) → i < n → Flagged p (endsAt (getD states i 0) (length trace)) true trace)

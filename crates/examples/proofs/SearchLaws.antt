@@ -96,7 +96,7 @@ module _ (ts : List Transition) (p : Automaton) (d : Listing p ts) (mark : ℕ �
       rec c rest S (s .to) (f || mark c q) t
       (pass (silent W mark) c S S (closed c rest S t) q (s .event) (s .to) f here step (subst (λ (v : List ℕ). T (isNil v)) (sym e) tt))
       takes sh (sym (or-assoc f (mark c q) (flagOf W mark c (s .to) ss))
-          ∙ subst (λ (n : ℕ). (f || (mark c q || flagOf W mark n (s .to) ss)) ≡ b) (omega arith) fl)
+      ∙ subst (λ (n : ℕ). (f || (mark c q || flagOf W mark n (s .to) ss)) ≡ b) (omega arith) fl)
   never-step s ss rec (x ∷ []) e short c [] S q f t here step takes sh fl = let z : _≡_ {A = ℕ} 0 1 = cc in omega arith
   never-step s ss rec (x ∷ []) e short c (a ∷ rest) S q f t here step takes sh fl =
       let same-a : x ≡ a = cc in

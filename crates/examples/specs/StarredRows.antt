@@ -64,8 +64,11 @@ Later = record {
 
 -- P whose events 1 and 2 have the symbols 2 and 0. Its encoding lists 31 for event 0, which is unobservable: the header has 0 there
 abbrev pub PSymbols : Example
-PSymbols = record { transitions = P 2 .transitions; header = record
-    { initial = 0; k = 2; secret = 2 ^ 1; observable = 2 ^ 1 + 2 ^ 2; symbols = 0 ∷ 2 ∷ replicate 30 0 } }
+PSymbols = record {
+  transitions = P 2 .transitions;
+  header = record
+      { initial = 0; k = 2; secret = 2 ^ 1; observable = 2 ^ 1 + 2 ^ 2; symbols = 0 ∷ 2 ∷ replicate 30 0 };
+}
 
 abbrev pub call : ℕ → Said → Call
 call byte says = record { byte = byte; says = says }

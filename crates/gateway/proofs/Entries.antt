@@ -77,7 +77,7 @@ module _ (t header estimator judgement : List ℕ) (h : Header) (after : Estimat
         → Opening t (headerAt header) (furtherAt further 0) (verifier.said (furtherAt further 0) x) after × verifier.Others (furtherAt further 0) x
     said-opening x is =
         subst (λ (y : verdict.Answer). Opening t (headerAt header) (furtherAt further 0) (verifier.said (furtherAt further 0) y) after
-            × verifier.Others (furtherAt further 0) y) is
+        × verifier.Others (furtherAt further 0) y) is
         (subst (λ (y : Further). Opening t (headerAt header) y (verifier.said y answer) after × verifier.Others y answer) is-further
         (subst (λ (y : Header). Opening t y f (verifier.said f answer) after × verifier.Others f answer) is-header did))
 
@@ -97,12 +97,12 @@ module _ (t header estimator judgement : List ℕ) (h : Header) (after : Estimat
       (did : Accepting t h s symbol (verifier.said (s .further) answer) after × verifier.Others (s .further) answer) where
     said-accepting : (x : verdict.Answer) → answer ≡ x
         → Accepting t (headerAt header) (estimatorAt estimator) symbol (verifier.said (estimatorAt estimator .further) x) after
-            × verifier.Others (estimatorAt estimator .further) x
+        × verifier.Others (estimatorAt estimator .further) x
     said-accepting x is =
         subst (λ (y : verdict.Answer). Accepting t (headerAt header) (estimatorAt estimator) symbol (verifier.said (estimatorAt estimator .further) y) after
-            × verifier.Others (estimatorAt estimator .further) y) is
+        × verifier.Others (estimatorAt estimator .further) y) is
         (subst (λ (y : Estimator). Accepting t (headerAt header) y symbol (verifier.said (y .further) answer) after × verifier.Others (y .further) answer)
-            is-estimator
+        is-estimator
         (subst (λ (y : Header). Accepting t y s symbol (verifier.said (s .further) answer) after × verifier.Others (s .further) answer) is-header did))
 
     pub accept-refused : (r : Refusal) (n : ℕ) → answer ≡ verdict.the-variants.Refused r → n ≡ numberOf r
@@ -115,7 +115,7 @@ module _ (t header estimator judgement : List ℕ) (h : Header) (after : Estimat
         let x = said-accepting (verdict.the-variants.Accepted j) is in
         subst (λ (y : List ℕ). Accept t header symbol estimator judgement 0 y told) (sym (filled left wrote))
         (subst (λ (y : List ℕ). Accept t header symbol estimator judgement 0 (estimatorBytes after) y)
-            (sym (says ∙ given-bytes (estimatorAt estimator .further) j (x .1)))
+        (sym (says ∙ given-bytes (estimatorAt estimator .further) j (x .1)))
         (Accept.accepted sizes (x .0) (estimator-saved after (wrote .0))))
 
 module _ (t header : List ℕ) (byte : ℕ) (further saved : List ℕ) (h : Header) (notion : Notion) (f : Further) (after : Enforcer) (answer : start.StartAnswer)
@@ -159,4 +159,4 @@ module _ (t header : List ℕ) (symbol : ℕ) (saved output release out : List �
   offer-released r left told is wrote says =
       subst (λ (x : List ℕ). Offer t header symbol saved output release 0 x out told) (sym (wrote .1))
       (subst (λ (x : List ℕ). Offer t header symbol saved output release 0 (enforcerBytes after) out x) (sym says)
-          (Offer.released sizes (said-offering (offer.the-variants.Released r) is) (enforcer-saved after (wrote .0))))
+      (Offer.released sizes (said-offering (offer.the-variants.Released r) is) (enforcer-saved after (wrote .0))))

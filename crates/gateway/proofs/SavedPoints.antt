@@ -56,8 +56,10 @@ pub saved-fresh : (encoding table before t header further estimator lent : List 
     → length further ≡ furtherSize → length estimator ≡ estimatorSize → length lent ≡ judgementSize
     → Fresh t header further estimator lent answer s told → ByFurther (furtherAt further 0) answer
 saved-fresh encoding table before t header further estimator lent answer s told x f e l (Fresh.size bad) =
-    absurd (bad (record { verifier = record { header-size = saved-length encoding table before t header x; estimator-size = e; judgement-size = l };
-        further-size = f }))
+    absurd (bad (record {
+      verifier = record { header-size = saved-length encoding table before t header x; estimator-size = e; judgement-size = l };
+      further-size = f;
+    }))
 saved-fresh encoding table before t header further estimator lent answer s told x f e l (Fresh.refused _ (Opening.malformed bad out)) =
     absurd (bad (saved-well-formed encoding table before t header x))
 saved-fresh encoding table before t header further estimator lent answer s told x f e l
@@ -92,7 +94,7 @@ bounded notion p secret trace (leak l) x = x .within
 -- a promise about the verdicts that were written is one about those that are read
 told-promise : (t : List ℕ) (h : Header) (f : Further) (j : Findings) (told : List ℕ) (cs : List verifier.Call) (e : Estimator)
     → acceptSaid (f .count) 0 told ≡ replies.verdicts j → verifier.VerifierPromise t h f j cs e
-        → verifier.VerifierPromise t h f (judgementAt (f .count) told) cs e
+    → verifier.VerifierPromise t h f (judgementAt (f .count) told) cs e
 told-promise t h f j told cs e same x = subst (λ (r : replies.Said). Promised r) (sym same) x
   where
     Promised : replies.Said → Type 0
@@ -103,7 +105,7 @@ told-promise t h f j told cs e same x = subst (λ (r : replies.Said). Promised r
 pub saved-second-point : (t header further before lent s told : List ℕ) (cs : List AcceptCall) (e : List ℕ) → Fresh t header further before lent 0 s told
     → AcceptCalls t header s cs e
     → verifier.VerifierPromise t (headerAt header) (furtherAt further 0) (judgementAt (furtherAt further 0 .count) told)
-        (callsOf (furtherAt further 0 .count) cs) (estimatorAt e)
+    (callsOf (furtherAt further 0 .count) cs) (estimatorAt e)
 saved-second-point t header further before lent s told cs e
     (Fresh.accepted sizes {j = j} {s = x} (Opening.opened so allowed same li many within exact) saved) calls =
     let h = headerAt header in
@@ -114,9 +116,9 @@ saved-second-point t header further before lent s told cs e
     let given : i < length (secretsOf h f) = omega (arith, many) in
     let c = secretAt (secretsOf h f) i in
     bounded-up (c .k) 15 (toldAt notion (j .each) i) (omega (arith, secret-back h f i given, small))
-        (bounded notion (automatonOf t h) c [] (toldAt notion (j .each) i) (exact .tells notion i given))) in
+    (bounded notion (automatonOf t h) c [] (toldAt notion (j .each) i) (exact .tells notion i given))) in
     let listed = accept-calls t header (sizes .verifier .header-size) (clearedOf f) s cs e (saved .size)
-        (ap (λ (y : Estimator). y .further) (saved .back) ∙ same) calls in
+    (ap (λ (y : Estimator). y .further) (saved .back) ∙ same) calls in
     told-promise t h f j told (callsOf (f .count) cs) (estimatorAt e) reads
     (second-point t h f j x (callsOf (f .count) cs) (estimatorAt e) (Opening.opened so allowed same li many within exact)
     (subst (λ (y : Estimator). verifier.Calls t h y (callsOf (f .count) cs) (estimatorAt e)) (saved .back) listed))
@@ -129,10 +131,10 @@ pub encoded-second-point : (encoding table before t header further estimator len
     → Fresh t header further estimator lent answer s told → AcceptCalls t header s cs e
     → (answer ≡ 0) × Decoding encoding table (headerAt header) accept t
     × verifier.VerifierPromise t (headerAt header) (furtherAt further 0) (judgementAt (furtherAt further 0 .count) told)
-        (callsOf (furtherAt further 0 .count) cs) (estimatorAt e)
+    (callsOf (furtherAt further 0 .count) cs) (estimatorAt e)
 encoded-second-point encoding table before t header further estimator lent answer s told cs e x size28 size size′ allowed fresh f =
     let zero-is = answered (furtherAt further 0) answer allowed
-        (saved-fresh encoding table before t header further estimator lent answer s told x size28 size size′ fresh) in (
+    (saved-fresh encoding table before t header further estimator lent answer s told x size28 size size′ fresh) in (
       zero-is,
       saved-header encoding table before t header x,
       saved-second-point t header further estimator lent s told cs e (subst (λ (n : ℕ). Fresh t header further estimator lent n s told) zero-is fresh) f,
@@ -166,11 +168,11 @@ pub offer-within : (t header : List ℕ) (symbol : ℕ) (before output lent afte
     × (enforcerAt after .estimator .further ≡ enforcerAt before .estimator .further)
 offer-within t header symbol before output lent after left release
     (Offer.released sizes {s = s} (Offering.accepted so li wide ob same within bal front rest size exact) saved) = (
-  saved .size,
-  saved .notion-known,
-  subst (limits.InLimits (headerAt header)) (sym (saved .back)) within,
-  ap (λ (y : Enforcer). y .estimator .further) (saved .back) ∙ same,
-)
+      saved .size,
+      saved .notion-known,
+      subst (limits.InLimits (headerAt header)) (sym (saved .back)) within,
+      ap (λ (y : Enforcer). y .estimator .further) (saved .back) ∙ same,
+    )
 
 -- WHAT STANDS PAST THE COUNT in the bytes of further secrets counts for nothing
 pub past-fresh : (t header a b estimator lent : List ℕ) (answer : ℕ) (s told : List ℕ) → length a ≡ furtherSize → length b ≡ furtherSize
@@ -181,7 +183,7 @@ past-fresh t header a b estimator lent answer s told size-a size-b same (Fresh.r
     Fresh.refused (record { verifier = sizes .verifier; further-size = size-b }) (past-opening (furtherAt a 0) (furtherAt b 0) same t (headerAt header) _ _ x)
 past-fresh t header a b estimator lent answer s told size-a size-b same (Fresh.accepted sizes x saved) =
     Fresh.accepted (record { verifier = sizes .verifier; further-size = size-b })
-        (past-opening (furtherAt a 0) (furtherAt b 0) same t (headerAt header) _ _ x) saved
+    (past-opening (furtherAt a 0) (furtherAt b 0) same t (headerAt header) _ _ x) saved
 
 pub past-start : (t header : List ℕ) (notion : ℕ) (a b enforcer : List ℕ) (answer : ℕ) (s : List ℕ) → length a ≡ furtherSize → length b ≡ furtherSize
     → clearedOf (furtherAt a 0) ≡ clearedOf (furtherAt b 0) → Start t header notion a enforcer answer s → Start t header notion b enforcer answer s

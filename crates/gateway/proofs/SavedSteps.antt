@@ -118,7 +118,7 @@ module _ (t header : List ℕ) (header-size : length header ≡ headerSize) wher
       → (length m ≡ estimatorSize → estimatorAt m .further ≡ kept → Calls t head (estimatorAt m) (callsOf (kept .count) rest) (estimatorAt e))
       → (b : Bool) → eqb (length (c .lent)) judgementSize ≡ b
       → Calls t head (estimatorAt s) (listedIf b (record { byte = c .symbol; says = acceptSaid (kept .count) (c .answer) (c .told) }) ++ callsOf
-          (kept .count) rest) (estimatorAt e)
+      (kept .count) rest) (estimatorAt e)
   first-accept kept s c m rest e k same a later true is =
       let x = one-accept kept s (c .symbol) (c .lent) (c .answer) m (c .told) k same (eqb-true _ _ is) a in
       next (x .accepting) (later (x .size) (x .same))
@@ -160,8 +160,11 @@ module _ (t header : List ℕ) (header-size : length header ≡ headerSize) wher
       (Offer.refused sizes x) = record { offering = refused-offer (enforcerAt s) symbol output lent x; keeps = k }
   one-offer s symbol output lent answer m left release k two
       (Offer.released sizes (Offering.accepted so li wide ob same after bal front rest within exact) saved) =
-      record { offering = rw (saved .back) (Offering.accepted so li wide ob same after bal front rest within exact); keeps = record
-          { size = saved .size; known = saved .notion-known } }
+      record {
+        offering = rw (saved .back) (Offering.accepted so li wide ob same after bal front rest within exact);
+        keeps = record
+            { size = saved .size; known = saved .notion-known };
+      }
 
   -- one that lends another number of bytes for the release
   unsized-offer : (s : List ℕ) (symbol : ℕ) (output lent : List ℕ) (answer : ℕ) (m left release : List ℕ) → (length lent ≡ releaseSize → ⊥)

@@ -84,7 +84,7 @@ pub data Offer (t header : List ℕ) (symbol : ℕ) (enforcer output release : L
   size : (OfferSizes header enforcer release → ⊥) → Offer t header symbol enforcer output release 9 enforcer output release
   refused : OfferSizes header enforcer release → {n : ℕ} {s : Enforcer}
       → Offering t (headerAt header) (enforcerAt enforcer) symbol output (offering.refused n) s output
-          → Offer t header symbol enforcer output release n enforcer output release
+      → Offer t header symbol enforcer output release n enforcer output release
   released : OfferSizes header enforcer release → {r : Release} {s : Enforcer} {left : List ℕ}
       → Offering t (headerAt header) (enforcerAt enforcer) symbol output (offering.released r) s left → EnforcerSaved s
       → Offer t header symbol enforcer output release 0 (enforcerBytes s) left (releaseBytes r)

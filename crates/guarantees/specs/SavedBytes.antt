@@ -35,7 +35,7 @@ EncodedSecondPoint = (encoding table before t header further estimator lent : Li
     → Allowed (furtherAt further 0) → Fresh t header further estimator lent answer s told → AcceptCalls t header s cs e
     → (answer ≡ 0) × Decoding encoding table (headerAt header) accept t
     × VerifierPromise t (headerAt header) (furtherAt further 0) (judgementAt (furtherAt further 0 .count) told) (callsOf (furtherAt further 0 .count) cs)
-        (estimatorAt e)
+    (estimatorAt e)
 
 -- the third point
 abbrev pub SavedThirdPoint : Type 0

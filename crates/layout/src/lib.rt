@@ -3,13 +3,13 @@
 use automaton::Header;
 use enforcer::Enforcer;
 use enforcer::Release;
-use verifier::Estimator;
 use opacity::Further;
-use verifier::Judgement;
 use opacity::Notion;
 use opacity::Secret;
 use opacity::Verdict;
 use opacity::Verdicts;
+use verifier::Estimator;
+use verifier::Judgement;
 ghost use mathlib.Core.Path.{_≡_};
 ghost use mathlib.Core.List.{[], _∷_};
 ghost use Prim.Native.Nat.{ℕ, _+_, _*_, _≤_, _<_, _^_};

@@ -76,7 +76,7 @@ module _ (p : Automaton) (μ : List ℕ) (run : List Step) (f : Compatible p μ 
         let n = position-count j (omega arith) (ℕ-discrete j (count p m)) in
         let n′ = position-count (suc j) h (ℕ-discrete (suc j) (count p m)) in
         shorter-prefix p (positionOf j .before) (positionOf j .after) (positionOf (suc j) .before) (positionOf (suc j) .after) run (positionOf j .splits)
-            (positionOf (suc j) .splits)
+        (positionOf (suc j) .splits)
         (omega arith);
   }
 
@@ -226,7 +226,7 @@ module _ (p : Automaton) (K : ℕ) (μ : List ℕ) where
         go (v, tells) =
             let e : v ≡ γ = verdict-gamma v tells γ .1 gamma in
             subst (RightVerdict Weak p (secretOf secret K) μ) e
-                (right-verdict Weak p (secretOf secret K) μ v .0 (published p (secretOf secret K) μ x Weak v (exactly Weak p (secretOf secret K) μ v tells)))
+            (right-verdict Weak p (secretOf secret K) μ v .0 (published p (secretOf secret K) μ x Weak v (exactly Weak p (secretOf secret K) μ v tells)))
 
 -- a trace has one right verdict
 one-right : (p : Automaton) (secret : Secret) (μ : List ℕ) (v w : Steps) → RightVerdict Weak p secret μ v → RightVerdict Weak p secret μ w → v ≡ w

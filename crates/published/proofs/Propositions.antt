@@ -22,7 +22,7 @@ use Rattle.opacity.proofs.EveryVerdict.{every-verdict}
 -- Proposition 1: "S is (G, P, K)-weakly opaque iff ∀ μ ∈ T(G), ∀ μ′ ⪯ μ : |μ − μ′| ≤ K ⇒ ⟦μ′/μ⟧ ⊄ L_S(G)"
 pub proposition-1 : (p : Automaton) (secret : Secret)
     → WeaklyOpaque p secret ↔ ((μ : List ℕ) → Trace p μ → (μ′ : List ℕ) → Prefix ℕ μ′ μ → length μ - length μ′ ≤ secret .k → AllSecret p (secret .states) μ′ μ
-        → ⊥)
+    → ⊥)
 proposition-1 p secret = (
   (λ opaque μ x μ′ pre near all. opaque-empty Weak p secret opaque μ
       (record { observed = x; leaks = record { μ′ = μ′; begins = pre; back = near; all = all } })),
@@ -82,8 +82,11 @@ breaks-weakly p secret μ r t f =
       near = omega (arith, ap length (f .shown-is), x .here, r .back);
       inside = r .all (m .before) still;
       alone = λ e. e .free (r .all (e .s′) (record {
-        now = record { takes = takes-front p (p .initial) (e .s′) (e .begins .rest) (rw (e .begins .joins) (e .takes)); shown-is = e .like′
-            ∙ still .now .shown-is };
+        now = record {
+          takes = takes-front p (p .initial) (e .s′) (e .begins .rest) (rw (e .begins .joins) (e .takes));
+          shown-is = e .like′
+              ∙ still .now .shown-is;
+        };
         whole = e .s;
         begins = e .begins;
         then = record { takes = e .takes; shown-is = e .like ∙ f .shown-is };

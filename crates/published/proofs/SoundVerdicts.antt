@@ -75,7 +75,7 @@ module _ (t : List ℕ) (h : Header) (f : Further) where
       let here = append-assoc trace (c .byte ∷ []) (offered cs) in
       let later : Possible (automatonOf t h) ((trace ++ c .byte ∷ []) ++ offered cs) = subst (Possible (automatonOf t h)) (sym here) possible in
       let y = answer-right trace (c .byte) (c .says) (parts .0) (event-seen trace (c .byte) (offered cs) possible)
-          (front-possible (trace ++ c .byte ∷ []) (offered cs) later) in
+      (front-possible (trace ++ c .byte ∷ []) (offered cs) later) in
       let rest : AllAnswered t h f (trace ++ c .byte ∷ []) cs = subst (λ (l : List ℕ). AllAnswered t h f (trace ++ l) cs) (y .0) (parts .1) in
       subst (λ (l : List ℕ). RightAfter l (lastSaid (c .says) cs)) here (follow (trace ++ c .byte ∷ []) (c .says) cs (y .1) rest later)
 

@@ -188,7 +188,7 @@ module _ (p : Automaton) where
             free = λ s′ pre near m.
                 let S′ = start (wordOf (x .s)) (x .s) S s′ pre in
                 x .free (S′ .front) (S′ .begins) (near-steps (wordOf (x .s)) s′ (x .s) (S′ .front) S (S′ .reading) near)
-                    (secretly d s′ (S′ .front) (S′ .reading) m);
+                (secretly d s′ (S′ .front) (S′ .reading) m);
           }
 
       words-strong : StronglyByWords p (secretOf secret K) → StronglyOpaque p (secretOf secret K)

@@ -58,7 +58,7 @@ pub record EquivalentWord (p : Automaton) (secret : ℕ) (t t′ : List ℕ) : T
 abbrev pub WeaklyByWords : Automaton → Secret → Type 0
 WeaklyByWords p secret =
     (t : List ℕ) → WordLang p t → (t′ : List ℕ) → Prefix ℕ t′ t → length (projected p t) - length (projected p t′) ≤ secret .k → Marked p (secret .states) t′
-        → EquivalentWord p (secret .states) t t′
+    → EquivalentWord p (secret .states) t t′
 
 -- Definition 4
 pub record FreeWord (p : Automaton) (secret : Secret) (t : List ℕ) : Type 0 where

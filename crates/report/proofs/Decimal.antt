@@ -88,7 +88,7 @@ all-digits (suc f) n i h = by-test (ltb n 10) refl (all-digits f (n / 10)) h
     by-test : (b : Bool) → ltb n 10 ≡ b → ((j : ℕ) → j < length (digits f (n / 10)) → (48 ≤ getD (digits f (n / 10)) j 0) × (getD (digits f (n / 10)) j 0 ≤ 57))
         → i < length (cond b ((48 + n) ∷ []) (digits f (n / 10) ++ ((48 + n % 10) ∷ [])))
         → (48 ≤ getD (cond b ((48 + n) ∷ []) (digits f (n / 10) ++ ((48 + n % 10) ∷ []))) i 0)
-            × (getD (cond b ((48 + n) ∷ []) (digits f (n / 10) ++ ((48 + n % 10) ∷ []))) i 0 ≤ 57)
+        × (getD (cond b ((48 + n) ∷ []) (digits f (n / 10) ++ ((48 + n % 10) ∷ []))) i 0 ≤ 57)
     by-test true e rest l = digit-more [] (48 + n) (λ j k. absurd (omega arith)) (omega arith) (omega (arith, ltb-true n 10 e)) i l
     by-test false e rest l = digit-more (digits f (n / 10)) (48 + n % 10) rest (omega arith) (omega arith) i l
 
@@ -111,5 +111,10 @@ one-zero = refl
 
 pub in-base-ten : (n : ℕ) → n < 2 ^ 32 → BaseTen n (decimal n)
 unfolding decimal
-in-base-ten n h = record { some = some-digits 9 n; digit = all-digits 10 n; front = λ e. ap (λ (k : ℕ). length (digits 10 k))
-    (first-digit 9 n (omega arith) e) ∙ one-zero; value = reads-back n h }
+in-base-ten n h = record {
+  some = some-digits 9 n;
+  digit = all-digits 10 n;
+  front = λ e. ap (λ (k : ℕ). length (digits 10 k))
+      (first-digit 9 n (omega arith) e) ∙ one-zero;
+  value = reads-back n h;
+}

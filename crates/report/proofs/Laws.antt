@@ -97,7 +97,7 @@ pub judgement-lined : (a b w s n c : List ℕ)
 judgement-lined a b w s n c =
     let t = (32 ∷ c) ++ (10 ∷ []) in
     ap (λ (l : List ℕ). a ++ ((32 ∷ b) ++ l))
-        (append-assoc (32 ∷ w) ((32 ∷ s) ++ (32 ∷ n)) t ∙ ap (λ (l : List ℕ). (32 ∷ w) ++ l) (append-assoc (32 ∷ s) (32 ∷ n) t))
+    (append-assoc (32 ∷ w) ((32 ∷ s) ++ (32 ∷ n)) t ∙ ap (λ (l : List ℕ). (32 ∷ w) ++ l) (append-assoc (32 ∷ s) (32 ∷ n) t))
     ∙ lined a (b ∷ w ∷ s ∷ n ∷ c ∷ [])
 
 -- the answers of the public functions

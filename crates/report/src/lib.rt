@@ -1,7 +1,7 @@
 // The lines of the log program, written into a lent output. Bytes past the written ones stay as they were.
+use opacity::Verdict;
 use refusal::Refusal;
 use verifier::Judgement;
-use opacity::Verdict;
 ghost use mathlib.Core.Path.{_≡_};
 ghost use mathlib.Core.List.{[], _∷_, _++_, map};
 ghost use Prim.Native.Nat.{_+_, _*_, _%_, _≤_, _<_};
@@ -100,7 +100,9 @@ fn verdict_field(out: &mut [u8], at: usize, verdict: Verdict) -> usize
 // and for the line of an idle log.
 fn judgement_fields(out: &mut [u8], at: usize, judgement: Judgement) -> usize
     requires { ⌜ at + 33 ≤ length (now out) ⌝ }
-    ensures { λ r. ⌜ Wrote 33 (now (out .entry)) at ((32 ∷ steps (judgement .verdicts .own .weak)) ++ ((32 ∷ steps (judgement .verdicts .own .strong)) ++ (32 ∷ decimal (judgement .size)))) (now (out .exit)) r ⌝ }
+    ensures { λ r. ⌜ Wrote 33 (now (out .entry)) at
+        ((32 ∷ steps (judgement .verdicts .own .weak)) ++ ((32 ∷ steps (judgement .verdicts .own .strong)) ++ (32 ∷ decimal (judgement .size))))
+        (now (out .exit)) r ⌝ }
 {
     let verdicts = judgement.verdicts;
     let own = verdicts.own; // the log has no further secret
@@ -154,7 +156,9 @@ fn put_accepted(
     released: &[u8],
 ) -> usize
     requires { ⌜ at + roomFor (length (now released)) ≤ length (now out) ⌝ }
-    ensures { λ r. ⌜ Wrote (roomFor (length (now (released .entry)))) (now (out .entry)) at (acceptedLine place symbol (judgement .verdicts .own .weak) (judgement .verdicts .own .strong) (judgement .size) (now (released .entry))) (now (out .exit)) r ⌝ }
+    ensures { λ r. ⌜ Wrote (roomFor (length (now (released .entry)))) (now (out .entry)) at
+        (acceptedLine place symbol (judgement .verdicts .own .weak) (judgement .verdicts .own .strong) (judgement .size) (now (released .entry)))
+        (now (out .exit)) r ⌝ }
 {
     let a = number(out, at, place);
     let b = field(out, a, 32, wide(symbol));
@@ -165,7 +169,8 @@ fn put_accepted(
 
 fn put_idle(out: &mut [u8], at: usize, opening: Judgement) -> usize
     requires { ⌜ at + roomFor 0 ≤ length (now out) ⌝ }
-    ensures { λ r. ⌜ Wrote (roomFor 0) (now (out .entry)) at (idleLine (opening .verdicts .own .weak) (opening .verdicts .own .strong) (opening .size)) (now (out .exit)) r ⌝ }
+    ensures { λ r. ⌜ Wrote (roomFor 0) (now (out .entry)) at (idleLine (opening .verdicts .own .weak) (opening .verdicts .own .strong) (opening .size))
+        (now (out .exit)) r ⌝ }
 {
     let a = number(out, at, 0);
     let b = dash(out, a);
@@ -204,7 +209,8 @@ fn put_idle_end(
     pending: u32,
 ) -> usize
     requires { ⌜ at + roomAtEnd ≤ length (now out) ⌝ }
-    ensures { λ r. ⌜ Wrote roomAtEnd (now (out .entry)) at (idleLine (opening .verdicts .own .weak) (opening .verdicts .own .strong) (opening .size) ++ endLine accepted released pending) (now (out .exit)) r ⌝ }
+    ensures { λ r. ⌜ Wrote roomAtEnd (now (out .entry)) at
+        (idleLine (opening .verdicts .own .weak) (opening .verdicts .own .strong) (opening .size) ++ endLine accepted released pending) (now (out .exit)) r ⌝ }
 {
     let next = put_idle(out, at, opening);
     put_end(out, next, accepted, released, pending)
@@ -255,7 +261,9 @@ pub fn accepted(
     judgement: Judgement,
     released: &[u8],
 ) -> Line
-    ensures { λ r. ⌜ Written (roomFor (length (now (released .entry)))) (now (out .entry)) at (acceptedLine place symbol (judgement .verdicts .own .weak) (judgement .verdicts .own .strong) (judgement .size) (now (released .entry))) r (now (out .exit)) ⌝ }
+    ensures { λ r. ⌜ Written (roomFor (length (now (released .entry)))) (now (out .entry)) at
+        (acceptedLine place symbol (judgement .verdicts .own .weak) (judgement .verdicts .own .strong) (judgement .size) (now (released .entry))) r
+        (now (out .exit)) ⌝ }
 {
     if has_room(out, at, released.len()) {
         return Line::Next(put_accepted(out, at, place, symbol, judgement, released));
@@ -292,7 +300,8 @@ pub fn idle(
     released: u32,
     pending: u32,
 ) -> Line
-    ensures { λ r. ⌜ Written roomAtEnd (now (out .entry)) at (idleLine (opening .verdicts .own .weak) (opening .verdicts .own .strong) (opening .size) ++ endLine accepted released pending) r (now (out .exit)) ⌝ }
+    ensures { λ r. ⌜ Written roomAtEnd (now (out .entry)) at
+        (idleLine (opening .verdicts .own .weak) (opening .verdicts .own .strong) (opening .size) ++ endLine accepted released pending) r (now (out .exit)) ⌝ }
 {
     if has_room_at_end(out, at) {
         return Line::Next(put_idle_end(out, at, opening, accepted, released, pending));

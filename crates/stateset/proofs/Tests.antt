@@ -33,7 +33,7 @@ same? [] (y ∷ b) = no (λ e. let z : _≡_ {A = ℕ} 0 1 = cc in absurd (omega
 same? (x ∷ a) [] = no (λ e. let z : _≡_ {A = ℕ} 0 1 = cc in absurd (omega arith))
 same? (x ∷ a) (y ∷ b) =
     test-as (λ e. ap₂ (λ (z : ℕ) (l : List ℕ). z ∷ l) (e .0) (e .1)) (λ e. ((let z : x ≡ y = cc in z), (let z : a ≡ b = cc in z)))
-        (both (ℕ-discrete x y) (same? a b))
+    (both (ℕ-discrete x y) (same? a b))
 
 -- some number below n
 pub record Some (P : ℕ → Type 0) (n : ℕ) : Type 0 where

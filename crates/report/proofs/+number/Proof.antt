@@ -66,7 +66,7 @@ number-returns : (t : ℕ) → number-lts.Need-returns (
 number-returns t c =
     let start = c .before .before .before .before .before .before .before in
     same (ap (λ (k : ℕ). k ∷ []) (c .before .before .before .digit .ensures)
-        ∙ sym (decimal-one (start .args .n) (c .before .before .before .before .before .if1 .taken))) (omega arith)
+    ∙ sym (decimal-one (start .args .n) (c .before .before .before .before .before .if1 .taken))) (omega arith)
     (c .before .before .put .ensures)
 
 number-number-requires : (t : ℕ) → number-lts.Need-number-requires (
@@ -121,9 +121,9 @@ number-returns-2 t c =
     let start = c .before .before .before .before .before .before .before .before .before .before .before in
     let n = start .args .n in
     let e = ap (λ (k : ℕ). decimal (n / 10) ++ (k ∷ [])) (c .before .before .before .digit2 .ensures)
-        ∙ sym (decimal-more n (c .before .before .before .before .before .before .before .before .before .if1 .left) (search needs)) in
+    ∙ sym (decimal-more n (c .before .before .before .before .before .before .before .before .before .if1 .left) (search needs)) in
     fit e (omega (arith, decimal-length n))
-        (then (c .before .before .before .before .before .before .before .number .ensures) (c .before .before .put2 .ensures))
+    (then (c .before .before .before .before .before .before .before .number .ensures) (c .before .before .put2 .ensures))
 
 pub +number-spec : {M : Type 1} → statement M
 +number-spec = close μ-number λ t. number-lts.spec (

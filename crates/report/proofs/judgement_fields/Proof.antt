@@ -26,11 +26,11 @@ same-length c = search needs
 returns : tie.Need-returns
 returns c =
     let a = c .before .before .before .before .before .before .before .before .before .before .before .before .before .before .before .before .args .judgement
-        in
+    in
     same (ap (λ (k : ℕ). (32 ∷ steps (a .verdicts .own .weak)) ++ ((32 ∷ steps (a .verdicts .own .strong)) ++ (32 ∷ decimal k)))
-        (c .before .before .before .wide .ensures)) (omega arith)
+    (c .before .before .before .wide .ensures)) (omega arith)
     (then (c .before .before .before .before .before .before .before .before .before .before .before .verdict-field .ensures)
-        (then (c .before .before .before .before .before .before .before .verdict-field2 .ensures) (c .before .before .field .ensures)))
+    (then (c .before .before .before .before .before .before .before .verdict-field2 .ensures) (c .before .before .field .ensures)))
 
 pub judgement-fields-spec : {M : Type 1} → statement M
 judgement-fields-spec = tie.close (tie.spec verdict-field-requires verdict-field-requires-2 wide-requires field-requires same-length returns)

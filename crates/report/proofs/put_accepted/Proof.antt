@@ -34,11 +34,11 @@ returns c =
     let a = c .before .before .before .before .before .before .before .before .before .before .before .before .before .before .before .before .before .before .before .before .before .before .before .args in
     let j = a .judgement in
     same (ap (λ (k : ℕ). decimal (a .place)
-        ++ ((32 ∷ decimal k) ++ (((32 ∷ steps (j .verdicts .own .weak)) ++ ((32 ∷ steps (j .verdicts .own .strong)) ++ (32 ∷ decimal (j .size))))
-        ++ ((32 ∷ symbols (a .released .now)) ++ (10 ∷ [])))))
-        (c .before .before .before .before .before .before .before .before .before .before .before .before .before .before .before .wide .ensures)
+    ++ ((32 ∷ decimal k) ++ (((32 ∷ steps (j .verdicts .own .weak)) ++ ((32 ∷ steps (j .verdicts .own .strong)) ++ (32 ∷ decimal (j .size))))
+    ++ ((32 ∷ symbols (a .released .now)) ++ (10 ∷ [])))))
+    (c .before .before .before .before .before .before .before .before .before .before .before .before .before .before .before .wide .ensures)
     ∙ judgement-lined (decimal (a .place)) (decimal (a .symbol)) (steps (j .verdicts .own .weak)) (steps (j .verdicts .own .strong)) (decimal (j .size))
-        (symbols (a .released .now))) (omega arith)
+    (symbols (a .released .now))) (omega arith)
     (then (c .before .before .before .before .before .before .before .before .before .before .before .before .before .before .before .before .before .before .before .number .ensures) (then (c .before .before .before .before .before .before .before .before .before .before .before .before .before .before .field .ensures) (then (c .before .before .before .before .before .before .before .before .before .before .judgement-fields .ensures) (then (c .before .before .before .before .before .before .symbols-field .ensures) (c .before .before .put .ensures)))))
 
 pub put-accepted-spec : {M : Type 1} → statement M

@@ -31,11 +31,11 @@ returns : tie.Need-returns
 returns c =
     let a = c .before .before .before .before .before .before .before .before .before .before .before .before .before .before .before .before .before .before .args in
     same (ap (λ (k : ℕ). (33 ∷ []) ++ ((32 ∷ decimal k) ++ ((32 ∷ decimal (numberOf (a .refusal))) ++ (10 ∷ []))))
-        (c .before .before .before .before .before .before .before .before .before .before .before .wide .ensures)
+    (c .before .before .before .before .before .before .before .before .before .before .before .wide .ensures)
     ∙ lined (33 ∷ []) (decimal (a .byte) ∷ decimal (numberOf (a .refusal)) ∷ [])) (omega arith)
     (then (c .before .before .before .before .before .before .before .before .before .before .before .before .before .before .before .put .ensures)
-        (then (c .before .before .before .before .before .before .before .before .before .before .field .ensures)
-        (then (c .before .before .before .before .before .before .refusal-field .ensures) (c .before .before .put2 .ensures))))
+    (then (c .before .before .before .before .before .before .before .before .before .before .field .ensures)
+    (then (c .before .before .before .before .before .before .refusal-field .ensures) (c .before .before .put2 .ensures))))
 
 pub put-refused-spec : {M : Type 1} → statement M
 put-refused-spec =

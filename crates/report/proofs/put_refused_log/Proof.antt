@@ -27,7 +27,7 @@ returns c =
     let a = c .before .before .before .before .before .before .before .before .before .before .before .before .before .before .args in
     same (lined (114 ∷ 101 ∷ 102 ∷ 117 ∷ 115 ∷ 101 ∷ 100 ∷ []) (decimal (numberOf (a .refusal)) ∷ [])) (omega arith)
     (then (c .before .before .before .before .before .before .before .before .before .before .text .ensures)
-        (then (c .before .before .before .before .before .before .refusal-field .ensures) (c .before .before .put .ensures)))
+    (then (c .before .before .before .before .before .before .refusal-field .ensures) (c .before .before .put .ensures)))
 
 pub put-refused-log-spec : {M : Type 1} → statement M
 put-refused-log-spec =

@@ -31,9 +31,11 @@ loop-less c = omega arith
 
 loop-again : tie.Need-loop-again Inv-loop μ-loop
 loop-again c =
-    let at-loop = c .before .before .before .before .before .before in
-    (omega arith, same (take-one (at-loop .before .before .before .args .s .now) (at-loop .loop .i) (omega arith)) (omega arith)
-        (then (at-loop .loop .inv .1) (c .before .before .put .ensures)))
+    let at-loop = c .before .before .before .before .before .before in (
+      omega arith,
+      same (take-one (at-loop .before .before .before .args .s .now) (at-loop .loop .i) (omega arith)) (omega arith)
+          (then (at-loop .loop .inv .1) (c .before .before .put .ensures)),
+    )
 
 same-length : tie.Need-same-length Inv-loop μ-loop
 same-length c = search needs

@@ -38,7 +38,7 @@ returns-2 : tie.Need-returns-2
 returns-2 c =
     same (ap (λ (k : ℕ). 32 ∷ decimal k) (c .before .before .before .wide .ensures)
     ∙ sym (ap (λ (v : Verdict). 32 ∷ steps v) (c .before .before .before .before .before .before .verdict .given .1))) (omega arith)
-        (c .before .before .field .ensures)
+    (c .before .before .field .ensures)
 
 pub verdict-field-spec : {M : Type 1} → statement M
 verdict-field-spec =

@@ -67,7 +67,7 @@ returns-2 c =
     let called = c .before .before .before .before .before .before .before .before .before .before .before .before .«open» in
     let told = c .before .before .before .before .before .before .before .answer2 .given in
     let o = subst (λ (r : OpenAnswer). Opening (now (a .log)) (openOutcome r) (called .result .table) (called .result .header) (called .result .monitor))
-        (told .1)
+    (told .1)
     (called .ensures) in
     opened o (λ room. begins (now (a .log)) (now (a .out)) (told .0 .0) o room (c .before .before .follow .ensures))
 

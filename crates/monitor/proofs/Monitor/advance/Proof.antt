@@ -68,7 +68,7 @@ returns-2 c =
     let l = c .before .loop in
     along-end (value (a .table)) (a .header) (a .self) (value (a .events)) (value (a .out)) (a .at) (l .now) (l .next) (l .i) (l .out)
     (holds (c .before .before .before .well-formed .result) (not-false _ (c .before .before .if1 .left)) (c .before .before .before .well-formed .ensures))
-        (l .inv)
+    (l .inv)
     (inl (omega arith))
 
 same-length-2 : tie.Need-same-length-2 Inv-loop μ-loop

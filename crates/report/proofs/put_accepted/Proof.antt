@@ -31,15 +31,22 @@ same-length c = search needs
 
 returns : tie.Need-returns
 returns c =
-    let a = c .before .before .before .before .before .before .before .before .before .before .before .before .before .before .before .before .before .before .before .before .before .before .before .args in
+    let ended = c .before .before in
+    let released = ended .before .before .before .before in
+    let judged = released .before .before .before .before in
+    let symbol = judged .before .before .before .before in
+    let wide = symbol .before in
+    let place = wide .before .before .before .before in
+    let start = place .before .before .before .before in
+    let a = start .args in
     let j = a .judgement in
     same (ap (λ (k : ℕ). decimal (a .place)
     ++ ((32 ∷ decimal k) ++ (((32 ∷ steps (j .verdicts .own .weak)) ++ ((32 ∷ steps (j .verdicts .own .strong)) ++ (32 ∷ decimal (j .size))))
     ++ ((32 ∷ symbols (a .released .now)) ++ (10 ∷ [])))))
-    (c .before .before .before .before .before .before .before .before .before .before .before .before .before .before .before .wide .ensures)
+    (wide .wide .ensures)
     ∙ judgement-lined (decimal (a .place)) (decimal (a .symbol)) (steps (j .verdicts .own .weak)) (steps (j .verdicts .own .strong)) (decimal (j .size))
     (symbols (a .released .now))) (omega arith)
-    (then (c .before .before .before .before .before .before .before .before .before .before .before .before .before .before .before .before .before .before .before .number .ensures) (then (c .before .before .before .before .before .before .before .before .before .before .before .before .before .before .field .ensures) (then (c .before .before .before .before .before .before .before .before .before .before .judgement-fields .ensures) (then (c .before .before .before .before .before .before .symbols-field .ensures) (c .before .before .put .ensures)))))
+    (then (place .number .ensures) (then (symbol .field .ensures) (then (judged .judgement-fields .ensures) (then (released .symbols-field .ensures) (ended .put .ensures)))))
 
 pub put-accepted-spec : {M : Type 1} → statement M
 put-accepted-spec =

@@ -29,9 +29,15 @@ same-length c = search needs
 
 returns : tie.Need-returns
 returns c =
-    let a = c .before .before .before .before .before .before .before .before .before .before .before .before .before .before .before .before .before .before .before .before .before .before .args in
+    let ended = c .before .before in
+    let pending = ended .before .before .before .before in
+    let released = pending .before .before .before .before in
+    let accepted = released .before .before .before .before in
+    let word = accepted .before .before .before .before in
+    let start = word .before .before .before .before in
+    let a = start .args in
     same (lined (101 ∷ 110 ∷ 100 ∷ []) (decimal (a .accepted) ∷ decimal (a .released) ∷ decimal (a .pending) ∷ [])) (omega arith)
-    (then (c .before .before .before .before .before .before .before .before .before .before .before .before .before .before .before .before .before .before .text .ensures) (then (c .before .before .before .before .before .before .before .before .before .before .before .before .before .before .field .ensures) (then (c .before .before .before .before .before .before .before .before .before .before .field2 .ensures) (then (c .before .before .before .before .before .before .field3 .ensures) (c .before .before .put .ensures)))))
+    (then (word .text .ensures) (then (accepted .field .ensures) (then (released .field2 .ensures) (then (pending .field3 .ensures) (ended .put .ensures)))))
 
 pub put-end-spec : {M : Type 1} → statement M
 put-end-spec =

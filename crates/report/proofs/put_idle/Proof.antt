@@ -26,9 +26,15 @@ same-length c = search needs
 
 returns : tie.Need-returns
 returns c =
-    let a = c .before .before .before .before .before .before .before .before .before .before .before .before .before .before .before .before .before .before .before .before .before .args .opening in
+    let ended = c .before .before in
+    let none = ended .before .before .before .before in
+    let judged = none .before .before .before .before in
+    let no-symbol = judged .before .before .before .before in
+    let zero-place = no-symbol .before .before .before .before in
+    let start = zero-place .before .before .before in
+    let a = start .args .opening in
     same (judgement-lined (decimal 0) (45 ∷ []) (steps (a .verdicts .own .weak)) (steps (a .verdicts .own .strong)) (decimal (a .size)) (45 ∷ [])) (omega arith)
-    (then (c .before .before .before .before .before .before .before .before .before .before .before .before .before .before .before .before .before .before .number .ensures) (then (c .before .before .before .before .before .before .before .before .before .before .before .before .before .before .dash .ensures) (then (c .before .before .before .before .before .before .before .before .before .before .judgement-fields .ensures) (then (c .before .before .before .before .before .before .dash2 .ensures) (c .before .before .put .ensures)))))
+    (then (zero-place .number .ensures) (then (no-symbol .dash .ensures) (then (judged .judgement-fields .ensures) (then (none .dash2 .ensures) (ended .put .ensures)))))
 
 pub put-idle-spec : {M : Type 1} → statement M
 put-idle-spec =

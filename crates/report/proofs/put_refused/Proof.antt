@@ -29,13 +29,19 @@ same-length c = search needs
 
 returns : tie.Need-returns
 returns c =
-    let a = c .before .before .before .before .before .before .before .before .before .before .before .before .before .before .before .before .before .before .args in
+    let ended = c .before .before in
+    let number = ended .before .before .before .before in
+    let byte = number .before .before .before .before in
+    let wide = byte .before in
+    let mark = wide .before .before .before .before in
+    let start = mark .before .before .before in
+    let a = start .args in
     same (ap (λ (k : ℕ). (33 ∷ []) ++ ((32 ∷ decimal k) ++ ((32 ∷ decimal (numberOf (a .refusal))) ++ (10 ∷ []))))
-    (c .before .before .before .before .before .before .before .before .before .before .before .wide .ensures)
+    (wide .wide .ensures)
     ∙ lined (33 ∷ []) (decimal (a .byte) ∷ decimal (numberOf (a .refusal)) ∷ [])) (omega arith)
-    (then (c .before .before .before .before .before .before .before .before .before .before .before .before .before .before .before .put .ensures)
-    (then (c .before .before .before .before .before .before .before .before .before .before .field .ensures)
-    (then (c .before .before .before .before .before .before .refusal-field .ensures) (c .before .before .put2 .ensures))))
+    (then (mark .put .ensures)
+    (then (byte .field .ensures)
+    (then (number .refusal-field .ensures) (ended .put2 .ensures))))
 
 pub put-refused-spec : {M : Type 1} → statement M
 put-refused-spec =

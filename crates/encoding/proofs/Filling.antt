@@ -1,12 +1,12 @@
 -- Laws of the second pass: the table of the transitions so far, and of one more; and where the reader of it stands. Assumes nothing.
 use Prim.Native.Nat.{ℕ, _+_, _*_, _≤_, _<_}
-use mathlib.Core.Path.{_≡_, sym, subst, _∙_}
+use mathlib.Core.Path.{_≡_, sym, ap₂, subst, _∙_}
 use mathlib.Core.List.{List}
 use native.Mathlib.Omega.{arith}
 use native.Mathlib.Numerals.{add-one}
 use denote.Ref.{RefT, now}
 use lib.ListN.{length, replicate}
-use Rattle.bitfields.specs.Bits.{bitsOf, numberAt}
+use Rattle.bitfields.specs.Bits.{bitsOf}
 use Rattle.bitfields.specs.declared.Reader.{Reader}
 use Rattle.bitfields.proofs.Bits.{number-lt}
 use Rattle.encoding.specs.Transitions.{transitionAt, transitionsAt}
@@ -22,22 +22,20 @@ use Rattle.encoding.proofs.Carried.{moved}
 pub none-filled : (bits : List ℕ) (at : ℕ) → replicate 2048 0 ≡ tableOf (transitionsAt bits at 0)
 none-filled bits at = rw table-none
 
-pub more-filled : (bits : List ℕ) (at i : ℕ) (zs : List ℕ) (t : ListedTransition) → zs ≡ tableOf (transitionsAt bits at i) → t .from
-    ≡ numberAt bits (at + i * 17) 6 → t .event ≡ numberAt bits (at + i * 17 + 6) 5
-    → t .to ≡ numberAt bits (at + i * 17 + 6 + 5) 6 → {ws : List ℕ} → ws ≡ mark zs (record { from = t .from; event = t .event; to = t .to }) → ws
-    ≡ tableOf (transitionsAt bits at (i + 1))
-more-filled bits at i zs t z f e o {ws} w =
-    let same : mark zs (record { from = t .from; event = t .event; to = t .to }) ≡ mark (tableOf (transitionsAt bits at i)) (transitionAt bits (at + i * 17)) =
-    λ k. mark (z k) (record { from = f k; event = e k; to = o k }) in
-    w ∙ same ∙ rw (add-one i, table-more)
+pub more-filled : (bits : List ℕ) (at i : ℕ) (zs : List ℕ) (t : ListedTransition) → zs ≡ tableOf (transitionsAt bits at i)
+    → t ≡ transitionAt bits (at + i * 17) → {ws : List ℕ} → ws ≡ mark zs t → ws ≡ tableOf (transitionsAt bits at (i + 1))
+more-filled bits at i zs t z e {ws} w = w ∙ ap₂ mark z e ∙ rw (add-one i, table-more)
 
-pub place-small : (r : Reader) (t : ListedTransition) (bs : List ℕ) → r .position + 17 ≤ length (bitsOf bs)
-    → (t .from ≡ numberAt (bitsOf bs) (r .position) 6) × (t .event ≡ numberAt (bitsOf bs) (r .position + 6) 5)
-    × (t .to ≡ numberAt (bitsOf bs) (r .position + 6 + 5) 6)
+-- a transition from its numbers
+pub same-numbers : {f e t f′ e′ t′ : ℕ} → f ≡ f′ → e ≡ e′ → t ≡ t′
+    → _≡_ {A = ListedTransition} (record { from = f; event = e; to = t }) (record { from = f′; event = e′; to = t′ })
+same-numbers p q r = λ i. record { from = p i; event = q i; to = r i }
+
+-- the table has a place for it
+pub place-small : (r : Reader) (t : ListedTransition) (bs : List ℕ) → r .position + 17 ≤ length (bitsOf bs) → t ≡ transitionAt (bitsOf bs) (r .position)
     → (t .from < 64) × (t .event < 32) × (t .to < 64)
-place-small r
-    t bs l e = omega
-    (arith, e, number-lt bs (r .position) 6 (omega arith), number-lt bs (r .position + 6) 5 (omega arith), number-lt bs (r .position + 6 + 5) 6 (omega arith))
+place-small r t bs l e = subst (λ (x : ListedTransition). (x .from < 64) × (x .event < 32) × (x .to < 64)) (sym e)
+    (number-lt bs (r .position) 6 (omega arith), number-lt bs (r .position + 6) 5 (omega arith), number-lt bs (r .position + 6 + 5) 6 (omega arith))
 
 -- how far the reader of the second pass goes
 pub second-small : (f : Front) → FrontSmall f → (frontEnd f ≤ 128) × (symbolCount (f .fixed) ≤ 32) × (f .fixed .count ≤ 1023)

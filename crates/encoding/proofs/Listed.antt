@@ -12,7 +12,8 @@ use lib.Dec.{eqb}
 use lib.ListN.{length}
 use Rattle.bitfields.specs.Bits.{bitsOf, numberAt}
 use Rattle.bitfields.proofs.Bits.{number-lt, number-join}
-use Rattle.encoding.specs.Transitions.{Transition, sameTransition, listed, transitionAt, transitionsAt}
+use Rattle.encoding.specs.Transitions.{sameTransition, listed, transitionAt, transitionsAt}
+use Rattle.encoding.specs.declared.ListedTransition.{ListedTransition}
 
 pub unless-true : (b : Bool) → (b ≡ true → ⊥) → b ≡ false
 unless-true true n = absurd (n refl)
@@ -23,7 +24,7 @@ or-split true b h = inl refl
 or-split false b h = inr h
 
 -- the same transition has the same numbers
-pub same-equal : (t x : Transition) → sameTransition t x ≡ true → t ≡ x
+pub same-equal : (t x : ListedTransition) → sameTransition t x ≡ true → t ≡ x
 same-equal t x h = go (eqb (t .from) (x .from)) (eqb (t .event) (x .event)) (eqb (t .to) (x .to)) refl refl refl h
   where
     go : (a b c : Bool) → eqb (t .from) (x .from) ≡ a → eqb (t .event) (x .event) ≡ b → eqb (t .to) (x .to) ≡ c → a && (b && c) ≡ true → t ≡ x
@@ -36,33 +37,33 @@ same-equal t x h = go (eqb (t .from) (x .from)) (eqb (t .event) (x .event)) (eqb
     go true false c f g k h = absurd (false≢true h)
     go true true false f g k h = absurd (false≢true h)
 
-same-self : (t : Transition) → sameTransition t t ≡ true
+same-self : (t : ListedTransition) → sameTransition t t ≡ true
 same-self t = rw (eq-eqb (t .from) (t .from) refl, eq-eqb (t .event) (t .event) refl, eq-eqb (t .to) (t .to) refl)
 
-pub first-listed : (t : Transition) (ts : List Transition) → listed t (t ∷ ts) ≡ true
+pub first-listed : (t : ListedTransition) (ts : List ListedTransition) → listed t (t ∷ ts) ≡ true
 first-listed t ts = rw same-self
 
-pub later-listed : (t x : Transition) (ts : List Transition) → listed t ts ≡ true → listed t (x ∷ ts) ≡ true
+pub later-listed : (t x : ListedTransition) (ts : List ListedTransition) → listed t ts ≡ true → listed t (x ∷ ts) ≡ true
 later-listed t x ts h = rw (h, or-true)
 
 -- one transition more, at the end
-pub listed-snoc : (t : Transition) (xs : List Transition) (x : Transition) → listed t (xs ++ (x ∷ [])) ≡ listed t xs || sameTransition t x
+pub listed-snoc : (t : ListedTransition) (xs : List ListedTransition) (x : ListedTransition) → listed t (xs ++ (x ∷ [])) ≡ listed t xs || sameTransition t x
 listed-snoc t [] x = or-false (sameTransition t x)
 listed-snoc t (y ∷ ys) x = ap (λ (b : Bool). sameTransition t y || b) (listed-snoc t ys x)
     ∙ sym (or-assoc (sameTransition t y) (listed t ys) (sameTransition t x))
 
 -- and so among those that stand in bits
-pub listed-none : (t : Transition) (bits : List ℕ) (at : ℕ) → listed t (transitionsAt bits at 0) ≡ false
+pub listed-none : (t : ListedTransition) (bits : List ℕ) (at : ℕ) → listed t (transitionsAt bits at 0) ≡ false
 unfolding transitionsAt
 listed-none t bits at = refl
 
-pub listed-more : (t : Transition) (bits : List ℕ) (at n : ℕ)
+pub listed-more : (t : ListedTransition) (bits : List ℕ) (at n : ℕ)
     → listed t (transitionsAt bits at (suc n)) ≡ listed t (transitionsAt bits at n) || sameTransition t (transitionAt bits (at + n * 17))
 unfolding transitionsAt
 listed-more t bits at n = listed-snoc t (transitionsAt bits at n) (transitionAt bits (at + n * 17))
 
 -- what is listed stays so
-pub listed-stays : (t : Transition) (bits : List ℕ) (at i : ℕ) → sameTransition t (transitionAt bits (at + i * 17)) ≡ true
+pub listed-stays : (t : ListedTransition) (bits : List ℕ) (at i : ℕ) → sameTransition t (transitionAt bits (at + i * 17)) ≡ true
     → (n : ℕ) → i < n → listed t (transitionsAt bits at n) ≡ true
 listed-stays t bits at i s zero l = absurd (omega arith)
 listed-stays t bits at i s (suc n) l =
@@ -70,7 +71,7 @@ listed-stays t bits at i s (suc n) l =
     (eq-or-lt-of-le (le-of-suc-le-suc l))
 
 -- a transition's three fields as one number
-abbrev packed : Transition → ℕ
+abbrev packed : ListedTransition → ℕ
 packed t = t .from * 2048 + (t .event * 64 + t .to)
 
 read-packed : (bs : List ℕ) (at : ℕ) → at + 17 ≤ length (bitsOf bs) → numberAt (bitsOf bs) at 17 ≡ packed (transitionAt (bitsOf bs) at)

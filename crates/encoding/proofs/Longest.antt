@@ -12,7 +12,7 @@ use Rattle.bitfields.specs.Bits.{bitsOf, numberAt}
 use Rattle.bitfields.specs.Parser.{done, demand, field, flags}
 use Rattle.bitfields.proofs.Bits.{length-bits}
 use Rattle.bitfields.proofs.Parsing.{on-done, demand-done, same-done, field-in, flags-in}
-use Rattle.encoding.specs.Transitions.{Transition}
+use Rattle.encoding.specs.declared.ListedTransition.{ListedTransition}
 use Rattle.encoding.specs.Encoding.{Encoding, encoding, ending, fixed, front, symbols, symbolCount, Preamble, preamble, transition, transitions}
 use Rattle.encoding.specs.Answers.{FrontSmall, preambleEnd}
 use Rattle.encoding.specs.declared.Fixed.{Fixed}
@@ -72,7 +72,7 @@ preamble-ends bits {d} e =
       same-done r2 .1,
     )
 
-transition-ends : (s e : ℕ) (bits : List ℕ) (at : ℕ) {t : Transition} {next : ℕ} → transition s e bits at ≡ done t next → next ≡ at + 17
+transition-ends : (s e : ℕ) (bits : List ℕ) (at : ℕ) {t : ListedTransition} {next : ℕ} → transition s e bits at ≡ done t next → next ≡ at + 17
 unfolding transition
 transition-ends s e bits at h =
     on-done (field 6 bits at) _ h λ from n1 e1 r1.
@@ -92,7 +92,7 @@ transition-ends s e bits at h =
       same-done r6 .1,
     )
 
-transitions-end : (s e : ℕ) (bits : List ℕ) (at n : ℕ) {ts : List Transition} {next : ℕ} → transitions s e n bits at ≡ done ts next → next ≡ at + n * 17
+transitions-end : (s e : ℕ) (bits : List ℕ) (at n : ℕ) {ts : List ListedTransition} {next : ℕ} → transitions s e n bits at ≡ done ts next → next ≡ at + n * 17
 unfolding transitions
 transitions-end s e bits at zero r = omega (arith, same-done r .1)
 transitions-end s e bits at (suc n) r =

@@ -9,7 +9,8 @@ use Rattle.refusal.specs.declared.Refusal.{Refusal}
 use Rattle.refusal.specs.declared.Refusal.the-variants.{RepeatedTransition}
 use Rattle.bitfields.specs.Parser.{Parsed, done, refused, andThen, _>>=_, _>>_, give, demand}
 use Rattle.bitfields.proofs.Parsing.{on-refused}
-use Rattle.encoding.specs.Transitions.{Transition, listed}
+use Rattle.encoding.specs.Transitions.{listed}
+use Rattle.encoding.specs.declared.ListedTransition.{ListedTransition}
 use Rattle.encoding.specs.Encoding.{Encoding, encoding, ending, Preamble, preamble, transition, transitions}
 use Rattle.encoding.specs.Repeats.{Again, Repeats}
 use Rattle.encoding.proofs.Ended.{transitions-repeated, transitions-stop}
@@ -24,7 +25,8 @@ repeat-refused bits r =
     let x = transitions-repeated (f .topstate) (f .topevent) bits (r .start) (a .number) (a .earlier-read) (a .last-read) (a .repeat) in
     rw (r .preamble-read, transitions-stop (f .topstate) (f .topevent) bits (r .start) (a .number) x (f .count) (a .fewer))
 
-demanded : (b : Bool) (ts : List Transition) (bits : List ℕ) (at : ℕ) → _>>_ (demand (not b) RepeatedTransition) (give ts) bits at ≡ refused RepeatedTransition
+demanded : (b : Bool) (ts : List ListedTransition) (bits : List ℕ) (at : ℕ)
+    → _>>_ (demand (not b) RepeatedTransition) (give ts) bits at ≡ refused RepeatedTransition
     → b ≡ true
 demanded true ts bits at r = refl
 demanded false ts bits at r = let z : _≡_ {A = ℕ} 0 1 = cc in absurd (omega arith)
@@ -34,7 +36,7 @@ unfolding transitions
 transitions-again s e zero bits at r = let z : _≡_ {A = ℕ} 0 1 = cc in absurd (omega arith)
 transitions-again s e (suc n) bits at r = go (transitions s e n bits at) refl (transitions-again s e n bits at) r
   where
-    go : (p : Parsed (List Transition)) → transitions s e n bits at ≡ p → (transitions s e n bits at ≡ refused RepeatedTransition → Again s e n bits at)
+    go : (p : Parsed (List ListedTransition)) → transitions s e n bits at ≡ p → (transitions s e n bits at ≡ refused RepeatedTransition → Again s e n bits at)
         → andThen p (λ earlier next.
         _>>=_ (transition s e) (λ last. _>>_ (demand (not (listed last earlier)) RepeatedTransition) (give (earlier ++ (last ∷ [])))) bits next)
         ≡ refused RepeatedTransition
@@ -71,7 +73,7 @@ same-number : {A B : Type 0} {x : Refusal} → _≡_ {A = Parsed A} (refused x) 
 same-number {x = x} e = let same : x ≡ RepeatedTransition = cc in ap refused same
 
 behind : (bits : List ℕ) (f : Preamble) (start : ℕ) → preamble bits 0 ≡ done f start
-    → (p : Parsed (List Transition)) → transitions (f .front .fixed .topstate) (f .front .fixed .topevent) (f .front .fixed .count) bits start ≡ p
+    → (p : Parsed (List ListedTransition)) → transitions (f .front .fixed .topstate) (f .front .fixed .topevent) (f .front .fixed .count) bits start ≡ p
     → _≡_ {A = Parsed Encoding} (andThen p (λ ts next. _>>_ ending (give (record { front = f .front; symbols = f .symbols; transitions = ts })) bits next))
     (refused RepeatedTransition) → Repeats bits
 behind bits f start e1 (done ts p) is r = on-refused RepeatedTransition (ending bits p) _ (ending-never 12 refl bits p) r λ u next e2 r2.

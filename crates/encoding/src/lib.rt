@@ -58,11 +58,11 @@ pub struct Decoded {
     pub answer: Answer,
 }
 
-// The numbers of a transition.
-struct ListedTransition {
-    from: usize,
-    event: usize,
-    to: usize,
+// The numbers of a transition (01: move), as an encoding lists it.
+pub struct ListedTransition {
+    pub from: usize,
+    pub event: usize,
+    pub to: usize,
 }
 
 fn clear(table: &mut [u64])

@@ -9,8 +9,8 @@ use bitfields::Reader;
 ghost use mathlib.Core.Path.{_≡_};
 ghost use Prim.Native.Nat.{_+_, _*_, _≤_, _<_};
 ghost use lib.ListN.{length, replicate};
-ghost use Rattle.bitfields.specs.Bits.{bitsOf, numberAt};
-ghost use Rattle.encoding.specs.Transitions.{transitionsAt, symbolsAt};
+ghost use Rattle.bitfields.specs.Bits.{bitsOf};
+ghost use Rattle.encoding.specs.Transitions.{transitionAt, transitionsAt, symbolsAt};
 ghost use Rattle.encoding.specs.Encoding.{symbolCount};
 ghost use Rattle.encoding.specs.Table.{mark, tableOf};
 ghost use Rattle.encoding.specs.Answers.{frontEnd, preambleEnd, givenSymbols, symbolFor, headerSymbols, headerOf, FrontSmall};
@@ -71,7 +71,7 @@ fn read_header<'a>(reader: Reader<'a>, front: Front) -> Header
 }
 
 fn numbers(from: usize, event: usize, to: usize) -> ListedTransition
-    ensures { λ r. ⌜ (r .from ≡ from) × (r .event ≡ event) × (r .to ≡ to) ⌝ }
+    ensures { λ r. ⌜ r ≡ record { from = from; event = event; to = to } ⌝ }
 {
     ListedTransition { from, event, to }
 }
@@ -79,9 +79,7 @@ fn numbers(from: usize, event: usize, to: usize) -> ListedTransition
 // The transition at the reader's position: the reader goes from field to field.
 fn read_transition<'a>(reader: Reader<'a>) -> ListedTransition
     requires { ⌜ (reader .position ≤ 65536) × (reader .position + 17 ≤ length (bitsOf (now (reader .bytes)))) ⌝ }
-    ensures { λ r. ⌜ (r .from ≡ numberAt (bitsOf (now (reader .entry .bytes))) (reader .entry .position) 6)
-        × (r .event ≡ numberAt (bitsOf (now (reader .entry .bytes))) (reader .entry .position + 6) 5)
-        × (r .to ≡ numberAt (bitsOf (now (reader .entry .bytes))) (reader .entry .position + 6 + 5) 6) ⌝ }
+    ensures { λ r. ⌜ r ≡ transitionAt (bitsOf (now (reader .entry .bytes))) (reader .entry .position) ⌝ }
 {
     let from = bitfields::number_of(reader, 6);
     let reader = bitfields::past(reader, 6);
@@ -94,7 +92,7 @@ fn read_transition<'a>(reader: Reader<'a>) -> ListedTransition
 // Sets the bit of a transition.
 fn place(table: &mut [u64], read: ListedTransition)
     requires { ⌜ (length (now table) ≡ 2048) × (read .from < 64) × (read .event < 32) × (read .to < 64) ⌝ }
-    ensures { λ _. ⌜ now (table .exit) ≡ mark (now (table .entry)) (record { from = read .from; event = read .event; to = read .to }) ⌝ }
+    ensures { λ _. ⌜ now (table .exit) ≡ mark (now (table .entry)) read ⌝ }
 {
     let from = read.from;
     let event = read.event;

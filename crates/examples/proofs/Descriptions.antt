@@ -7,7 +7,8 @@ use lib.Dec.{T, eqb, eqb→eq}
 use lib.ListN.{getD}
 use Rattle.automaton.specs.declared.Header.{Header}
 use Rattle.bitfields.specs.Bits.{bitsOf}
-use Rattle.encoding.specs.Transitions.{Transition, sameTransition}
+use Rattle.encoding.specs.Transitions.{sameTransition}
+use Rattle.encoding.specs.declared.ListedTransition.{ListedTransition}
 use Rattle.encoding.specs.Encoding.{encoding}
 use Rattle.examples.specs.Meaning.{Contents, automaton, refusal, contentsOf}
 use Rattle.encoding.proofs.Listed.{same-equal}
@@ -30,18 +31,18 @@ same-header a b t =
     let symbols : a .symbols ≡ b .symbols = same-list (a .symbols) (b .symbols) (and-right (sameList x y) (sameList (a .symbols) (b .symbols)) t) in
     λ i. record { initial = place (numbers i) 0; k = place (numbers i) 1; secret = place (numbers i) 2; observable = place (numbers i) 3; symbols = symbols i }
 
-abbrev sameTransitions : List Transition → List Transition → Bool
+abbrev sameTransitions : List ListedTransition → List ListedTransition → Bool
 sameTransitions [] [] = true
 sameTransitions [] (y ∷ ys) = false
 sameTransitions (x ∷ xs) [] = false
 sameTransitions (x ∷ xs) (y ∷ ys) = sameTransition x y && sameTransitions xs ys
 
-same-transitions : (xs ys : List Transition) → T (sameTransitions xs ys) → xs ≡ ys
+same-transitions : (xs ys : List ListedTransition) → T (sameTransitions xs ys) → xs ≡ ys
 same-transitions [] [] t = refl
 same-transitions [] (y ∷ ys) t = absurd t
 same-transitions (x ∷ xs) [] t = absurd t
 same-transitions (x ∷ xs) (y ∷ ys) t =
-    ap₂ (λ (a : Transition) (rest : List Transition). a ∷ rest) (same-equal x y (is-true (and-left (sameTransition x y) (sameTransitions xs ys) t)))
+    ap₂ (λ (a : ListedTransition) (rest : List ListedTransition). a ∷ rest) (same-equal x y (is-true (and-left (sameTransition x y) (sameTransitions xs ys) t)))
     (same-transitions xs ys (and-right (sameTransition x y) (sameTransitions xs ys) t))
 
 abbrev sameContents : Contents → Contents → Bool

@@ -17,7 +17,7 @@ use Rattle.bitfields.specs.Bits.{bitsOf, byteBits, numberAt, numberFrom, setOf}
 use Rattle.bitfields.specs.Parser.{field, flags}
 use Rattle.encoding.specs.Encoding.{encoding, fixed, front, symbols, preamble, transition, transitions, ending}
 use Rattle.encoding.specs.Answers.{headerSymbols}
-use Rattle.encoding.specs.Transitions.{Transition}
+use Rattle.encoding.specs.declared.ListedTransition.{ListedTransition}
 use Rattle.opacity.specs.declared.Notion.{Notion}
 use Rattle.opacity.specs.declared.Notion.the-variants.{Weak, Strong}
 use Rattle.opacity.specs.declared.Secret.{Secret}
@@ -103,7 +103,7 @@ allowed? f =
 abbrev within? : (n : ℕ) → Check (SizeWithin n)
 within? n = map (λ f. record { some = f .0; most = f .1 }) (both (le? 1 n) (le? n 64))
 
-module _ (ts : List Transition) (h : Header) (range : T (every inRange ts)) where
+module _ (ts : List ListedTransition) (h : Header) (range : T (every inRange ts)) where
   abbrev told? : (notion : Notion) (trace : List ℕ) (v : Steps) → Check (For ts (λ t. Tells notion (automatonOf t h) (own h) trace v))
   told? notion trace v = tells? ts h range (own h) notion trace v
 
@@ -203,7 +203,7 @@ module _ (ts : List Transition) (h : Header) (range : T (every inRange ts)) wher
 
 abbrev about? : (e : Example) (q : Question) → Check (AboutHolds e q)
 about? e q =
-    let ts : List Transition = e .transitions in
+    let ts : List ListedTransition = e .transitions in
     let h : Header = e .header in
     then (by (every inRange ts) (λ range. range)) (λ range.
     map (λ f. record {

@@ -11,7 +11,7 @@ use Rattle.automaton.specs.Run.{Automaton, automatonOf, shows, Possible, Imposs
 use Rattle.automaton.specs.Reaching.{EstimateSize}
 use Rattle.automaton.specs.Notion.{SureAt, ClearFrom}
 use Rattle.automaton.specs.declared.Header.{Header}
-use Rattle.encoding.specs.Transitions.{Transition}
+use Rattle.encoding.specs.declared.ListedTransition.{ListedTransition}
 use Rattle.opacity.specs.declared.Notion.{Notion}
 use Rattle.opacity.specs.declared.Notion.the-variants.{Weak, Strong}
 use Rattle.opacity.specs.declared.Secret.{Secret}
@@ -35,10 +35,10 @@ pub excused : (p : Automaton) (secret : Secret) (first : List ℕ) (n : ℕ) →
 excused p secret first n c = record { run = c .run; compatible = c .compatible; outside = λ m near bad. c .outside m (omega arith) bad }
 
 -- for every table that holds the transitions. A check is computed from their list alone, so that one serves all tables
-abbrev pub For : List Transition → (List ℕ → Type 0) → Type 0
+abbrev pub For : List ListedTransition → (List ℕ → Type 0) → Type 0
 For ts A = (x : TableOf ts) → A (x .table)
 
-module _ (ts : List Transition) (h : Header) (range : T (every inRange ts)) where
+module _ (ts : List ListedTransition) (h : Header) (range : T (every inRange ts)) where
   abbrev M : TableOf ts → Automaton
   M x = automatonOf (x .table) h
 

@@ -6,7 +6,8 @@ use Prim.Native.Nat.{ℕ, zero, suc, _+_}
 use lib.Dec.{eqb}
 use lib.ListN.{length}
 use Rattle.automaton.specs.Run.{Step}
-use Rattle.encoding.specs.Transitions.{Transition, listed}
+use Rattle.encoding.specs.Transitions.{listed}
+use Rattle.encoding.specs.declared.ListedTransition.{ListedTransition}
 use Rattle.examples.proofs.Booleans.{every, any, implies, sameList}
 
 -- a state that was reached, whether a position before it was marked, and the run to it, last step first
@@ -43,9 +44,9 @@ module _ (view : ℕ → List ℕ) (mark : ℕ → ℕ → Bool) where
   abbrev pub showing : ℕ → ℕ → Bool
   showing a e = isOne a (view e)
 
-  module _ (ts : List Transition) where
+  module _ (ts : List ListedTransition) where
     -- where the transitions of the kept events lead from a node
-    abbrev nextBy : (ℕ → Bool) → ℕ → Node → List Transition → List Node
+    abbrev nextBy : (ℕ → Bool) → ℕ → Node → List ListedTransition → List Node
     nextBy keep c x [] = []
     nextBy keep c x (t ∷ rest) =
         cond (eqb (t .from) (x .state) && keep (t .event))
@@ -96,7 +97,7 @@ module _ (view : ℕ → List ℕ) (mark : ℕ → ℕ → Bool) where
     find b initial trace = pick b (length trace) (last 0 trace (first initial))
 
     -- each transition of a kept event from a node of the first list leads to one of the second
-    abbrev pub covered : (ℕ → Bool) → ℕ → List Node → Node → Transition → Bool
+    abbrev pub covered : (ℕ → Bool) → ℕ → List Node → Node → ListedTransition → Bool
     covered keep c S′ x t = implies (eqb (t .from) (x .state) && keep (t .event)) (any (isNode (t .to) (x .flag || mark c (x .state))) S′)
 
     abbrev pub passes : (ℕ → Bool) → ℕ → List Node → List Node → Bool

@@ -9,21 +9,22 @@ use lib.ListN.{length}
 use Rattle.automaton.specs.Run as run
 use Rattle.automaton.specs.Run.{Automaton, Step, Takes, shows, shown, Compatible}
 use Rattle.automaton.proofs.Runs.{shows-short}
-use Rattle.encoding.specs.Transitions.{Transition, sameTransition, listed}
+use Rattle.encoding.specs.Transitions.{sameTransition, listed}
+use Rattle.encoding.specs.declared.ListedTransition.{ListedTransition}
 use Rattle.examples.proofs.Booleans.{every, any, implied, meet, and-left, and-right, and-both, or-assoc, same-eq, eq-same, eq-eqb, sameList, same-list}
 use Rattle.examples.proofs.Search.{Node, isNode, isNil, isOne, flagOf, traceOf, silent, showing, covered, passes, other, ahead, first, after, none}
 use Rattle.examples.proofs.Search.{find, stepsListed, isRun, some}
 use Rattle.examples.proofs.Marks.{flag}
 
-abbrev pub triple : (from event to : ℕ) → Transition
+abbrev pub triple : (from event to : ℕ) → ListedTransition
 triple q e r = record { from = q; event = e; to = r }
 
 -- the automaton's transitions are the listed ones
-pub record Listing (p : Automaton) (ts : List Transition) : Type 0 where
+pub record Listing (p : Automaton) (ts : List ListedTransition) : Type 0 where
   pub taken : (q e r : ℕ) → T (listed (triple q e r) ts) → run.Transition (p .table) q e r
   pub named : (q e r : ℕ) → run.Transition (p .table) q e r → T (listed (triple q e r) ts)
 
-pub listed-any : (t : Transition) (ts : List Transition) → listed t ts ≡ any (sameTransition t) ts
+pub listed-any : (t : ListedTransition) (ts : List ListedTransition) → listed t ts ≡ any (sameTransition t) ts
 listed-any t [] = refl
 listed-any t (x ∷ xs) = ap (λ (b : Bool). sameTransition t x || b) (listed-any t xs)
 
@@ -31,7 +32,7 @@ node-is : (q : ℕ) (f : Bool) (x : Node) → T (isNode q f x) → (q ≡ x .sta
 node-is q f x t =
     (eqb→eq q (x .state) (and-left (eqb q (x .state)) (Bool·beq f (x .flag)) t), same-eq f (x .flag) (and-right (eqb q (x .state)) (Bool·beq f (x .flag)) t))
 
-pub transition-is : (q e r : ℕ) (x : Transition) → T (sameTransition (triple q e r) x) → (q ≡ x .from) × (e ≡ x .event) × (r ≡ x .to)
+pub transition-is : (q e r : ℕ) (x : ListedTransition) → T (sameTransition (triple q e r) x) → (q ≡ x .from) × (e ≡ x .event) × (r ≡ x .to)
 transition-is q e r x t =
     let rest = and-right (eqb q (x .from)) (eqb e (x .event) && eqb r (x .to)) t in (
       eqb→eq q (x .from) (and-left (eqb q (x .from)) (eqb e (x .event) && eqb r (x .to)) t),
@@ -49,7 +50,7 @@ pub record Flagged (p : Automaton) (mark : ℕ → ℕ → Bool) (b : Bool) (tra
 abbrev pub Unflagged : Automaton → (ℕ → ℕ → Bool) → Bool → List ℕ → Type 0
 Unflagged p mark b trace = (run : List Step) → Compatible p trace run → flag p mark run ≡ b → ⊥
 
-module _ (ts : List Transition) (p : Automaton) (d : Listing p ts) (mark : ℕ → ℕ → Bool) (b : Bool) where
+module _ (ts : List ListedTransition) (p : Automaton) (d : Listing p ts) (mark : ℕ → ℕ → Bool) (b : Bool) where
   abbrev W : ℕ → List ℕ
   W = shows p
 

@@ -6,7 +6,8 @@ use Prim.Native.Nat.{ℕ, _≤_, _<_}
 use lib.Dec.{T, ltb, ltb→lt}
 use Rattle.automaton.specs.Run.{automatonOf, SmallSymbols, WellFormed}
 use Rattle.automaton.specs.declared.Header.{Header}
-use Rattle.encoding.specs.Transitions.{Transition, sameTransition}
+use Rattle.encoding.specs.Transitions.{sameTransition}
+use Rattle.encoding.specs.declared.ListedTransition.{ListedTransition}
 use Rattle.encoding.specs.Table.{Holds, tableOf}
 use Rattle.encoding.proofs.Stored.{Small, holds-all}
 use Rattle.encoding.proofs.Listing.{Placed, listed-exactly}
@@ -15,10 +16,10 @@ use Rattle.examples.proofs.Booleans.{every, and-left, and-right, is-tru
 use Rattle.examples.proofs.SearchLaws.{triple, Listing, listed-any, transition-is}
 
 -- the numbers of a transition are those of states and events
-abbrev pub inRange : Transition → Bool
+abbrev pub inRange : ListedTransition → Bool
 inRange t = ltb (t .from) 64 && (ltb (t .event) 32 && ltb (t .to) 64)
 
-placed : (t : Transition) → T (inRange t) → Placed t
+placed : (t : ListedTransition) → T (inRange t) → Placed t
 placed t h =
     let rest = and-right (ltb (t .from) 64) (ltb (t .event) 32 && ltb (t .to) 64) h in
     record {
@@ -27,15 +28,15 @@ placed t h =
       to = ltb→lt (t .to) 64 (and-right (ltb (t .event) 32) (ltb (t .to) 64) rest);
     }
 
-small : (ts : List Transition) → T (every inRange ts) → Small ts
+small : (ts : List ListedTransition) → T (every inRange ts) → Small ts
 small [] all = tt
 small (t ∷ ts) all = (placed t (and-left (inRange t) (every inRange ts) all) .from, small ts (and-right (inRange t) (every inRange ts) all))
 
 -- some table holds them: the one that decoding makes
-pub some-table : (ts : List Transition) → T (every inRange ts) → TableOf ts
+pub some-table : (ts : List ListedTransition) → T (every inRange ts) → TableOf ts
 some-table ts all = record { table = tableOf ts; holds = holds-all ts (small ts all) }
 
-module _ (ts : List Transition) (table : List ℕ) (law : Holds ts table) where
+module _ (ts : List ListedTransition) (table : List ℕ) (law : Holds ts table) where
   pub sound : (h : Header) → h .k ≤ 15 → h .initial ≤ 63 → SmallSymbols (h .observable) (h .symbols) → WellFormed table h
   sound h back start small = record { words = law .size; back = back; start = start; symbols-small = small }
 

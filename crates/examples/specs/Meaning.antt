@@ -7,7 +7,7 @@ use lib.ListN.{length, take}
 use Rattle.automaton.specs.Run.{automatonOf, Possible, Observable, WellFormed}
 use Rattle.automaton.specs.Reaching.{EstimateSize}
 use Rattle.automaton.specs.declared.Header.{Header}
-use Rattle.encoding.specs.Transitions.{Transition}
+use Rattle.encoding.specs.declared.ListedTransition.{ListedTransition}
 use Rattle.encoding.specs.Table.{Holds}
 use Rattle.encoding.specs.Encoding.{Encoding, encoding}
 use Rattle.encoding.specs.Answers.{headerOf}
@@ -27,7 +27,7 @@ use Rattle.enforcer.specs.Offerings.{StartOutcome, started, not-started, OpensA
 
 -- an automaton: its transitions as they are listed, and its header
 pub record Example : Type 0 where
-  pub transitions : List Transition
+  pub transitions : List ListedTransition
   pub header : Header
 
 pub data Question : Type 0 where
@@ -134,7 +134,7 @@ pub data Row : Type 0 where
   description : (bytes : List ℕ) → Contents → Row
 
 -- a table that holds the transitions, by the law that decoding keeps
-pub record TableOf (ts : List Transition) : Type 0 where
+pub record TableOf (ts : List ListedTransition) : Type 0 where
   pub table : List ℕ
   pub holds : Holds ts table
 

@@ -3,7 +3,7 @@
 use mathlib.Core.List.{List, [], _∷_, _++_}
 use lib.ListN.{take, replicate}
 use Prim.Native.Nat.{ℕ, _+_, _^_}
-use Rattle.encoding.specs.Transitions.{Transition}
+use Rattle.encoding.specs.declared.ListedTransition.{ListedTransition}
 use Rattle.opacity.specs.declared.Notion.the-variants.{Weak, Strong}
 use Rattle.opacity.specs.declared.Further.{Further}
 use Rattle.opacity.specs.Verdicts.{Steps, none, leak}
@@ -13,7 +13,7 @@ use Rattle.enforcer.specs.Offerings.{started, not-started}
 use Rattle.examples.specs.Meaning.{Example, verdicts-of, answers-after, start-of, releases-of, verdicts-of-all, start-for-all, releases-for-all}
 use Rattle.examples.specs.Meaning.{automaton, refusal, Row, about, description, All}
 
-abbrev pub transition : (from event to : ℕ) → Transition
+abbrev pub transition : (from event to : ℕ) → ListedTransition
 transition from event to = record { from = from; event = event; to = to }
 
 -- 01's P, with any K. A set is written as a sum of powers: {1, 2} is 2 ^ 1 + 2 ^ 2. Without symbols each observable event has its own number, and the others 0

@@ -40,7 +40,9 @@ use denote.Triple.Walked.{says, needs, Stays, stay-none, walkOf, goes-none, Walk
 use denote.Exit.{yes}
 use denote.Triple.Clauses.{ensured, lasts}
 use Rattle.bitfields.specs.Bits.{bitsOf, numberAt, Inside}
+use Rattle.encoding.specs.Transitions.{transitionAt}
 use Rattle.encoding.proofs.Carried.{number-at, inside-at}
+use Rattle.encoding.proofs.Filling.{same-numbers}
 use Rattle.bitfields.specs.declared.Reader.{Reader}
 use Rattle.bitfields.proofs.Reader as T
 use Rattle.bitfields.proofs.Reader.Laws as T′
@@ -146,12 +148,11 @@ module _ {M : Type 1} (𝓤 : URA M) (H : Heap 𝓤) (A : Atoms 𝓤) (W : Given
       ! $ frame ! $ done !
 
   said-numbers : (x0 : ℕ) (x1 : ℕ) (x2 : ℕ) (r : ListedTransition) → ent 𝓤
-      (ensured 𝓤 H A numbers.ended (numbers.clauses 𝓤 H A mem run) tt (x0, (x1, (x2, tt))) tt r) (fact 𝓤 ((r .from ≡ x0) × (r .event ≡ x1) × (r .to ≡ x2)))
+      (ensured 𝓤 H A numbers.ended (numbers.clauses 𝓤 H A mem run) tt (x0, (x1, (x2, tt))) tt r) (fact 𝓤 (r ≡ record { from = x0; event = x1; to = x2 }))
   said-numbers x0
-      x1 x2 r = exE 𝓤 _ (λ ws. snd∗ 𝓤 (sem 𝓤 H A (lasts numbers.ended tt (x0, (x1, (x2, tt))) ws)) (fact 𝓤 ((r .from ≡ x0) × (r .event ≡ x1) × (r .to ≡ x2))))
+      x1 x2 r = exE 𝓤 _ (λ ws. snd∗ 𝓤 (sem 𝓤 H A (lasts numbers.ended tt (x0, (x1, (x2, tt))) ws)) (fact 𝓤 (r ≡ record { from = x0; event = x1; to = x2 })))
 
-  exits : (t : ListedTransition) (u : Val) → ((t .from ≡ numberAt (bitsOf (now (d .bytes))) (d .position) 6)
-      × (t .event ≡ numberAt (bitsOf (now (d .bytes))) (d .position + 6) 5) × (t .to ≡ numberAt (bitsOf (now (d .bytes))) (d .position + 6 + 5) 6))
+  exits : (t : ListedTransition) (u : Val) → (t ≡ transitionAt (bitsOf (now (d .bytes))) (d .position))
       → ent 𝓤 (⋆ 𝓤 H A (‵ (ListedTransitionᵗ.the-row .own t (u ∷ [])) ∷ (‵ (flft κ q) ⊛ ‵ ftrue) ∷ ‵ Own ∷ [])) (Post u)
   exits t u e = qed W (‵ (ListedTransitionᵗ.the-row .own t (u ∷ [])) ∷ (‵ (flft κ q) ⊛ ‵ ftrue) ∷ ‵ Own ∷ []) ∵
       suffices ! _ (ends-at 𝓤 H A read-transition.ended stayed (read-transition.clauses 𝓤 H A mem run) W (((κ, tt), (q, tt), tt, (d, tt), at), tt) u t (tt, tt)
@@ -250,8 +251,8 @@ module _ {M : Type 1} (𝓤 : URA M) (H : Heap 𝓤) (A : Atoms 𝓤) (W : Given
         use1 W (later
         (some (λ (r : ListedTransition). (‵ ftrue ⊛ ‵ (ListedTransitionᵗ.the-row .own r (u6 ∷ []))) ⊛ raw
         (ensured 𝓤 H A numbers.ended (numbers.clauses 𝓤 H A mem run) tt (t1, (t3, (t5, tt))) tt r)))) (id⊢ 𝓤 _) $ await ! tt $ pick ! (λ t6.
-        split ! $ move ! (1 ∷ []) $ use1 W (raw (fact 𝓤 ((t6 .from ≡ t1) × (t6 .event ≡ t3) × (t6 .to ≡ t5)))) (said-numbers t1 t3 t5 t6) $
-        heard ! ((t6 .from ≡ t1) × (t6 .event ≡ t3) × (t6 .to ≡ t5)) (λ e6. split ! $ drop ! $
+        split ! $ move ! (1 ∷ []) $ use1 W (raw (fact 𝓤 (t6 ≡ record { from = t1; event = t3; to = t5 }))) (said-numbers t1 t3 t5 t6) $
+        heard ! (t6 ≡ record { from = t1; event = t3; to = t5 }) (λ e6. split ! $ drop ! $
         peeks ! ListedTransitionᵗ.the-row (Is ListedTransitionᵗ.the-row) (shows 𝓤 H A ListedTransitionᵗ.the-row) t6 (u6 ∷ []) (λ is6.
         land ! (from ! (stop !)) (init ! 27 refl (LL.lawful ListedTransitionᵗ.the-type ListedTransitionˡ.the-laws 𝓤 H A W .typed t6 _ is6 .0)) $
         returns ! (look ! 27 refl) $ forget ! 5 refl $ forget ! 7 refl $ forget ! 9 refl $ forget ! 11 refl $ forget ! 13 refl $ forget ! 15 refl $
@@ -262,12 +263,8 @@ module _ {M : Type 1} (𝓤 : URA M) (H : Heap 𝓤) (A : Atoms 𝓤) (W : Given
         keep ! (0 ∷ 1
         ∷ 4 ∷ []) $ by
         ! (exits t6 u6
-        ((
-          e6 .0 ∙ e1,
-          e6 .1 ∙ number-at t2 5 (d .bytes) (d .position + 6) (e2 .0) (e2 .1) e3,
-          e6 .2 ∙ number-at t4 6 (d .bytes) (d .position + 6 + 5)
-              (e4 .0 ∙ e2 .0) (omega (arith, e2 .1, e4 .1)) e5,
-        )))))))))))))))))))))))))))))))))))))))
+        (e6 ∙ same-numbers e1 (number-at t2 5 (d .bytes) (d .position + 6) (e2 .0) (e2 .1) e3)
+        (number-at t4 6 (d .bytes) (d .position + 6 + 5) (e4 .0 ∙ e2 .0) (omega (arith, e2 .1, e4 .1)) e5)))))))))))))))))))))))))))))))))))))))
 
 module _ {M : Type 1} (𝓤 : URA M) (H : Heap 𝓤) (A : Atoms 𝓤) (W : Given 𝓤 H A) (mem : Memory → SProp 𝓤) (run : Routine → Fun 𝓤) where
   walks : (C : Calls 𝓤 H) (Λ : Loops 𝓤 H) → FmC 𝓤 H (W .laws) C → Triple 𝓤 (C #number-of) (NumberOf 𝓤 H A mem run) → Triple 𝓤 (C #past) (Past 𝓤 H A mem run)

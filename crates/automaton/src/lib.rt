@@ -1,4 +1,4 @@
-// Automata: the header and the lent table, whether the two are sound, the events of each symbol, and the sets of states that runs reach by events.
+// Automata: the header and the lent table, whether the two are well-formed, the events of each symbol, and the sets of states that runs reach by events.
 use relation::StateSets;
 ghost use mathlib.Core.Path.{_≡_};
 ghost use mathlib.Core.List.{List, [], _∷_, _++_};

@@ -1,24 +1,30 @@
 -- The mission's first point: each row of an entry's contract gives its refusal on its condition, and the others' conditions fail there. Assumes nothing.
 use mathlib.Core.Path.{_≡_, refl, ap, subst, sym, _∙_}
+use mathlib.Core.List.{List}
 use mathlib.Core.Logic.{inl, inr}
 use Prim.Native.Nat.{ℕ}
 use native.Mathlib.Omega.{arith}
 use Rattle.refusal.specs.Refusals.{numberOf}
 use Rattle.refusal.specs.declared.Refusal.{Refusal}
+use Rattle.refusal.specs.declared.Refusal.the-variants as refusal
+use Rattle.bitfields.specs.Bits.{bitsOf}
 use Rattle.bitfields.specs.Parser as parser
 use Rattle.bitfields.specs.Parser.{Parsed}
-use Rattle.encoding.specs.Encoding.{Encoding}
-use Rattle.encoding.specs.Table.{Holds}
-use Rattle.encoding.specs.Answers.{headerOf}
+use Rattle.bitfields.proofs.Parsing.{Never}
+use Rattle.encoding.proofs.Refusing.{encoding-never}
+use Rattle.encoding.specs.Encoding.{Encoding, encoding}
 use Rattle.encoding.specs.Decoding.{Outcome, accept, refuse, Decoding}
 use Rattle.opacity.proofs.Numbering.{allowed-not-large}
 use Rattle.verifier.specs.Replies as verifier
-use Rattle.verifier.specs.Replies.{Findings, Opening, Accepting}
+use Rattle.verifier.specs.Replies.{Findings, FindingsBy, Opening, Accepting, AcceptingBy}
 use Rattle.enforcer.specs.declared.Release.{Release}
 use Rattle.enforcer.specs.Offerings as offering
 use Rattle.enforcer.specs.Offerings.{Starting, Offering}
 use Rattle.enforcer.proofs.Starts.{never-opens}
-use Rattle.guarantees.specs.FirstPoint.{EveryDecode, EveryFresh, EveryAccept, EveryStart, EveryOffer}
+use Rattle.monitor.specs.Advancing as advancing
+use Rattle.monitor.specs.declared.Advance.{Advance}
+use Rattle.guarantees.specs.WholeLog.{EveryAdvance}
+use Rattle.guarantees.specs.FirstPoint.{EveryDecode, EveryFresh, AcceptedWithin, EveryAccept, EveryAcceptBy, EveryStart, ReleasedWithin, EveryOffer}
 
 -- refusals with one number, and a refusal is no accepting answer
 same-verifier : {m n : ℕ} → verifier.refused m ≡ verifier.refused n → m ≡ n
@@ -34,6 +40,13 @@ not-verifier e = subst Accepts e tt
     Accepts : verifier.Said → Type 0
     Accepts (verifier.refused n) = ⊥
     Accepts (verifier.verdicts j) = Unit {0}
+
+one-findings : {j k : Findings} → verifier.verdicts j ≡ verifier.verdicts k → j ≡ k
+one-findings {j} e = ap pick e
+  where
+    pick : verifier.Said → Findings
+    pick (verifier.refused n) = j
+    pick (verifier.verdicts k) = k
 
 same-start : {m n : ℕ} → offering.not-started m ≡ offering.not-started n → m ≡ n
 same-start e = ap number e
@@ -63,20 +76,20 @@ not-offer e = subst Accepts e tt
     Accepts (offering.refused n) = ⊥
     Accepts (offering.released r) = Unit {0}
 
--- what a parser answers: one refusal, or one value
+one-release : {r s : Release} → offering.released r ≡ offering.released s → r ≡ s
+one-release {r} e = ap pick e
+  where
+    pick : offering.OfferOutcome → Release
+    pick (offering.refused n) = r
+    pick (offering.released s) = s
+
+-- what a parser answers: one refusal, and never a value too
 one-refusal : {A : Type 0} {r s : Refusal} → _≡_ {A = Parsed A} (parser.refused r) (parser.refused s) → r ≡ s
 one-refusal {A} {r} e = ap pick e
   where
     pick : Parsed A → Refusal
     pick (parser.refused x) = x
     pick (parser.done a next) = r
-
-one-value : {A : Type 0} {a b : A} {m n : ℕ} → _≡_ {A = Parsed A} (parser.done a m) (parser.done b n) → a ≡ b
-one-value {A} {a} e = ap pick e
-  where
-    pick : Parsed A → A
-    pick (parser.refused x) = a
-    pick (parser.done y next) = y
 
 never-both : {A : Type 0} {r : Refusal} {a : A} {n : ℕ} → _≡_ {A = Parsed A} (parser.refused r) (parser.done a n) → ⊥
 never-both {A} e = subst Refuses e tt
@@ -92,25 +105,58 @@ not-decode e = subst Accepts e tt
     Accepts accept = Unit {0}
     Accepts (refuse n) = ⊥
 
+one-number : {m n : ℕ} → refuse m ≡ refuse n → m ≡ n
+one-number e = ap number e
+  where
+    number : Outcome → ℕ
+    number accept = 0
+    number (refuse n) = n
+
+-- the layout refuses by 1, 3, 4, 5 and 12 alone
+by-five : (bytes : List ℕ) (r : Refusal) → encoding (bitsOf bytes) 0 ≡ parser.refused r
+    → (numberOf r ≡ 9) ⊎ ((numberOf r ≡ 1) ⊎ ((numberOf r ≡ 3) ⊎ ((numberOf r ≡ 4) ⊎ ((numberOf r ≡ 5) ⊎ (numberOf r ≡ 12)))))
+by-five bytes refusal.Truncated e = inr (inl refl)
+by-five bytes refusal.StateOutOfRange e = inr (inr (inl refl))
+by-five bytes refusal.EventOutOfRange e = inr (inr (inr (inl refl)))
+by-five bytes refusal.TrailingData e = inr (inr (inr (inr (inl refl))))
+by-five bytes refusal.RepeatedTransition e = inr (inr (inr (inr (inr refl))))
+by-five bytes refusal.NotObservable e = absurd (subst (λ (p : Parsed Encoding). Never 6 p) e (encoding-never 6 refl (bitsOf bytes) (λ x. omega arith) 0) refl)
+by-five bytes refusal.Incompatible e = absurd (subst (λ (p : Parsed Encoding). Never 7 p) e (encoding-never 7 refl (bitsOf bytes) (λ x. omega arith) 0) refl)
+by-five bytes refusal.InitialLeak e = absurd (subst (λ (p : Parsed Encoding). Never 8 p) e (encoding-never 8 refl (bitsOf bytes) (λ x. omega arith) 0) refl)
+by-five bytes refusal.Malformed e = inl refl
+by-five bytes refusal.OutputTooSmall e = absurd (subst (λ (p : Parsed Encoding). Never 10 p) e (encoding-never 10 refl (bitsOf bytes) (λ x. omega arith) 0) refl)
+by-five bytes refusal.TooManySecrets e = absurd (subst (λ (p : Parsed Encoding). Never 13 p) e (encoding-never 13 refl (bitsOf bytes) (λ x. omega arith) 0) refl)
+by-five bytes refusal.LookBackTooLarge e = absurd (subst (λ (p : Parsed Encoding). Never 14 p) e (encoding-never 14 refl (bitsOf bytes) (λ x. omega arith) 0) refl)
+
+not-nine : (bytes : List ℕ) (r : Refusal) → encoding (bitsOf bytes) 0 ≡ parser.refused r → numberOf r ≡ 9 → ⊥
+not-nine bytes r e = subst (λ (p : Parsed Encoding). Never 9 p) e (encoding-never 9 refl (bitsOf bytes) (λ x. omega arith) 0)
+
 pub decode-answers : EveryDecode
 decode-answers bytes table h answer after (Decoding.malformed bad) = record {
-  malformed = λ x. refl;
+  malformed = (λ e. bad, λ x. refl);
   by-layout = λ size. absurd (bad size);
-  accepted = λ size. absurd (bad size);
+  accepted = (λ e. absurd (not-decode (sym e)), λ x. absurd (bad (x .0)));
+  no-other = λ n e. inl (sym (one-number e));
   unchanged = λ n e. (refl, refl);
 }
 decode-answers bytes table h answer after (Decoding.refused size r is) = record {
-  malformed = λ bad. absurd (bad size);
-  by-layout = λ x s e. ap (λ (y : Refusal). refuse (numberOf y)) (one-refusal (sym is ∙ e));
-  accepted = λ x v next e. absurd (never-both (sym is ∙ e));
+  malformed = (λ e. absurd (not-nine bytes r is (one-number e)), λ bad. absurd (bad size));
+  by-layout = λ x n. (
+    λ e. record { refusal = r; number-is = one-number e; refuses = is },
+    λ y. ap refuse (ap numberOf (one-refusal (sym is ∙ y .refuses)) ∙ y .number-is),
+  );
+  accepted = (λ e. absurd (not-decode (sym e)), λ x. absurd (never-both (sym is ∙ x .1 .accepts)));
+  no-other = λ n e. subst Number (one-number e) (by-five bytes r is);
   unchanged = λ n e. (refl, refl);
 }
+  where
+    Number : ℕ → Type 0
+    Number n = (n ≡ 9) ⊎ ((n ≡ 1) ⊎ ((n ≡ 3) ⊎ ((n ≡ 4) ⊎ ((n ≡ 5) ⊎ (n ≡ 12)))))
 decode-answers bytes table h answer after (Decoding.accepted size v next is left holds) = record {
-  malformed = λ bad. absurd (bad size);
-  by-layout = λ x s e. absurd (never-both (sym e ∙ is));
-  accepted = λ x w to e.
-      let same = one-value (sym is ∙ e) in
-      (refl, ap (λ (y : Encoding). headerOf (y .front) (y .symbols)) same, subst (λ (y : Encoding). Holds (y .transitions) left) same holds);
+  malformed = (λ e. absurd (not-decode e), λ bad. absurd (bad size));
+  by-layout = λ x n. (λ e. absurd (not-decode e), λ y. absurd (never-both (sym (y .refuses) ∙ is)));
+  accepted = (λ e. (size, record { content = v; next = next; accepts = is; header-is = refl; holds = holds }), λ x. refl);
+  no-other = λ n e. absurd (not-decode e);
   unchanged = λ n e. absurd (not-decode e);
 }
 
@@ -151,6 +197,7 @@ accept-answers t h self symbol says after (Accepting.malformed bad) = record {
   incompatible = λ trace g. (λ e. absurd (omega (arith, same-verifier e)), λ x. absurd (bad (x .0, x .1)));
   no-other = λ n e. inl (sym (same-verifier e));
   unchanged = λ n e. refl;
+  accepted = λ j e. absurd (not-verifier (sym e));
 }
 accept-answers t h self symbol says after (Accepting.not-observable so li never) = record {
   malformed = (λ e. absurd (omega (arith, same-verifier e)), λ x. absurd (x (so, li)));
@@ -158,6 +205,7 @@ accept-answers t h self symbol says after (Accepting.not-observable so li never)
   incompatible = λ trace g. (λ e. absurd (omega (arith, same-verifier e)), λ x. absurd (never (x .2)));
   no-other = λ n e. inr (inl (sym (same-verifier e)));
   unchanged = λ n e. refl;
+  accepted = λ j e. absurd (not-verifier (sym e));
 }
 accept-answers t h self symbol says after (Accepting.incompatible so li ob nobody) = record {
   malformed = (λ e. absurd (omega (arith, same-verifier e)), λ x. absurd (x (so, li)));
@@ -165,6 +213,7 @@ accept-answers t h self symbol says after (Accepting.incompatible so li ob nobod
   incompatible = λ trace g. (λ e. (so, li, ob, nobody trace g), λ x. refl);
   no-other = λ n e. inr (inr (sym (same-verifier e)));
   unchanged = λ n e. refl;
+  accepted = λ j e. absurd (not-verifier (sym e));
 }
 accept-answers t h self symbol says after (Accepting.accepted so li ob same limits many bounded within exact) = record {
   malformed = (λ e. absurd (not-verifier e), λ x. absurd (x (so, li)));
@@ -172,6 +221,44 @@ accept-answers t h self symbol says after (Accepting.accepted so li ob same limi
   incompatible = λ trace g. (λ e. absurd (not-verifier e), λ x. let p = exact trace g .possible in absurd (x .3 (p .run) (p .compatible)));
   no-other = λ n e. absurd (not-verifier e);
   unchanged = λ n e. absurd (not-verifier e);
+  accepted = λ j e.
+      subst (λ (k : Findings). AcceptedWithin h self k after) (one-findings e)
+      (record { same = same; limits = limits; as-many = many; bounded = bounded; size = within });
+}
+
+same-by : {m n : ℕ} → verifier.refused-by m ≡ verifier.refused-by n → m ≡ n
+same-by e = ap number e
+  where
+    number : verifier.SaidBy → ℕ
+    number (verifier.refused-by n) = n
+    number (verifier.verdicts-by j) = 0
+
+not-by : {j : FindingsBy} {n : ℕ} → verifier.verdicts-by j ≡ verifier.refused-by n → ⊥
+not-by e = subst Accepts e tt
+  where
+    Accepts : verifier.SaidBy → Type 0
+    Accepts (verifier.refused-by n) = ⊥
+    Accepts (verifier.verdicts-by j) = Unit {0}
+
+pub accept-by-answers : EveryAcceptBy
+accept-by-answers notion t h self symbol says after (AcceptingBy.turned-back {n = n} x) =
+    let a = accept-answers t h self symbol (verifier.refused n) after x in
+    record {
+      malformed = (λ e. a .malformed .0 (ap verifier.refused (same-by e)), λ y. ap verifier.refused-by (same-verifier (a .malformed .1 y)));
+      not-observable = (λ e. a .not-observable .0 (ap verifier.refused (same-by e)), λ y. ap verifier.refused-by (same-verifier (a .not-observable .1 y)));
+      incompatible = λ trace g. (
+        λ e. a .incompatible trace g .0 (ap verifier.refused (same-by e)),
+        λ y. ap verifier.refused-by (same-verifier (a .incompatible trace g .1 y)),
+      );
+      no-other = λ m e. a .no-other m (ap verifier.refused (same-by e));
+      unchanged = λ m e. a .unchanged n refl;
+    }
+accept-by-answers notion t h self symbol says after (AcceptingBy.accepted-by m many each) = record {
+  malformed = (λ e. absurd (not-by e), λ y. absurd (y (m .sound, m .limits)));
+  not-observable = (λ e. absurd (not-by e), λ y. absurd (y .2 (m .observable)));
+  incompatible = λ trace g. (λ e. absurd (not-by e), λ y. let p = m .grown trace g .possible in absurd (y .3 (p .run) (p .compatible)));
+  no-other = λ n e. absurd (not-by e);
+  unchanged = λ n e. absurd (not-by e);
 }
 
 pub start-answers : EveryStart
@@ -224,6 +311,7 @@ offer-answers t h self byte output says after left (Offering.malformed bad) = re
   incompatible = λ notion trace g. (λ e. absurd (omega (arith, same-offer e)), λ x. absurd (bad (x .0, x .1)));
   no-other = λ n e. inl (sym (same-offer e));
   unchanged = λ n e. (refl, refl);
+  accepted = λ r e. absurd (not-offer (sym e));
 }
 offer-answers t h self byte output says after left (Offering.output-too-small so li few) = record {
   malformed = (λ e. absurd (omega (arith, same-offer e)), λ x. absurd (x (so, li)));
@@ -232,6 +320,7 @@ offer-answers t h self byte output says after left (Offering.output-too-small so
   incompatible = λ notion trace g. (λ e. absurd (omega (arith, same-offer e)), λ x. absurd (omega (arith, x .2, few)));
   no-other = λ n e. inr (inl (sym (same-offer e)));
   unchanged = λ n e. (refl, refl);
+  accepted = λ r e. absurd (not-offer (sym e));
 }
 offer-answers t h self byte output says after left (Offering.not-observable so li wide never) = record {
   malformed = (λ e. absurd (omega (arith, same-offer e)), λ x. absurd (x (so, li)));
@@ -240,6 +329,7 @@ offer-answers t h self byte output says after left (Offering.not-observable so l
   incompatible = λ notion trace g. (λ e. absurd (omega (arith, same-offer e)), λ x. absurd (never (x .3)));
   no-other = λ n e. inr (inr (inl (sym (same-offer e))));
   unchanged = λ n e. (refl, refl);
+  accepted = λ r e. absurd (not-offer (sym e));
 }
 offer-answers t h self byte output says after left (Offering.incompatible so li wide ob nobody) = record {
   malformed = (λ e. absurd (omega (arith, same-offer e)), λ x. absurd (x (so, li)));
@@ -248,6 +338,7 @@ offer-answers t h self byte output says after left (Offering.incompatible so li 
   incompatible = λ notion trace g. (λ e. (so, li, wide, ob, nobody notion trace g), λ x. refl);
   no-other = λ n e. inr (inr (inr (sym (same-offer e))));
   unchanged = λ n e. (refl, refl);
+  accepted = λ r e. absurd (not-offer (sym e));
 }
 offer-answers t h self byte output says after left (Offering.accepted so li wide ob same limits balance front rest within exact) = record {
   malformed = (λ e. absurd (not-offer e), λ x. absurd (x (so, li)));
@@ -256,4 +347,33 @@ offer-answers t h self byte output says after left (Offering.accepted so li wide
   incompatible = λ notion trace g. (λ e. absurd (not-offer e), λ x. let p = exact notion trace g .possible in absurd (x .4 (p .run) (p .compatible)));
   no-other = λ n e. absurd (not-offer e);
   unchanged = λ n e. absurd (not-offer e);
+  accepted = λ r e.
+      subst (λ (s : Release). ReleasedWithin h self byte output s after left) (one-release e)
+      (record { same = same; limits = limits; balance = balance; front = front; rest = rest; size = within });
+}
+
+same-advance : {m n : ℕ} → advancing.refused m ≡ advancing.refused n → m ≡ n
+same-advance e = ap number e
+  where
+    number : advancing.AdvanceOutcome → ℕ
+    number (advancing.refused n) = n
+    number (advancing.taken a) = 0
+
+not-advance : {a : Advance} {n : ℕ} → advancing.taken a ≡ advancing.refused n → ⊥
+not-advance e = subst Takes e tt
+  where
+    Takes : advancing.AdvanceOutcome → Type 0
+    Takes (advancing.refused n) = ⊥
+    Takes (advancing.taken a) = Unit {0}
+
+pub advance-answers : EveryAdvance
+advance-answers t h m events out at says after left (advancing.Advancing.malformed bad) = record {
+  malformed = (λ e. bad, λ x. refl);
+  no-other = λ n e. sym (same-advance e);
+  unchanged = λ n e. (refl, refl);
+}
+advance-answers t h m events out at says after left (advancing.Advancing.advanced w few lines then inside most stop) = record {
+  malformed = (λ e. absurd (not-advance e), λ x. absurd (x w));
+  no-other = λ n e. absurd (not-advance e);
+  unchanged = λ n e. absurd (not-advance e);
 }

@@ -1,3 +1,4 @@
--- Answers: the first point, from the contracts. Shown: every guarantee, by its proof.
+-- Answers: the first point, from the contracts. Frames: that of the functions on bytes. Shown: every guarantee, by its proof.
 pub mod Answers
+pub mod Frames
 pub mod Shown

@@ -15,13 +15,16 @@ use Rattle.enforcer.proofs.Corresponding as offers
 use Rattle.published.proofs.SourceLaws as source
 use Rattle.published.proofs.Corollary as corollary
 use Rattle.published.proofs.Estimators as estimators
+use Rattle.published.proofs.Propositions as propositions
+use Rattle.published.proofs.WordLaws as word-laws
 use Rattle.published.proofs.SoundVerdicts as sound-verdicts
 use Rattle.published.proofs.SafeOutputs as safe-outputs
 use Rattle.monitor.proofs.LogOutput as log-output
 use Rattle.monitor.proofs.OneOutput as one-log-output
 use Rattle.monitor.proofs.Idle as idle
 use Rattle.gateway.proofs.SavedPoints as saved-points
-use Rattle.guarantees.proofs.Answers.{decode-answers, fresh-answers, accept-answers, start-answers, offer-answers}
+use Rattle.guarantees.proofs.Answers.{decode-answers, fresh-answers, accept-answers, accept-by-answers, start-answers, offer-answers, advance-answers}
+use Rattle.guarantees.proofs.Frames as frames
 
 -- the first point
 pub every-decode : first.EveryDecode
@@ -32,6 +35,9 @@ every-fresh = fresh-answers
 
 pub every-accept : first.EveryAccept
 every-accept = accept-answers
+
+pub every-accept-by : first.EveryAcceptBy
+every-accept-by = accept-by-answers
 
 pub every-start : first.EveryStart
 every-start = start-answers
@@ -60,11 +66,20 @@ one-enforcer = enforcer.same-history
 pub corollary-1 : published.Corollary1
 corollary-1 = corollary.corollary-1-all
 
+pub proposition-1 : published.Proposition1
+proposition-1 = propositions.proposition-1
+
+pub proposition-2 : published.Proposition2
+proposition-2 = propositions.proposition-2
+
+pub by-words : published.ByWords
+by-words = word-laws.by-words
+
 pub proposition-3 : published.Proposition3
 proposition-3 = estimators.proposition-3
 
 pub proposition-4 : published.Proposition4
-proposition-4 = estimators.proposition-4
+proposition-4 p secret μ = estimators.proposition-4 p (secret .k) μ (secret .states)
 
 pub verifier-gamma : published.VerifierGamma
 verifier-gamma = estimators.verifier-gamma
@@ -74,6 +89,9 @@ definition-6 = sound-verdicts.definition-6
 
 pub second-point-published : published.SecondPointPublished
 second-point-published = source.second-point-published
+
+pub safe-exactly : published.SafeExactly
+safe-exactly = safe-outputs.all-published
 
 pub third-point-published : published.ThirdPointPublished
 third-point-published = safe-outputs.third-point-published
@@ -104,7 +122,25 @@ one-output input a b = one-log-output.one-output input
 pub idle-exactly : log.IdleExactly
 idle-exactly input t h = idle.idle-exactly
 
+pub every-advance : log.EveryAdvance
+every-advance = advance-answers
+
 -- saved bytes
+pub decode-saved : saved.DecodeSaved
+decode-saved = frames.decode-saved
+
+pub fresh-saved : saved.FreshSaved
+fresh-saved = frames.fresh-saved
+
+pub accept-saved : saved.AcceptSaved
+accept-saved = frames.accept-saved
+
+pub start-saved : saved.StartSaved
+start-saved = frames.start-saved
+
+pub offer-saved : saved.OfferSaved
+offer-saved = frames.offer-saved
+
 pub fresh-by-secrets : saved.FreshBySecrets
 fresh-by-secrets = saved-points.saved-fresh
 
@@ -114,8 +150,15 @@ start-by-secrets = saved-points.saved-start
 pub encoded-second-point : saved.EncodedSecondPoint
 encoded-second-point = saved-points.encoded-second-point
 
+pub saved-second-point : saved.SavedSecondPoint
+saved-second-point = saved-points.saved-second-point
+
 pub saved-third-point : saved.SavedThirdPoint
 saved-third-point = saved-points.saved-third-point
+
+pub saved-third-point-published : saved.SavedThirdPointPublished
+saved-third-point-published t header notion further before s cs e start offers =
+    safe-outputs.promise-published _ t _ _ _ _ (saved-points.saved-third-point t header notion further before s cs e start offers)
 
 pub accept-within : saved.AcceptWithin
 accept-within = saved-points.accept-within

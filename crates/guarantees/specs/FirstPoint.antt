@@ -4,8 +4,8 @@
 use mathlib.Core.Path.{_≡_}
 use mathlib.Core.List.{List, _∷_, [], _++_}
 use mathlib.Core.Logic.{_⊎_, _↔_}
-use Prim.Native.Nat.{ℕ, _≤_, _<_}
-use lib.ListN.{length}
+use Prim.Native.Nat.{ℕ, _+_, _≤_, _<_}
+use lib.ListN.{length, take, drop}
 use Rattle.refusal.specs.Refusals.{numberOf}
 use Rattle.refusal.specs.declared.Refusal.{Refusal}
 use Rattle.bitfields.specs.Bits.{bitsOf}
@@ -15,33 +15,48 @@ use Rattle.encoding.specs.Table.{Holds}
 use Rattle.encoding.specs.Answers.{headerOf}
 use Rattle.encoding.specs.Decoding.{Outcome, accept, refuse, noHeader, Decoding}
 use Rattle.automaton.specs.Run.{automatonOf, Impossible, Observable, WellFormed}
+use Rattle.automaton.specs.Reaching.{SizeWithin}
 use Rattle.automaton.specs.declared.Header.{Header}
 use Rattle.opacity.specs.declared.Notion.{Notion}
 use Rattle.opacity.specs.declared.Further.{Further}
-use Rattle.opacity.specs.Secrets.{secretsOf, Allowed, TooLarge}
+use Rattle.opacity.specs.Secrets.{secretsOf, ForEach, Allowed, TooLarge}
 use Rattle.verifier.specs.declared.Estimator.{Estimator}
 use Rattle.verifier.specs.Estimators as estimator
 use Rattle.verifier.specs.Replies as verifier
-use Rattle.verifier.specs.Replies.{Opening, Accepting}
+use Rattle.verifier.specs.Replies.{Findings, toldAt, Bounded, Opening, Accepting, AcceptingBy}
 use Rattle.enforcer.specs.declared.Enforcer.{Enforcer}
+use Rattle.enforcer.specs.declared.Release.{Release}
 use Rattle.enforcer.specs.Enforcers as enforcer
 use Rattle.enforcer.specs.Offerings as offering
 use Rattle.enforcer.specs.Offerings.{OpensAsLeak, Starting, Offering}
 
--- an encoding (01: description): 9 where the table has not 2,048 words, else what the layout says of the bytes: the refusal of its first field or check that
--- fails, or the header and a table with exactly the transitions that are listed. A refusal leaves the table, and hands back no automaton's header
+-- `encoding::decode`, of an encoding (01: description): 9 exactly where the table has not 2,048 words; else what the layout says of the bytes: the refusal of
+-- its first field or check that fails, or the header and a table with exactly the transitions that are listed. A refusal leaves the table, and hands back no
+-- automaton's header
+pub record LayoutRefuses (bytes : List ℕ) (n : ℕ) : Type 0 where
+  pub refusal : Refusal
+  pub number-is : numberOf refusal ≡ n
+  pub refuses : encoding (bitsOf bytes) 0 ≡ parser.refused refusal
+
+pub record LayoutAccepts (bytes : List ℕ) (h : Header) (after : List ℕ) : Type 0 where
+  pub content : Encoding
+  pub next : ℕ
+  pub accepts : encoding (bitsOf bytes) 0 ≡ parser.done content next
+  pub header-is : h ≡ headerOf (content .front) (content .symbols)
+  pub holds : Holds (content .transitions) after
+
 pub record DecodeAnswers (bytes table : List ℕ) (h : Header) (answer : Outcome) (after : List ℕ) : Type 0 where
-  pub malformed : (length table ≡ 2048 → ⊥) → answer ≡ refuse 9
-  pub by-layout : length table ≡ 2048 → (r : Refusal) → encoding (bitsOf bytes) 0 ≡ parser.refused r → answer ≡ refuse (numberOf r)
-  pub accepted : length table ≡ 2048 → (e : Encoding) (next : ℕ) → encoding (bitsOf bytes) 0 ≡ parser.done e next
-      → (answer ≡ accept) × (h ≡ headerOf (e .front) (e .symbols)) × Holds (e .transitions) after
+  pub malformed : (answer ≡ refuse 9) ↔ (length table ≡ 2048 → ⊥)
+  pub by-layout : length table ≡ 2048 → (n : ℕ) → (answer ≡ refuse n) ↔ LayoutRefuses bytes n
+  pub accepted : (answer ≡ accept) ↔ ((length table ≡ 2048) × LayoutAccepts bytes h after)
+  pub no-other : (n : ℕ) → answer ≡ refuse n → (n ≡ 9) ⊎ ((n ≡ 1) ⊎ ((n ≡ 3) ⊎ ((n ≡ 4) ⊎ ((n ≡ 5) ⊎ (n ≡ 12)))))
   pub unchanged : (n : ℕ) → answer ≡ refuse n → (after ≡ table) × (h ≡ noHeader)
 
 abbrev pub EveryDecode : Type 0
 EveryDecode = (bytes table : List ℕ) (h : Header) (answer : Outcome) (after : List ℕ) → Decoding bytes table h answer after
     → DecodeAnswers bytes table h answer after
 
--- a fresh estimator with further secrets: 9, 13, 14, and what a refused one hands back is outside its limits on every automaton
+-- `Estimator::fresh`, with further secrets: 9, 13, 14, and what a refused one hands back is outside its limits on every automaton
 pub record FreshAnswers (t : List ℕ) (h : Header) (f : Further) (says : verifier.Said) (s : Estimator) : Type 0 where
   pub malformed : (says ≡ verifier.refused 9) ↔ (WellFormed t h → ⊥)
   pub too-many-secrets : (says ≡ verifier.refused 13) ↔ (WellFormed t h × (3 < f .count))
@@ -52,7 +67,15 @@ pub record FreshAnswers (t : List ℕ) (h : Header) (f : Further) (says : verifi
 abbrev pub EveryFresh : Type 0
 EveryFresh = (t : List ℕ) (h : Header) (f : Further) (says : verifier.Said) (s : Estimator) → Opening t h f says s → FreshAnswers t h f says s
 
--- a symbol offered to an estimator: 9, 6, 7, the last of one that has grown; a refusal hands back the estimator as it was
+pub record AcceptedWithin (h : Header) (self : Estimator) (j : Findings) (after : Estimator) : Type 0 where
+  pub same : after .further ≡ self .further
+  pub limits : estimator.InLimits h after
+  pub as-many : length (j .each) ≡ length (secretsOf h (self .further))
+  pub bounded : (notion : Notion) → ForEach (secretsOf h (self .further)) (λ i c. Bounded (c .k) (toldAt notion (j .each) i))
+  pub size : SizeWithin (j .size)
+
+-- `Estimator::accept`, a symbol offered to an estimator: 9, 6, 7, the last of one that has grown; a refusal hands back the estimator as it was. What is accepted leaves
+-- an estimator within its limits with the same further secrets, two verdicts for each secret from 0 to its K or none, and 1 to 64 states, whatever it grew from
 pub record AcceptAnswers (t : List ℕ) (h : Header) (self : Estimator) (symbol : ℕ) (says : verifier.Said) (after : Estimator) : Type 0 where
   pub malformed : (says ≡ verifier.refused 9) ↔ (WellFormed t h × estimator.InLimits h self → ⊥)
   pub not-observable : (says ≡ verifier.refused 6) ↔ (WellFormed t h × estimator.InLimits h self × (Observable h symbol → ⊥))
@@ -60,12 +83,26 @@ pub record AcceptAnswers (t : List ℕ) (h : Header) (self : Estimator) (symbol 
       → (says ≡ verifier.refused 7) ↔ (WellFormed t h × estimator.InLimits h self × Observable h symbol × Impossible (automatonOf t h) (trace ++ symbol ∷ []))
   pub no-other : (n : ℕ) → says ≡ verifier.refused n → (n ≡ 9) ⊎ ((n ≡ 6) ⊎ (n ≡ 7))
   pub unchanged : (n : ℕ) → says ≡ verifier.refused n → after ≡ self
+  pub accepted : (j : Findings) → says ≡ verifier.verdicts j → AcceptedWithin h self j after
 
 abbrev pub EveryAccept : Type 0
 EveryAccept = (t : List ℕ) (h : Header) (self : Estimator) (symbol : ℕ) (says : verifier.Said) (after : Estimator) → Accepting t h self symbol says after
     → AcceptAnswers t h self symbol says after
 
--- a start of an enforcer: 9, 13, 14, 8, and a refused one gives no enforcer
+-- `Estimator::accept_by`, the same with the verdicts by one notion alone: refused as `accept` refuses
+pub record AcceptByAnswers (t : List ℕ) (h : Header) (self : Estimator) (symbol : ℕ) (says : verifier.SaidBy) (after : Estimator) : Type 0 where
+  pub malformed : (says ≡ verifier.refused-by 9) ↔ (WellFormed t h × estimator.InLimits h self → ⊥)
+  pub not-observable : (says ≡ verifier.refused-by 6) ↔ (WellFormed t h × estimator.InLimits h self × (Observable h symbol → ⊥))
+  pub incompatible : (trace : List ℕ) → estimator.GrownOn t h trace self
+      → (says ≡ verifier.refused-by 7) ↔ (WellFormed t h × estimator.InLimits h self × Observable h symbol × Impossible (automatonOf t h) (trace ++ symbol ∷ []))
+  pub no-other : (n : ℕ) → says ≡ verifier.refused-by n → (n ≡ 9) ⊎ ((n ≡ 6) ⊎ (n ≡ 7))
+  pub unchanged : (n : ℕ) → says ≡ verifier.refused-by n → after ≡ self
+
+abbrev pub EveryAcceptBy : Type 0
+EveryAcceptBy = (notion : Notion) (t : List ℕ) (h : Header) (self : Estimator) (symbol : ℕ) (says : verifier.SaidBy) (after : Estimator)
+    → AcceptingBy notion t h self symbol says after → AcceptByAnswers t h self symbol says after
+
+-- `Enforcer::start`: 9, 13, 14, 8, and a refused one gives no enforcer
 pub record StartAnswers (t : List ℕ) (h : Header) (f : Further) (notion : Notion) (says : offering.StartOutcome) (s : Enforcer) : Type 0 where
   pub malformed : (says ≡ offering.not-started 9) ↔ (WellFormed t h → ⊥)
   pub too-many-secrets : (says ≡ offering.not-started 13) ↔ (WellFormed t h × (3 < f .count))
@@ -78,7 +115,17 @@ abbrev pub EveryStart : Type 0
 EveryStart = (t : List ℕ) (h : Header) (f : Further) (notion : Notion) (says : offering.StartOutcome) (s : Enforcer) → Starting t h f notion says s
     → StartAnswers t h f notion says s
 
--- a symbol offered to an enforcer: 9, 10, 6, 7, the last of one that has grown; a refusal hands back the enforcer and leaves the output as they were
+pub record ReleasedWithin (h : Header) (self : Enforcer) (byte : ℕ) (output : List ℕ) (r : Release) (after : Enforcer) (left : List ℕ) : Type 0 where
+  pub same : after .estimator .further ≡ self .estimator .further
+  pub limits : enforcer.InLimits h after
+  pub balance : r .count + after .count ≡ self .count + 1
+  pub front : left ≡ take (r .count) (enforcer.pendingOf self ++ byte ∷ []) ++ drop (r .count) output
+  pub rest : enforcer.pendingOf after ≡ drop (r .count) (enforcer.pendingOf self ++ byte ∷ [])
+  pub size : SizeWithin (r .size)
+
+-- `Enforcer::offer`, a symbol offered to an enforcer: 9, 10, 6, 7, the last of one that has grown; a refusal hands back the enforcer and leaves the output as they
+-- were. What is accepted releases a beginning of what is pending with the new symbol behind, to the front of the output, and stays within the limits, whatever it grew
+-- from
 pub record OfferAnswers (t : List ℕ) (h : Header) (self : Enforcer) (byte : ℕ) (output : List ℕ) (says : offering.OfferOutcome) (after : Enforcer)
     (left : List ℕ) : Type 0 where
   pub malformed : (says ≡ offering.refused 9) ↔ (WellFormed t h × enforcer.InLimits h self → ⊥)
@@ -89,6 +136,7 @@ pub record OfferAnswers (t : List ℕ) (h : Header) (self : Enforcer) (byte : �
       ↔ (WellFormed t h × enforcer.InLimits h self × (17 ≤ length output) × Observable h byte × Impossible (automatonOf t h) (trace ++ byte ∷ []))
   pub no-other : (n : ℕ) → says ≡ offering.refused n → (n ≡ 9) ⊎ ((n ≡ 10) ⊎ ((n ≡ 6) ⊎ (n ≡ 7)))
   pub unchanged : (n : ℕ) → says ≡ offering.refused n → (after ≡ self) × (left ≡ output)
+  pub accepted : (r : Release) → says ≡ offering.released r → ReleasedWithin h self byte output r after left
 
 abbrev pub EveryOffer : Type 0
 EveryOffer = (t : List ℕ) (h : Header) (self : Enforcer) (byte : ℕ) (output : List ℕ) (says : offering.OfferOutcome) (after : Enforcer) (left : List ℕ)

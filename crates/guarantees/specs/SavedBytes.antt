@@ -4,17 +4,56 @@ use mathlib.Core.List.{List}
 use Prim.Native.Nat.{ℕ, _≤_}
 use lib.ListN.{length, getD}
 use Rattle.automaton.specs.Run.{automatonOf}
-use Rattle.encoding.specs.Decoding.{Decoding, accept}
+use Rattle.automaton.specs.declared.Header.{Header}
+use Rattle.encoding.specs.Decoding.{Decoding, accept, refuse}
 use Rattle.opacity.specs.Secrets.{secretsOf, clearedOf, Allowed}
 use Rattle.verifier.specs.Estimators as estimator
+use Rattle.verifier.specs.declared.Estimator.{Estimator}
+use Rattle.verifier.specs.Replies as verifier
+use Rattle.verifier.specs.Replies.{Opening, Accepting}
 use Rattle.verifier.specs.Calls.{VerifierPromise}
 use Rattle.enforcer.specs.Enforcers as enforcer
-use Rattle.enforcer.specs.Offerings.{OpensAsLeak}
+use Rattle.enforcer.specs.declared.Enforcer.{Enforcer}
+use Rattle.enforcer.specs.Offerings as offering
+use Rattle.enforcer.specs.Offerings.{OpensAsLeak, Starting, Offering}
 use Rattle.enforcer.specs.Offers.{EnforcerPromise}
-use Rattle.layout.specs.Sizes.{furtherSize, estimatorSize, strongByte, notionPlace, enforcerSize, judgementSize}
+use Rattle.published.specs.Source.{PublishedReleases}
+use Rattle.layout.specs.Sizes.{headerSize, furtherSize, estimatorSize, strongByte, notionPlace, enforcerSize, judgementSize}
 use Rattle.layout.specs.Layout.{headerAt, furtherAt, estimatorAt, notionAt, enforcerAt, judgementAt}
-use Rattle.gateway.specs.Interface.{Decode, Fresh, Accept, Start, Offer, ByFurther, ByStart}
+use Rattle.gateway.specs.Interface.{Decode, FreshSizes, Fresh, VerifierSizes, Accept, StartSizes, Start, OfferSizes, Offer, ByFurther, ByStart}
 use Rattle.gateway.specs.SavedCalls.{AcceptCall, AcceptCalls, callsOf, OfferCall, OfferCalls, offersOf}
+
+-- the first point, of each of the five functions: 9 where a slice has not its length or the notion is none; else the refusal of the entry below (FirstPoint);
+-- whatever is not 0 leaves every lent slice as it was
+abbrev pub DecodeSaved : Type 0
+DecodeSaved = (encoding table header : List ℕ) (answer : ℕ) (t after : List ℕ) → Decode encoding table header answer t after
+    → ((length header ≡ headerSize → ⊥) → answer ≡ 9) × ((answer ≡ 0 → ⊥) → (t ≡ table) × (after ≡ header))
+    × (length header ≡ headerSize → (answer ≡ 0 → ⊥) → (h : Header) × Decoding encoding table h (refuse answer) table)
+
+abbrev pub FreshSaved : Type 0
+FreshSaved = (t header further estimator judgement : List ℕ) (answer : ℕ) (s told : List ℕ) → Fresh t header further estimator judgement answer s told
+    → ((FreshSizes header further estimator judgement → ⊥) → answer ≡ 9) × ((answer ≡ 0 → ⊥) → (s ≡ estimator) × (told ≡ judgement))
+    × (FreshSizes header further estimator judgement → (answer ≡ 0 → ⊥) → (x : Estimator) × Opening t (headerAt header) (furtherAt further 0) (verifier.refused answer) x)
+
+abbrev pub AcceptSaved : Type 0
+AcceptSaved = (t header : List ℕ) (symbol : ℕ) (estimator judgement : List ℕ) (answer : ℕ) (s told : List ℕ)
+    → Accept t header symbol estimator judgement answer s told
+    → ((VerifierSizes header estimator judgement → ⊥) → answer ≡ 9) × ((answer ≡ 0 → ⊥) → (s ≡ estimator) × (told ≡ judgement))
+    × (VerifierSizes header estimator judgement → (answer ≡ 0 → ⊥)
+    → (x : Estimator) × Accepting t (headerAt header) (estimatorAt estimator) symbol (verifier.refused answer) x)
+
+abbrev pub StartSaved : Type 0
+StartSaved = (t header : List ℕ) (notion : ℕ) (further enforcer : List ℕ) (answer : ℕ) (s : List ℕ) → Start t header notion further enforcer answer s
+    → ((StartSizes header notion further enforcer → ⊥) → answer ≡ 9) × ((answer ≡ 0 → ⊥) → s ≡ enforcer)
+    × (StartSizes header notion further enforcer → (answer ≡ 0 → ⊥)
+    → (x : Enforcer) × Starting t (headerAt header) (furtherAt further 0) (notionAt notion) (offering.not-started answer) x)
+
+abbrev pub OfferSaved : Type 0
+OfferSaved = (t header : List ℕ) (symbol : ℕ) (enforcer output release : List ℕ) (answer : ℕ) (s left told : List ℕ)
+    → Offer t header symbol enforcer output release answer s left told
+    → ((OfferSizes header enforcer release → ⊥) → answer ≡ 9) × ((answer ≡ 0 → ⊥) → (s ≡ enforcer) × (left ≡ output) × (told ≡ release))
+    × (OfferSizes header enforcer release → (answer ≡ 0 → ⊥)
+    → (x : Enforcer) × Offering t (headerAt header) (enforcerAt enforcer) symbol output (offering.refused answer) x output)
 
 -- after a decode that answered 0, with slices of their lengths: a fresh call is refused by 13 and 14 only, a start by these and by 8, each on its condition
 abbrev pub FreshBySecrets : Type 0
@@ -37,10 +76,22 @@ EncodedSecondPoint = (encoding table before t header further estimator lent : Li
     × VerifierPromise t (headerAt header) (furtherAt further 0) (judgementAt (furtherAt further 0 .count) told) (callsOf (furtherAt further 0 .count) cs)
     (estimatorAt e)
 
--- the third point
+-- the same of any header's bytes, after a fresh call that answered 0
+abbrev pub SavedSecondPoint : Type 0
+SavedSecondPoint = (t header further before lent s told : List ℕ) (cs : List AcceptCall) (e : List ℕ) → Fresh t header further before lent 0 s told
+    → AcceptCalls t header s cs e
+    → VerifierPromise t (headerAt header) (furtherAt further 0) (judgementAt (furtherAt further 0 .count) told) (callsOf (furtherAt further 0 .count) cs)
+    (estimatorAt e)
+
+-- the third point; and by source 000's Definition 12
 abbrev pub SavedThirdPoint : Type 0
 SavedThirdPoint = (t header : List ℕ) (notion : ℕ) (further before s : List ℕ) (cs : List OfferCall) (e : List ℕ) → Start t header notion further before 0 s
     → OfferCalls t header s cs e → EnforcerPromise (notionAt notion) t (headerAt header) (furtherAt further 0) (offersOf cs) (enforcerAt e)
+
+abbrev pub SavedThirdPointPublished : Type 0
+SavedThirdPointPublished = (t header : List ℕ) (notion : ℕ) (further before s : List ℕ) (cs : List OfferCall) (e : List ℕ)
+    → Start t header notion further before 0 s → OfferCalls t header s cs e
+    → PublishedReleases (notionAt notion) t (headerAt header) (furtherAt further 0) (offersOf cs)
 
 -- what an accepted symbol leaves is within its limits as it reads back, whatever the state grew from, and keeps the further secrets
 abbrev pub AcceptWithin : Type 0

@@ -140,4 +140,4 @@ abbrev pub releasedPossiblePlace : ℕ
 releasedPossiblePlace = 1
 
 abbrev pub releaseSize : ℕ
-releaseSize = 2
+releaseSize = releasedPossiblePlace + 1

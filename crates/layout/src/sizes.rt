@@ -94,4 +94,4 @@ pub const RELEASED_PLACE: usize = 0;
 
 pub const RELEASED_POSSIBLE_PLACE: usize = 1;
 
-pub const RELEASE_SIZE: usize = 2;
+pub const RELEASE_SIZE: usize = RELEASED_POSSIBLE_PLACE + 1;

@@ -20,7 +20,7 @@ use Rattle.encoding.proofs.Refusing.{decoding-never}
 use Rattle.encoding.proofs.Listing.{decoded-well-formed}
 use Rattle.report.specs.Text.{digits, decimal, idleLine, endLine}
 use Rattle.monitor.specs.Opening.{frontSize, encodingOf, RightOwn}
-use Rattle.monitor.specs.Log.{OpeningLeak, Refused, truncated, not-decoded, initial-leak, Monitored, Output, refused, idle, ended}
+use Rattle.monitor.specs.Log.{OpeningLeak, Refused, truncated, not-decoded, initial-leak, Monitored, Output, refused, idle, ended, Idle, clear, leaks}
 use Rattle.monitor.proofs.OneOutput.{one-automaton, not-both}
 
 module _ (t : List ℕ) (h : Header) (notion : Notion) where
@@ -41,12 +41,6 @@ module _ (t : List ℕ) (h : Header) (notion : Notion) where
   opening-verdict (Leak l) w =
       let first = at-zero l (w .0) in
       inr (ap Leak first, subst (LeakAt notion (automatonOf t h) (own h) []) first (w .0))
-
--- what an idle log that is not refused prints: `0 - - - n -` or `0 - - 0 n -`, by whether the opening leaks under strong, where n states are possible
--- before any event, and `end 0 0 0`
-pub data Idle (t : List ℕ) (h : Header) : List ℕ → Type 0 where
-  clear : {n : ℕ} → EstimateSize (automatonOf t h) [] n → (OpeningLeak Strong t h → ⊥) → Idle t h (idleLine NoLeak NoLeak n ++ endLine 0 0 0)
-  leaks : {n : ℕ} → EstimateSize (automatonOf t h) [] n → OpeningLeak Strong t h → Idle t h (idleLine NoLeak (Leak 0) n ++ endLine 0 0 0)
 
 -- whose weak verdict is none, since it is not refused by 8
 idle-text : (t : List ℕ) (h : Header) (v w : Verdict) (n : ℕ) → (OpeningLeak Weak t h → ⊥) → RightOwn t h [] (record { weak = v; strong = w }) n

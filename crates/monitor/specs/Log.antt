@@ -5,12 +5,14 @@ use mathlib.Core.List.{List, [], _++_}
 use Prim.Native.Nat.{ℕ, _-_, _≤_, _<_}
 use lib.ListN.{length, take, drop}
 use Rattle.automaton.specs.Run.{automatonOf}
+use Rattle.automaton.specs.Reaching.{EstimateSize}
 use Rattle.refusal.specs.Refusals.{numberOf}
 use Rattle.automaton.specs.declared.Header.{Header}
 use Rattle.refusal.specs.declared.Refusal.{Refusal}
 use Rattle.encoding.specs.Decoding.{accept, refuse}
 use Rattle.opacity.specs.declared.Notion.{Notion}
-use Rattle.opacity.specs.declared.Notion.the-variants.{Weak}
+use Rattle.opacity.specs.declared.Notion.the-variants.{Weak, Strong}
+use Rattle.opacity.specs.declared.Verdict.the-variants.{NoLeak, Leak}
 use Rattle.opacity.specs.declared.Verdicts.{Verdicts}
 use Rattle.opacity.specs.Secrets.{own}
 use Rattle.opacity.specs.Verdicts.{LeakAt}
@@ -47,3 +49,9 @@ pub data Output (input : List ℕ) : List ℕ → Type 0 where
       → Output input (idleLine (v .weak) (v .strong) n ++ endLine 0 0 0)
   ended : {t text trace : List ℕ} {h : Header} {r : ℕ} → Monitored input t h → frontSize input < length input → Prints t h [] 0 (eventsOf input) text trace r
       → Output input (text ++ endLine (length trace) r (length trace - r))
+
+-- what an idle log that is not refused prints: `0 - - - n -` or `0 - - 0 n -`, by whether the opening leaks under strong, where n states are possible
+-- before any event, and `end 0 0 0`
+pub data Idle (t : List ℕ) (h : Header) : List ℕ → Type 0 where
+  clear : {n : ℕ} → EstimateSize (automatonOf t h) [] n → (OpeningLeak Strong t h → ⊥) → Idle t h (idleLine NoLeak NoLeak n ++ endLine 0 0 0)
+  leaks : {n : ℕ} → EstimateSize (automatonOf t h) [] n → OpeningLeak Strong t h → Idle t h (idleLine NoLeak (Leak 0) n ++ endLine 0 0 0)

@@ -1,5 +1,5 @@
 // The estimator (01: watch): it accepts one symbol after another, and answers for each how many states are possible and the verdicts of each secret.
-// Here the types, what is chosen by a notion, and the estimator's entries: `fresh`, `sound`, `accept`, `accept_by` demand nothing of their callers.
+// Here the types, what is chosen by a notion, and the estimator's entries: `fresh`, `well_formed`, `accept`, `accept_by` demand nothing of their callers.
 // The modules, each on those before it:
 mod estimates; // what is remembered, and the states that are possible now
 mod look_back; // over the steps back, for one secret

@@ -1,6 +1,5 @@
-// What a reader can be sure of: the two notions of opacity, secrets, and verdicts, by definition (specs/Verdicts), with the secrets that are given
-// (specs/Secrets)
-// and their numbers. No estimator and no answer stands here: the verifier works out these verdicts, and the enforcer rests on their definition alone.
+// What a reader can be sure of: the two notions of opacity, secrets, and verdicts by definition (specs/Verdicts), with the secrets that are given and their
+// numbers (specs/Secrets). No estimator and no answer stands here: the verifier works out these verdicts, and the enforcer rests on their definition alone.
 use automaton::Header;
 ghost use mathlib.Core.Path.{_≡_};
 ghost use Rattle.opacity.specs.Secrets.{furtherOf, secretsOf, secretAt, lookBackOf, clearedOf, noFurther};

@@ -2,8 +2,8 @@
 // Here the types, what is chosen by a notion, and the estimator's entries: `fresh`, `well_formed`, `accept`, `accept_by` demand nothing of their callers.
 // The modules, each on those before it:
 mod estimates; // what is remembered, and the states that are possible now
-mod look_back; // over the steps back, for one secret
-mod several; // over the steps back, for several secrets in one pass
+mod look_back; // over the steps back: the verdicts of one secret, and the sets m(l) for all
+mod several; // the strong verdicts of several secrets in one pass
 mod each_secret; // the verdicts of each secret
 
 use automaton::Header;

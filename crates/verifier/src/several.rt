@@ -1,4 +1,4 @@
-// Several secrets: what one pass over the steps back works out for all of them, where it is asked for.
+// Several secrets: their strong verdicts by one pass over the steps back for all, and each cut down to its own K.
 use super::Asked;
 use super::Estimator;
 use super::VerdictsBy;

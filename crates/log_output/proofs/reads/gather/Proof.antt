@@ -64,21 +64,19 @@ enum-known-n c = search needs
 
 loop-less : tie.Need-loop-less Inv-loop μ-loop
 loop-less c =
-    let more = gathered-more (c .before .before .before .before .before .before .fetch .result)
-    (c .before .before .before .before .before .before .before .before .before .before .before .before .before .before .loop .have)
-    (c .before .n .given .0 .0) (length (c .before .before .before .before .before .before .fetch .last .0))
-    (c .before .before .before .before .before .before .before .before .least .result)
-    (sym (c .before .before .before .gathering .ensures) ∙ c .before .n .given .1) (c .before .before .before .before .before .before .fetch .ensures) in
+    let f = c .before .before .before .before .before .before in
+    let more = gathered-more (f .fetch .result) (f .before .before .before .before .before .before .before .before .loop .have) (c .before .n .given .0 .0)
+    (length (f .fetch .last .0))
+    (f .before .before .least .result) (sym (c .before .before .before .gathering .ensures) ∙ c .before .n .given .1) (f .fetch .ensures) in
     omega (arith, more .0, more .1)
 
 loop-again : tie.Need-loop-again Inv-loop μ-loop
 loop-again c =
-    let more = gathered-more (c .before .before .before .before .before .before .fetch .result)
-    (c .before .before .before .before .before .before .before .before .before .before .before .before .before .before .loop .have)
-    (c .before .n .given .0 .0) (length (c .before .before .before .before .before .before .fetch .last .0))
-    (c .before .before .before .before .before .before .before .before .least .result)
-    (sym (c .before .before .before .gathering .ensures) ∙ c .before .n .given .1) (c .before .before .before .before .before .before .fetch .ensures) in
-    (omega (arith, more .1), search needs, omega (arith, more .2, c .before .before .before .before .before .before .before .before .least .ensures .1))
+    let f = c .before .before .before .before .before .before in
+    let more = gathered-more (f .fetch .result) (f .before .before .before .before .before .before .before .before .loop .have) (c .before .n .given .0 .0)
+    (length (f .fetch .last .0))
+    (f .before .before .least .result) (sym (c .before .before .before .gathering .ensures) ∙ c .before .n .given .1) (f .fetch .ensures) in
+    (omega (arith, more .1), search needs, omega (arith, more .2, f .before .before .least .ensures .1))
 
 enum-known-n-2 : tie.Need-enum-known-n-2 Inv-loop μ-loop
 enum-known-n-2 c = search needs
@@ -88,9 +86,9 @@ same-length-2 c = search needs
 
 returns-2 : tie.Need-returns-2 Inv-loop μ-loop
 returns-2 c =
-    let same = gathered-all (c .before .before .before .before .before .before .fetch .result)
-    (c .before .before .before .before .before .before .before .before .before .before .before .before .before .before .loop .have)
-    (c .before .n2 .given .0 .0) (sym (c .before .before .before .gathering .ensures) ∙ c .before .n2 .given .1) in
+    let f = c .before .before .before .before .before .before in
+    let same = gathered-all (f .fetch .result) (f .before .before .before .before .before .before .before .before .loop .have) (c .before .n2 .given .0 .0)
+    (sym (c .before .before .before .gathering .ensures) ∙ c .before .n2 .given .1) in
     (omega (arith, same), omega (arith, same))
 
 enum-told : tie.Need-enum-told Inv-loop μ-loop

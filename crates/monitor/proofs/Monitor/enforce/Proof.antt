@@ -14,6 +14,10 @@ use borrow.Author.Needs.{needs}
 use Rattle.monitor.proofs.Monitor.enforce.Statement.{statement}
 use Rattle.monitor.proofs.Monitor.enforce.Tie as tie
 
+-- where the call began
+abbrev begin : tie.After-answer2 → tie.Start
+begin x = x .before .before .before .before .before .before .before .before
+
 -- what the enforcer answered to a byte that it accepted
 abbrev left : tie.After-answer2 → List ℕ
 left x = x .before .before .before .offer .last .1 .1 .1 .1 .0
@@ -24,22 +28,20 @@ given x = x .answer2 .given .0 .0
 abbrev count : tie.After-answer2 → ℕ
 count x = given x .count
 
-offered : (x : tie.After-answer2) → Offering (now (x .before .before .before .before .before .before .before .before .args .table))
-    (x .before .before .before .before .before .before .before .before .args .header)
-    (x .before .before .before .before .before .before .before .before .args .self .enforcer)
-    (x .before .before .before .before .before .before .before .before .args .byte) (replicate 17 0)
+offered : (x : tie.After-answer2)
+    → Offering (now (begin x .args .table)) (begin x .args .header) (begin x .args .self .enforcer) (begin x .args .byte) (replicate 17 0)
     (enforcer.released (given x)) (x .before .before .before .offer .result .enforcer) (left x)
 offered x =
-    let a = x .before .before .before .before .before .before .before .before .args in
+    let a = begin x .args in
     let called = x .before .before .before .offer in
     subst (λ (r : OfferAnswer). Offering (now (a .table)) (a .header) (a .self .enforcer) (a .byte) (replicate 17 0) (enforcer.offerOutcome r)
     (called .result .enforcer) (left x))
     (x .answer2 .given .1) (called .ensures)
 
-counts : (x : tie.After-answer2) → Countable (x .before .before .before .before .before .before .before .before .args .self) (count x)
+counts : (x : tie.After-answer2) → Countable (begin x .args .self) (count x)
 counts x =
-    let a = x .before .before .before .before .before .before .before .before .args in
-    let p = x .before .before .before .before .before .before .before .before .pre in
+    let a = begin x .args in
+    let p = begin x .pre in
     countable (now (a .table)) (a .header) (a .self) (a .byte) (given x) (x .before .before .before .offer .result .enforcer) (replicate 17 0) (left x)
     (now (a .out)) (a .at) (p .0) (p .1) (offered x)
 
@@ -76,8 +78,8 @@ part-log-accepted-end c = within (c .before .before .before .before)
 log-accepted-requires : tie.Need-log-accepted-requires
 log-accepted-requires c κs =
     let x = c .before .before .before .before .before .before in (
-      x .before .before .before .before .before .before .before .before .pre .1,
-      subst (Countable (x .before .before .before .before .before .before .before .before .args .self)) (sym (part-size (left x) (count x) (within x)))
+      begin x .pre .1,
+      subst (Countable (begin x .args .self)) (sym (part-size (left x) (count x) (within x)))
           (counts x),
     )
 
@@ -104,8 +106,8 @@ same-length-2 c = search needs
 returns-2 : tie.Need-returns-2
 returns-2 c =
     let x = c .before .before .before .before .before .before .before .before .before in
-    let a = x .before .before .before .before .before .before .before .before .args in
-    let p = x .before .before .before .before .before .before .before .before .pre in
+    let a = begin x .args in
+    let p = begin x .pre in
     let done = c .before .before .log-accepted in
     let e = x .before .before .before .offer .result .enforcer in
     by-both (now (a .table)) (a .header) (a .self) (a .byte) (a .judgement) (a .estimator) (given x) e (replicate 17 0) (left x) (done .result .monitor)

@@ -20,22 +20,30 @@ use Rattle.verifier.proofs.Estimating.{some-left, none-left, reach-as, 
 use Rattle.verifier.proofs.Estimator.accept_asked.Statement.{statement}
 use Rattle.verifier.proofs.Estimator.accept_asked.Tie as tie
 
+-- the ways back to where the call began, from the first test, from where the events are known that show the symbol, and from the second test
+abbrev tested : tie.Else1 → tie.Start
+tested c = c .before .before .before
+
+abbrev begin : tie.After-events-with → tie.Start
+begin c = c .before .before .before .before .before .before .before .before
+
+abbrev first : tie.Else2 → tie.Else1
+first e = e .before .before .before .before .before .before
+
 -- the tests that were passed
-ok : (c : tie.Else1) → WellFormed (now (c .before .before .before .args .table)) (c .before .before .before .args .header)
-    × InLimits (c .before .before .before .args .header) (c .before .before .before .args .t1)
+ok : (c : tie.Else1) → WellFormed (now (tested c .args .table)) (tested c .args .header) × InLimits (tested c .args .header) (tested c .args .t1)
 ok c = holds (c .before .well-formed .result) (not-false _ (c .if1 .left)) (c .before .well-formed .ensures)
 
 -- the events that show the symbol
-showing : (c : tie.After-events-with) → Showing (automatonOf (now (c .before .before .before .before .before .before .before .before .args .table))
-    (c .before .before .before .before .before .before .before .before .args .header))
-    (c .before .before .before .before .before .before .before .before .args .symbol) (c .events-with .result)
-showing c = c .events-with .ensures _ (ok (c .before .before .before .before .before) .0 .symbols-small)
-    (c .before .before .before .by-symbol .ensures (now (c .before .before .before .before .before .before .before .before .args .table)))
+showing : (c : tie.After-events-with)
+    → Showing (automatonOf (now (begin c .args .table)) (begin c .args .header)) (begin c .args .symbol) (c .events-with .result)
+showing c =
+    c .events-with .ensures _ (ok (c .before .before .before .before .before) .0 .symbols-small)
+    (c .before .before .before .by-symbol .ensures (now (begin c .args .table)))
 
-observed : (c : tie.Else2) → Observable (c .before .before .before .before .before .before .before .before .before .args .header)
-    (c .before .before .before .before .before .before .before .before .before .args .symbol)
+observed : (c : tie.Else2) → Observable (begin (c .before) .args .header) (begin (c .before) .args .symbol)
 observed c =
-    let a = c .before .before .before .before .before .before .before .before .before .args in
+    let a = begin (c .before) .args in
     some-observable (now (a .table)) (a .header) _ _ (showing (c .before)) (omega arith) (c .if2 .left)
 
 well-formed-requires : tie.Need-well-formed-requires
@@ -71,7 +79,7 @@ returns-2 c =
     let r = c .refused2 .ensures in
     let v = c .before .before in
     let o = ok (v .before .before .before .before .before) in
-    let a = v .before .before .before .before .before .before .before .before .args in
+    let a = begin v .args in
     refused-asked _ _ _ _ _ refusal.NotObservable _ (r .0) (r .1)
     (not-observable (o .0) (o .1) (none-observable (now (a .table)) (a .header) _ _ (showing v) (c .before .if2 .taken)))
 
@@ -94,10 +102,11 @@ next-estimate-requires : tie.Need-next-estimate-requires
 next-estimate-requires c κs =
     let g = c .before .before .before in
     let f = g .before .before in
-    let o = ok (f .before .before .before .before .before .before .before) in (
+    let e = f .before in
+    let o = ok (first e) in (
       o .0 .words,
       o .0 .start,
-      λ x i. showing (f .before .before) .sound x i .0,
+      λ x i. showing (e .before) .sound x i .0,
       gained-part _ _ _ _ _ (λ q i. f .entered .ensures 0 q (omega arith) i) (g .silent-rows .ensures),
     )
 
@@ -114,11 +123,10 @@ returns-3 : tie.Need-returns-3
 returns-3 c =
     let r = c .refused3 .ensures in
     let e = c .before .before .before .before .before .before .before .before .before .before .before in
-    let o = ok (e .before .before .before .before .before .before) in
+    let o = ok (first e) in
     refused-asked _ _ _ _ _ refusal.Incompatible _ (r .0) (r .1)
     (incompatible (o .0) (o .1) (observed e)
-    (λ trace g. none-left (c .before .before .before .before .next-estimate .ensures _
-    (showing (c .before .before .before .before .before .before .before .before .before .before .before .before))) (c .before .enum-told .given .1) trace
+    (λ trace g. none-left (c .before .before .before .before .next-estimate .ensures _ (showing (e .before))) (c .before .enum-told .given .1) trace
     (grown-entry _ _ trace _ g)))
 
 look-back-requires : tie.Need-look-back-requires
@@ -127,8 +135,8 @@ look-back-requires c κs = search needs
 push-requires : tie.Need-push-requires
 push-requires c κs =
     let e = c .before .before .before .before .before .before .before .before .before .before .before .before .before in
-    let o = ok (e .before .before .before .before .before .before) in
-    let a = e .before .before .before .before .before .before .before .before .before .args in
+    let o = ok (first e) in
+    let a = begin (e .before) .args in
     let K = c .look-back .ensures in (
       omega (arith, K, look-back-small (a .header) (a .t1 .further) (o .0 .back) (o .1 .allowed)),
       observable-small (now (a .table)) _ _ (o .0) (observed e),
@@ -150,12 +158,12 @@ assess-requires : tie.Need-assess-requires
 assess-requires c κs =
     let pushed = c .before .before .before in
     let k = pushed .before .before .before in
-    let x = some-left (k .before .before .before .before .next-estimate .ensures _
-    (showing (k .before .before .before .before .before .before .before .before .before .before .before .before))) (k .before .next .given .1) in
     let f = k .before .before .before .before .before .before .before .before .before .before in
     let e = f .before in
-    let o = ok (e .before .before .before .before .before .before) in
-    let a = e .before .before .before .before .before .before .before .before .before .args in
+    let o = ok (first e) in
+    let a = begin (e .before) .args in
+    let x = some-left (k .before .before .before .before .next-estimate .ensures _ (showing (e .before))) (k .before .next .given .1) in
+    let near = k .before .before .before .before .before .before .before .before in
     let after = pushed .push .ensures in (
       record {
         sound = o .0;
@@ -163,8 +171,7 @@ assess-requires c κs =
         sets-are = e .before .before .before .before .by-symbol .ensures _;
         near = record {
           closed = x .estimated .closed;
-          inside = after .3 _ (x .estimated .new) (λ l q h i. x .estimated .old q
-              (k .before .before .before .before .before .before .before .before .silent-rows .ensures .more q (f .entered .ensures l q h i)));
+          inside = after .3 _ (x .estimated .new) (λ l q h i. x .estimated .old q (near .silent-rows .ensures .more q (f .entered .ensures l q h i)));
         };
         reach = reach-as (after .2) (x .estimated .reach);
       },
@@ -176,13 +183,13 @@ returns-4 c =
     let pushed = c .before .before .before .before .before in
     let k = pushed .before .before .before in
     let e = k .before .before .before .before .before .before .before .before .before .before .before in
-    let a = e .before .before .before .before .before .before .before .before .before .args in
-    let o = ok (e .before .before .before .before .before .before) in
+    let a = begin (e .before) .args in
+    let o = ok (first e) in
+    let x = some-left (k .before .before .before .before .next-estimate .ensures _ (showing (e .before))) (k .before .next .given .1) in
     let after = pushed .push .ensures in
     let moved : Moved (now (a .table)) (a .header) (a .t1) (a .symbol) (c .before .assess .result .size) (pushed .push .result) =
-    moved-by _ _ _ _ _ _ _ _ _ _ (o .0) (o .1) (observed e) (some-left (k .before .before .before .before .next-estimate .ensures _
-    (showing (k .before .before .before .before .before .before .before .before .before .before .before .before))) (k .before .next .given .1))
-    (c .before .assess .ensures .1) (pushed .before .look-back .ensures) (after .0) (after .1) (λ trace g E y. after .4 _ trace g E y) in
+    moved-by _ _ _ _ _ _ _ _ _ _ (o .0) (o .1) (observed e) x (c .before .assess .ensures .1) (pushed .before .look-back .ensures) (after .0) (after .1)
+    (λ trace g E y. after .4 _ trace g E y) in
     judged-by _ _ _ _ _ (c .before .assess .result) _ moved (c .before .assess .ensures .0)
 
 pub accept-asked-spec : {M : Type 1} → statement M

@@ -15,17 +15,17 @@ use Rattle.verifier.proofs.Estimating.{stepping}
 use Rattle.verifier.proofs.estimates.next_estimate.Statement.{statement}
 use Rattle.verifier.proofs.estimates.next_estimate.Tie as tie
 
+-- the way back to where the call began
+abbrev begin : tie.After-observable-reach → tie.Start
+begin c = c .before .before .before .before .before
+
 -- the states right after one more symbol
 next-entry : (c : tie.After-observable-reach) (symbol : ℕ)
-    → Showing (automatonOf (now (c .before .before .before .before .before .args .table)) (c .before .before .before .before .before .args .header)) symbol
-    (c .before .before .before .before .before .args .events)
-    → (trace : List ℕ)
-    → Is (c .before .before .before .before .before .args .entry)
-    (Enters (automatonOf (now (c .before .before .before .before .before .args .table)) (c .before .before .before .before .before .args .header)) trace)
-    → Is (c .observable-reach .result) (Enters (automatonOf (now (c .before .before .before .before .before .args .table))
-    (c .before .before .before .before .before .args .header)) (trace ++ symbol ∷ []))
+    → Showing (automatonOf (now (begin c .args .table)) (begin c .args .header)) symbol (begin c .args .events) → (trace : List ℕ)
+    → Is (begin c .args .entry) (Enters (automatonOf (now (begin c .args .table)) (begin c .args .header)) trace)
+    → Is (c .observable-reach .result) (Enters (automatonOf (now (begin c .args .table)) (begin c .args .header)) (trace ++ symbol ∷ []))
 next-entry c symbol shown trace E =
-    let s = c .before .before .before .before .before in
+    let s = begin c in
     let g = s .pre .3 in
     c .observable-reach .ensures _ trace symbol refl shown (c .before .unobservable-reach .ensures .1 _ trace (s .pre .1) (gained-closed _ _ _ _ g) (g .more) E)
 

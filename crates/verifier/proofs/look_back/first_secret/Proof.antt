@@ -56,13 +56,20 @@ states-again c =
     pass-turn _ _ _ q _ (pick (c .before)) (digit-in q (c .before .before .before .before .before .args .secret) (c .if1 .left))
     (c .before .before .states .inv)
 
+-- the step whose states were visited, and where the call began
+abbrev turn : tie.Else2 Inv-states μ-states Inv-steps μ-steps → tie.At-steps Inv-states μ-states Inv-steps μ-steps
+turn c = c .before .before .before .before
+
+abbrev begin : tie.At-steps Inv-states μ-states Inv-steps μ-steps → tie.Start Inv-states μ-states Inv-steps μ-steps
+begin u = u .before
+
 -- the state at which the visit ended is not secret, and a run through it excuses the system
 clear : (c : tie.Else2 Inv-states μ-states Inv-steps μ-steps)
-    → ForPast (c .before .before .before .before .before .args .past .now) (c .before .before .before .before .before .args .last) (λ p trace.
-    ClearAt p (c .before .before .before .before .before .args .secret) trace (length trace - c .before .before .before .before .steps .l))
+    → ForPast (begin (turn c) .args .past .now) (begin (turn c) .args .last)
+    (λ p trace. ClearAt p (begin (turn c) .args .secret) trace (length trace - turn c .steps .l))
 clear c p symbols entries n trace d few m =
-    let a = c .before .before .before .before .before .args in
-    let s = c .before .before .before .before .steps in
+    let a = begin (turn c) .args in
+    let s = turn c .steps in
     let w = c .before .before .states .todo in
     ⊎-elim
     (λ w. absurd (omega arith))
@@ -75,12 +82,11 @@ clear c p symbols entries n trace d few m =
 
 -- so that, with what was known below l, no step below l + 1 is a leak
 below-next : (c : tie.Else2 Inv-states μ-states Inv-steps μ-steps)
-    → ForPast (c .before .before .before .before .before .args .past .now) (c .before .before .before .before .before .args .last) (λ p trace.
-    NoLeakBelow Weak p (secretOf (c .before .before .before .before .before .args .secret) (c .before .before .before .before .before .args .last)) trace
-    (c .before .before .before .before .steps .l + 1))
+    → ForPast (begin (turn c) .args .past .now) (begin (turn c) .args .last)
+    (λ p trace. NoLeakBelow Weak p (secretOf (begin (turn c) .args .secret) (begin (turn c) .args .last)) trace (turn c .steps .l + 1))
 below-next c p symbols entries n trace d few m =
-    below-step Weak p (secretOf (c .before .before .before .before .before .args .secret) (c .before .before .before .before .before .args .last)) trace _
-    (c .before .before .before .before .steps .inv .0 p symbols entries n trace d few m) (clear c p symbols entries n trace d few m)
+    below-step Weak p (secretOf (begin (turn c) .args .secret) (begin (turn c) .args .last)) trace _
+    (turn c .steps .inv .0 p symbols entries n trace d few m) (clear c p symbols entries n trace d few m)
 
 -- and the loop takes up step l + 1
 steps-again : tie.Need-steps-again Inv-states μ-states Inv-steps μ-steps
@@ -105,12 +111,12 @@ returns c = λ p s n d few.
 
 returns-2 : tie.Need-returns-2 Inv-states μ-states Inv-steps μ-steps
 returns-2 c = λ p s n d few.
+    let a = begin (turn (c .before)) .args in
     record {
       bounded = tt;
       exact = λ trace whole.
-          below-last Weak _ (secretOf (c .before .before .before .before .before .before .args .secret)
-          (c .before .before .before .before .before .before .args .last)) trace _ (omega arith)
-          (below-next (c .before) p _ _ n trace d few (remembers-part whole (c .before .before .before .before .before .before .args .last) few));
+          below-last Weak _ (secretOf (a .secret) (a .last)) trace _ (omega arith)
+          (below-next (c .before) p _ _ n trace d few (remembers-part whole (a .last) few));
     }
 
 -- What else is asked: numbers that fit, indices, and that the loops end

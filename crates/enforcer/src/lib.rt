@@ -1,5 +1,6 @@
 // The enforcer (01: Holder): it keeps symbols back until no reader of what is released can be sure of a secret, and rests on the verifier's verdicts alone.
-// `Enforcer::start` makes one under a notion, `Enforcer::offer` takes one symbol and releases those that have waited long enough; neither demands anything of its caller.
+// `Enforcer::start` makes one under a notion, `Enforcer::offer` takes one symbol and releases those that have waited
+// long enough; neither demands anything of its caller.
 use automaton::Header;
 use opacity::Further;
 use opacity::Notion;

@@ -74,8 +74,9 @@ pub record AcceptedWithin (h : Header) (self : Estimator) (j : Findings) (after 
   pub bounded : (notion : Notion) → ForEach (secretsOf h (self .further)) (λ i c. Bounded (c .k) (toldAt notion (j .each) i))
   pub size : SizeWithin (j .size)
 
--- `Estimator::accept`, a symbol offered to an estimator: 9, 6, 7, the last of one that has grown; a refusal hands back the estimator as it was. What is accepted leaves
--- an estimator within its limits with the same further secrets, two verdicts for each secret from 0 to its K or none, and 1 to 64 states, whatever it grew from
+-- `Estimator::accept`, a symbol offered to an estimator: 9, 6, 7, the last of one that has grown; a refusal hands back the estimator as it was.
+-- What is accepted leaves an estimator within its limits with the same further secrets, two verdicts for each secret from 0 to its K or none, and 1 to 64
+-- states, whatever it grew from
 pub record AcceptAnswers (t : List ℕ) (h : Header) (self : Estimator) (symbol : ℕ) (says : verifier.Said) (after : Estimator) : Type 0 where
   pub malformed : (says ≡ verifier.refused 9) ↔ (WellFormed t h × estimator.InLimits h self → ⊥)
   pub not-observable : (says ≡ verifier.refused 6) ↔ (WellFormed t h × estimator.InLimits h self × (Observable h symbol → ⊥))
@@ -94,7 +95,8 @@ pub record AcceptByAnswers (t : List ℕ) (h : Header) (self : Estimator) (symbo
   pub malformed : (says ≡ verifier.refused-by 9) ↔ (WellFormed t h × estimator.InLimits h self → ⊥)
   pub not-observable : (says ≡ verifier.refused-by 6) ↔ (WellFormed t h × estimator.InLimits h self × (Observable h symbol → ⊥))
   pub incompatible : (trace : List ℕ) → estimator.GrownOn t h trace self
-      → (says ≡ verifier.refused-by 7) ↔ (WellFormed t h × estimator.InLimits h self × Observable h symbol × Impossible (automatonOf t h) (trace ++ symbol ∷ []))
+      → (says ≡ verifier.refused-by 7)
+        ↔ (WellFormed t h × estimator.InLimits h self × Observable h symbol × Impossible (automatonOf t h) (trace ++ symbol ∷ []))
   pub no-other : (n : ℕ) → says ≡ verifier.refused-by n → (n ≡ 9) ⊎ ((n ≡ 6) ⊎ (n ≡ 7))
   pub unchanged : (n : ℕ) → says ≡ verifier.refused-by n → after ≡ self
 
@@ -123,9 +125,9 @@ pub record ReleasedWithin (h : Header) (self : Enforcer) (byte : ℕ) (output : 
   pub rest : enforcer.pendingOf after ≡ drop (r .count) (enforcer.pendingOf self ++ byte ∷ [])
   pub size : SizeWithin (r .size)
 
--- `Enforcer::offer`, a symbol offered to an enforcer: 9, 10, 6, 7, the last of one that has grown; a refusal hands back the enforcer and leaves the output as they
--- were. What is accepted releases a beginning of what is pending with the new symbol behind, to the front of the output, and stays within the limits, whatever it grew
--- from
+-- `Enforcer::offer`, a symbol offered to an enforcer: 9, 10, 6, 7, the last of one that has grown; a refusal hands back the enforcer and
+-- leaves the output as they were. What is accepted releases a beginning of what is pending with the new symbol behind, to the front of the output, and stays
+-- within the limits, whatever it grew from
 pub record OfferAnswers (t : List ℕ) (h : Header) (self : Enforcer) (byte : ℕ) (output : List ℕ) (says : offering.OfferOutcome) (after : Enforcer)
     (left : List ℕ) : Type 0 where
   pub malformed : (says ≡ offering.refused 9) ↔ (WellFormed t h × enforcer.InLimits h self → ⊥)

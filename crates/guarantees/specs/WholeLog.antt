@@ -1,5 +1,6 @@
--- The log, from its input to its output: what the calls of the monitor print. That the program's loop hands on every byte that it reads, and what stands in its output
--- then, is `log_output/proofs/FedLog`: `ran-log` (above the system calls, of which no contract speaks); its statement is `log_output/specs/Feeding`: `LeftBehind`.
+-- The log, from its input to its output: what the calls of the monitor print. That the program's loop hands on every byte that it reads, and what stands in
+-- its output then, is `log_output/proofs/FedLog`: `ran-log` (above the system calls, of which no contract speaks); its statement
+-- is `log_output/specs/Feeding`: `LeftBehind`.
 use mathlib.Core.Path.{_≡_}
 use mathlib.Core.List.{List}
 use mathlib.Core.Logic.{_↔_}

@@ -47,7 +47,7 @@ use denote.Exit.{yes}
 use denote.Triple.Clauses.{ensured, lasts}
 use Rattle.bitfields.specs.Bits.{bitsOf}
 use Rattle.encoding.specs.Transitions.{symbolsAt}
-use Rattle.encoding.specs.Encoding.{symbols, preamble}
+use Rattle.encoding.specs.Encoding.{symbols}
 use Rattle.encoding.specs.Answers.{checkedMeans}
 use Rattle.encoding.proofs.Carried.{symbols-at}
 use Rattle.bitfields.specs.declared.Reader.{Reader}

@@ -42,7 +42,7 @@ use denote.Triple.Clauses.{ensured, lasts}
 use Rattle.bitfields.specs.Bits.{bitsOf}
 use Rattle.bitfields.specs.Parser.{field}
 use Rattle.bitfields.specs.Answers.{fieldMeans}
-use Rattle.encoding.specs.Encoding.{fixed, preamble}
+use Rattle.encoding.specs.Encoding.{fixed}
 use Rattle.encoding.specs.Answers.{fixedMeans}
 use Rattle.encoding.proofs.Carried.{field-at}
 use Rattle.bitfields.specs.declared.Reader.{Reader}

@@ -42,7 +42,7 @@ use denote.Triple.Clauses.{ensured, lasts}
 use Rattle.bitfields.specs.Bits.{bitsOf}
 use Rattle.bitfields.specs.Parser.{flags}
 use Rattle.bitfields.specs.Answers.{flagsMeans}
-use Rattle.encoding.specs.Encoding.{fixed, front, preamble}
+use Rattle.encoding.specs.Encoding.{fixed, front}
 use Rattle.encoding.specs.Answers.{fixedMeans, frontMeans, FixedAnswerSmall}
 use Rattle.encoding.specs.Answers.{statesOf, eventsOf}
 use Rattle.encoding.proofs.Carried.{flags-at}

@@ -46,7 +46,7 @@ use denote.Exit.{yes}
 use denote.Triple.Clauses.{ensured, lasts}
 use Rattle.bitfields.specs.Bits.{bitsOf}
 use Rattle.encoding.specs.Transitions.{transitionsAt}
-use Rattle.encoding.specs.Encoding.{symbolCount, preamble}
+use Rattle.encoding.specs.Encoding.{symbolCount}
 use Rattle.encoding.specs.Answers.{frontEnd, preambleEnd, givenSymbols, headerOf, FrontSmall}
 use Rattle.encoding.specs.Table.{tableOf}
 use Rattle.encoding.proofs.Again.{LentAgain, lends-again, comes-back}

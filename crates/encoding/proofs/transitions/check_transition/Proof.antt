@@ -43,7 +43,7 @@ use Rattle.bitfields.specs.Bits.{bitsOf}
 use Rattle.bitfields.specs.Parser.{field}
 use Rattle.bitfields.specs.Answers.{fieldMeans}
 use Rattle.encoding.specs.Transitions.{transitionAt}
-use Rattle.encoding.specs.Encoding.{transition, transitions}
+use Rattle.encoding.specs.Encoding.{transition}
 use Rattle.encoding.specs.Answers.{checkedMeans}
 use Rattle.encoding.proofs.Carried.{field-at}
 use Rattle.bitfields.specs.declared.Reader.{Reader}

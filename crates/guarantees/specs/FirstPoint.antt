@@ -96,7 +96,7 @@ pub record AcceptByAnswers (t : List ℕ) (h : Header) (self : Estimator) (symbo
   pub not-observable : (says ≡ verifier.refused-by 6) ↔ (WellFormed t h × estimator.InLimits h self × (Observable h symbol → ⊥))
   pub incompatible : (trace : List ℕ) → estimator.GrownOn t h trace self
       → (says ≡ verifier.refused-by 7)
-        ↔ (WellFormed t h × estimator.InLimits h self × Observable h symbol × Impossible (automatonOf t h) (trace ++ symbol ∷ []))
+      ↔ (WellFormed t h × estimator.InLimits h self × Observable h symbol × Impossible (automatonOf t h) (trace ++ symbol ∷ []))
   pub no-other : (n : ℕ) → says ≡ verifier.refused-by n → (n ≡ 9) ⊎ ((n ≡ 6) ⊎ (n ≡ 7))
   pub unchanged : (n : ℕ) → says ≡ verifier.refused-by n → after ≡ self
 

@@ -34,7 +34,7 @@ abbrev pub FreshSaved : Type 0
 FreshSaved = (t header further estimator judgement : List ℕ) (answer : ℕ) (s told : List ℕ) → Fresh t header further estimator judgement answer s told
     → ((FreshSizes header further estimator judgement → ⊥) → answer ≡ 9) × ((answer ≡ 0 → ⊥) → (s ≡ estimator) × (told ≡ judgement))
     × (FreshSizes header further estimator judgement → (answer ≡ 0 → ⊥)
-      → (x : Estimator) × Opening t (headerAt header) (furtherAt further 0) (verifier.refused answer) x)
+    → (x : Estimator) × Opening t (headerAt header) (furtherAt further 0) (verifier.refused answer) x)
 
 abbrev pub AcceptSaved : Type 0
 AcceptSaved = (t header : List ℕ) (symbol : ℕ) (estimator judgement : List ℕ) (answer : ℕ) (s told : List ℕ)

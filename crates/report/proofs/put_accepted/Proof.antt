@@ -47,7 +47,7 @@ returns c =
     ∙ judgement-lined (decimal (a .place)) (decimal (a .symbol)) (steps (j .verdicts .own .weak)) (steps (j .verdicts .own .strong)) (decimal (j .size))
     (symbols (a .released .now))) (omega arith)
     (then (place .number .ensures) (then (symbol .field .ensures) (then (judged .judgement-fields .ensures)
-      (then (released .symbols-field .ensures) (ended .put .ensures)))))
+    (then (released .symbols-field .ensures) (ended .put .ensures)))))
 
 pub put-accepted-spec : {M : Type 1} → statement M
 put-accepted-spec =

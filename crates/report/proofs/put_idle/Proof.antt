@@ -35,7 +35,7 @@ returns c =
     let a = start .args .opening in
     same (judgement-lined (decimal 0) (45 ∷ []) (steps (a .verdicts .own .weak)) (steps (a .verdicts .own .strong)) (decimal (a .size)) (45 ∷ [])) (omega arith)
     (then (zero-place .number .ensures) (then (no-symbol .dash .ensures) (then (judged .judgement-fields .ensures)
-      (then (none .dash2 .ensures) (ended .put .ensures)))))
+    (then (none .dash2 .ensures) (ended .put .ensures)))))
 
 pub put-idle-spec : {M : Type 1} → statement M
 put-idle-spec =

@@ -1,61 +1,44 @@
-// Decodes an automaton (01: description): its header, and its transitions into a lent table of 2,048 words.
-// The whole encoding is checked first (`first_pass`), so that a refusal leaves the table as it was; then the table is cleared and filled (`second_pass`).
-// Each pass makes one Reader of `bitfields` where it begins, which goes from field to field. Only `decode` is an entry: it demands nothing of its caller.
-mod preamble; // the fields before the transitions
-mod transitions; // the transitions, one after another
-mod first_pass; // all of an encoding is in order
-mod second_pass; // what it says is stored
+// An encoded automaton (01: description): the types for what its fields say, and the functions that judge them, count them and store them, over bytes and
+// plain values. All of this is inner: for `decoding` above, whose Reader goes from field to field and which has the entry.
+pub mod counts; // how many, and up to where: what the passes need of the fields that were read
+pub mod preamble; // the fields before the transitions, judged in the order of the layout
+pub mod transitions; // a transition: judged, compared with those before it, stored
+pub mod ending; // what stands behind the last transition
+pub mod header; // the header, with the symbol of each event
 
-use automaton::Header;
-use first_pass::check_bytes;
 use refusal::Refusal;
-use second_pass::read_bytes;
-ghost use mathlib.Core.Path.{_≡_};
-ghost use lib.ListN.{length, replicate};
-ghost use Rattle.encoding.specs.Decoding.{Decoding, refusedBy, answerMeans};
 
 // The fields that each encoding starts with: 32 bits.
-struct Fixed {
-    topstate: usize,
-    topevent: usize,
-    k: usize,
-    initial: usize,
-    count: usize,
-    symbols: usize,
+pub struct Fixed {
+    pub topstate: usize,
+    pub topevent: usize,
+    pub k: usize,
+    pub initial: usize,
+    pub count: usize,
+    pub symbols: usize,
 }
 
-enum FixedAnswer {
+pub enum FixedAnswer {
     Value(Fixed),
     Refused(Refusal),
 }
 
 // All of an encoding but the symbols and the transitions, which are read again where they are stored. (An enum can hold no array.)
-struct Front {
-    fixed: Fixed,
-    secret: u64,
-    observable: u64,
+pub struct Front {
+    pub fixed: Fixed,
+    pub secret: u64,
+    pub observable: u64,
 }
 
-enum FrontAnswer {
+pub enum FrontAnswer {
     Value(Front),
     Refused(Refusal),
 }
 
 // What a check answers.
-enum Checked {
+pub enum Checked {
     Valid,
     Refused(Refusal),
-}
-
-// What decoding answers. The header stands beside it; of a refused call it is none: K is 255, outside its limit, so that every entry refuses it.
-pub enum Answer {
-    Accepted,
-    Refused(Refusal),
-}
-
-pub struct Decoded {
-    pub header: Header,
-    pub answer: Answer,
 }
 
 // The numbers of a transition (01: move), as an encoding lists it.
@@ -63,49 +46,4 @@ pub struct ListedTransition {
     pub from: usize,
     pub event: usize,
     pub to: usize,
-}
-
-fn clear(table: &mut [u64])
-    ensures { λ _. ⌜ now (table .exit) ≡ replicate (length (now (table .entry))) 0 ⌝ }
-{
-    let mut i: usize = 0;
-    while i < table.len() {
-        table[i] = 0;
-        i += 1;
-    }
-}
-
-fn refused(refusal: Refusal) -> Decoded
-    ensures { λ r. ⌜ r ≡ refusedBy refusal ⌝ }
-{
-    Decoded {
-        header: Header {
-            initial: 0,
-            k: 255,
-            secret: 0,
-            observable: 0,
-            symbols: [0u8; 32],
-        },
-        answer: Answer::Refused(refusal),
-    }
-}
-
-// Decodes an automaton: the header, and the transitions into the table. A refusal leaves the table as it was.
-pub fn decode(bytes: &[u8], table: &mut [u64]) -> Decoded
-    ensures { λ r. ⌜ Decoding (now (bytes .entry)) (now (table .entry)) (r .header) (answerMeans (r .answer)) (now (table .exit)) ⌝ }
-{
-    if table.len() != 2048 {
-        return refused(Refusal::Malformed);
-    }
-    match check_bytes(bytes) {
-        FrontAnswer::Refused(r) => refused(r),
-        FrontAnswer::Value(f) => {
-            clear(table);
-            let header = read_bytes(bytes, f, table);
-            Decoded {
-                header: header,
-                answer: Answer::Accepted,
-            }
-        }
-    }
 }

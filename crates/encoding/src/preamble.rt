@@ -1,5 +1,4 @@
-// The front of an encoding and the symbols behind it: the Reader goes from field to field, and what the fields answered is judged in the order of
-// the layout. (A walk over the Reader has no branch, so a covered function decides; reading on behind a refusal is harmless.)
+// The front of an encoding and the symbols behind it: what the fields answered, one after another, is judged in the order of the layout.
 use super::Checked;
 use super::Fixed;
 use super::FixedAnswer;
@@ -7,7 +6,6 @@ use super::Front;
 use super::FrontAnswer;
 use bitfields::Field;
 use bitfields::Flags;
-use bitfields::Reader;
 use refusal::Refusal;
 ghost use mathlib.Core.Path.{_≡_};
 ghost use mathlib.Core.List.{List};
@@ -17,23 +15,11 @@ ghost use Rattle.bitfields.specs.Bits.{bitsOf};
 ghost use Rattle.bitfields.specs.Parser.{field, flags};
 ghost use Rattle.bitfields.specs.Answers.{fieldMeans, flagsMeans};
 ghost use Rattle.encoding.specs.Transitions.{symbolsAt};
-ghost use Rattle.encoding.specs.Encoding.{fixed, front, symbols, preamble, symbolCount};
-ghost use Rattle.encoding.specs.Answers.{fixedMeans, frontMeans, preambleMeans, checkedMeans};
-ghost use Rattle.encoding.specs.Answers.{
-  FixedSmall,
-  FrontSmall,
-  FixedAnswerSmall,
-  FrontAnswerSmall,
-  frontEnd,
-  preambleEnd,
-  statesOf,
-  eventsOf,
-  endOf,
-  symbolsOf,
-};
+ghost use Rattle.encoding.specs.Encoding.{fixed, front, symbols, preamble};
+ghost use Rattle.encoding.specs.Answers.{fixedMeans, frontMeans, preambleMeans, checkedMeans, statesOf, eventsOf, endOf, symbolsOf};
 
 // The fields that each encoding starts with, as they were read one after another: each with its own check.
-fn fixed_from(
+pub fn fixed_from(
     states: Field,
     events: Field,
     back: Field,
@@ -76,47 +62,7 @@ fn fixed_from(
     })
 }
 
-// The reader goes from field to field.
-fn read_fixed<'a>(reader: Reader<'a>) -> FixedAnswer
-    requires { ⌜ reader .position ≡ 0 ⌝ }
-    ensures { λ r. ⌜ fixedMeans r ≡ fixed (bitsOf (now (reader .entry .bytes))) 0 ⌝ }
-{
-    let states = bitfields::field_of(reader, 6);
-    let reader = bitfields::past(reader, 6);
-    let events = bitfields::field_of(reader, 5);
-    let reader = bitfields::past(reader, 5);
-    let back = bitfields::field_of(reader, 4);
-    let reader = bitfields::past(reader, 4);
-    let first = bitfields::field_of(reader, 6);
-    let reader = bitfields::past(reader, 6);
-    let number = bitfields::field_of(reader, 10);
-    let reader = bitfields::past(reader, 10);
-    let follow = bitfields::field_of(reader, 1);
-    fixed_from(states, events, back, first, number, follow)
-}
-
-// How many states and events the fixed fields name; none where they were refused.
-fn states_of(answer: FixedAnswer) -> usize
-    requires { ⌜ FixedAnswerSmall answer ⌝ }
-    ensures { λ r. ⌜ r ≡ statesOf answer ⌝ }
-{
-    match answer {
-        FixedAnswer::Refused(r) => 0,
-        FixedAnswer::Value(f) => f.topstate + 1,
-    }
-}
-
-fn events_of(answer: FixedAnswer) -> usize
-    requires { ⌜ FixedAnswerSmall answer ⌝ }
-    ensures { λ r. ⌜ r ≡ eventsOf answer ⌝ }
-{
-    match answer {
-        FixedAnswer::Refused(r) => 0,
-        FixedAnswer::Value(f) => f.topevent + 1,
-    }
-}
-
-fn front_from(answer: FixedAnswer, secret: Flags, observable: Flags) -> FrontAnswer
+pub fn front_from(answer: FixedAnswer, secret: Flags, observable: Flags) -> FrontAnswer
     ensures { λ r. ⌜ ((bits : List ℕ) → fixedMeans answer ≡ fixed bits 0 → flagsMeans (32 + statesOf answer) secret ≡ flags (statesOf answer) bits 32
         → flagsMeans (32 + statesOf answer + eventsOf answer) observable ≡ flags (eventsOf answer) bits (32 + statesOf answer)
         → frontMeans r ≡ front bits 0) ⌝ }
@@ -139,71 +85,8 @@ fn front_from(answer: FixedAnswer, secret: Flags, observable: Flags) -> FrontAns
     }
 }
 
-fn read_front<'a>(reader: Reader<'a>) -> FrontAnswer
-    requires { ⌜ reader .position ≡ 0 ⌝ }
-    ensures { λ r. ⌜ frontMeans r ≡ front (bitsOf (now (reader .entry .bytes))) 0 ⌝ }
-{
-    let fixed = read_fixed(reader);
-    let reader = bitfields::past(reader, 32);
-    let states = states_of(fixed);
-    let secret = bitfields::flags_of(reader, states);
-    let reader = bitfields::past(reader, states);
-    let events = events_of(fixed);
-    let observable = bitfields::flags_of(reader, events);
-    front_from(fixed, secret, observable)
-}
-
-// How many symbols are listed: none, or one for each event up to the top event.
-pub fn symbol_count(fixed: Fixed) -> usize
-    requires { ⌜ FixedSmall fixed ⌝ }
-    ensures { λ r. ⌜ r ≡ symbolCount fixed ⌝ }
-{
-    if fixed.symbols == 0 {
-        return 0;
-    }
-    fixed.topevent + 1
-}
-
-// The position after the observable bits, where the symbols stand.
-pub fn front_end(front: Front) -> usize
-    requires { ⌜ FrontSmall front ⌝ }
-    ensures { λ r. ⌜ r ≡ frontEnd front ⌝ }
-{
-    let fixed = front.fixed;
-    32 + (fixed.topstate + 1) + (fixed.topevent + 1)
-}
-
-// The position of the first transition.
-pub fn preamble_end(front: Front) -> usize
-    requires { ⌜ FrontSmall front ⌝ }
-    ensures { λ r. ⌜ r ≡ preambleEnd front ⌝ }
-{
-    front_end(front) + symbol_count(front.fixed) * 5
-}
-
-// Where the front ends, and how many symbols stand behind it; none where it was refused.
-fn end_of(answer: FrontAnswer) -> usize
-    requires { ⌜ FrontAnswerSmall answer ⌝ }
-    ensures { λ r. ⌜ r ≡ endOf answer ⌝ }
-{
-    match answer {
-        FrontAnswer::Refused(r) => 0,
-        FrontAnswer::Value(f) => front_end(f),
-    }
-}
-
-fn symbols_of(answer: FrontAnswer) -> usize
-    requires { ⌜ FrontAnswerSmall answer ⌝ }
-    ensures { λ r. ⌜ r ≡ symbolsOf answer ⌝ }
-{
-    match answer {
-        FrontAnswer::Refused(r) => 0,
-        FrontAnswer::Value(f) => symbol_count(f.fixed),
-    }
-}
-
 // A symbol of 5 bits needs no check of its own, only the bits.
-fn symbols_at(bytes: &[u8], at: usize, n: usize) -> Checked
+pub fn symbols_at(bytes: &[u8], at: usize, n: usize) -> Checked
     requires { ⌜ (at ≤ 1024) × (n ≤ 32) × (at ≤ length (bitsOf (now bytes))) ⌝ }
     ensures { λ r. ⌜ checkedMeans (symbolsAt (bitsOf (now (bytes .entry))) at n) (at + n * 5) r ≡ symbols n (bitsOf (now (bytes .entry))) at ⌝ }
 {
@@ -213,16 +96,7 @@ fn symbols_at(bytes: &[u8], at: usize, n: usize) -> Checked
     Checked::Valid
 }
 
-// The `n` symbols at the reader's position.
-fn check_symbols<'a>(reader: Reader<'a>, n: usize) -> Checked
-    requires { ⌜ (reader .position ≤ 1024) × (n ≤ 32) × (reader .position ≤ length (bitsOf (now (reader .bytes)))) ⌝ }
-    ensures { λ r. ⌜ checkedMeans (symbolsAt (bitsOf (now (reader .entry .bytes))) (reader .entry .position) n) (reader .entry .position + n * 5) r
-        ≡ symbols n (bitsOf (now (reader .entry .bytes))) (reader .entry .position) ⌝ }
-{
-    symbols_at(reader.bytes, reader.position, n)
-}
-
-fn preamble_from(answer: FrontAnswer, listed: Checked) -> FrontAnswer
+pub fn preamble_from(answer: FrontAnswer, listed: Checked) -> FrontAnswer
     ensures { λ r. ⌜ ((bits : List ℕ) → frontMeans answer ≡ front bits 0
         → checkedMeans (symbolsAt bits (endOf answer) (symbolsOf answer)) (endOf answer + symbolsOf answer * 5) listed
         ≡ symbols (symbolsOf answer) bits (endOf answer)
@@ -235,17 +109,4 @@ fn preamble_from(answer: FrontAnswer, listed: Checked) -> FrontAnswer
             Checked::Valid => FrontAnswer::Value(f),
         },
     }
-}
-
-// The front and the symbols behind it.
-pub fn read_preamble<'a>(reader: Reader<'a>) -> FrontAnswer
-    requires { ⌜ reader .position ≡ 0 ⌝ }
-    ensures { λ r. ⌜ preambleMeans (bitsOf (now (reader .entry .bytes))) r ≡ preamble (bitsOf (now (reader .entry .bytes))) 0 ⌝ }
-{
-    let front = read_front(reader);
-    let end = end_of(front);
-    let reader = bitfields::past(reader, end);
-    let number = symbols_of(front);
-    let listed = check_symbols(reader, number);
-    preamble_from(front, listed)
 }

@@ -1,21 +1,22 @@
-// The transitions of an encoding, checked one after another: the Reader goes from field to field and from one transition to the next.
+// A transition of an encoding: its fields are judged, it is compared with those before it, and its bit is set.
 use super::Checked;
+use super::ListedTransition;
 use bitfields::Field;
-use bitfields::Reader;
 use refusal::Refusal;
 ghost use mathlib.Core.Path.{_≡_};
 ghost use mathlib.Core.List.{List};
-ghost use Prim.Native.Nat.{ℕ, _+_, _*_, _≤_};
+ghost use Prim.Native.Nat.{ℕ, _+_, _*_, _≤_, _<_};
 ghost use lib.ListN.{length};
 ghost use Rattle.bitfields.specs.Bits.{bitsOf};
 ghost use Rattle.bitfields.specs.Parser.{field};
 ghost use Rattle.bitfields.specs.Answers.{fieldMeans};
 ghost use Rattle.encoding.specs.Transitions.{listed, transitionAt, transitionsAt};
 ghost use Rattle.encoding.specs.Encoding.{transition, transitions};
+ghost use Rattle.encoding.specs.Table.{mark};
 ghost use Rattle.encoding.specs.Answers.{checkedMeans, Reaches};
 
 // A transition's fields as they were read, each with its own check.
-fn transition_from(
+pub fn transition_from(
     source: Field,
     label: Field,
     target: Field,
@@ -47,20 +48,6 @@ fn transition_from(
     Checked::Valid
 }
 
-// The transition at the reader's position.
-fn check_transition<'a>(reader: Reader<'a>, topstate: usize, topevent: usize) -> Checked
-    requires { ⌜ reader .position ≤ 65536 ⌝ }
-    ensures { λ r. ⌜ checkedMeans (transitionAt (bitsOf (now (reader .entry .bytes))) (reader .entry .position)) (reader .entry .position + 6 + 5 + 6) r
-        ≡ transition topstate topevent (bitsOf (now (reader .entry .bytes))) (reader .entry .position) ⌝ }
-{
-    let source = bitfields::field_of(reader, 6);
-    let reader = bitfields::past(reader, 6);
-    let label = bitfields::field_of(reader, 5);
-    let reader = bitfields::past(reader, 5);
-    let target = bitfields::field_of(reader, 6);
-    transition_from(source, label, target, topstate, topevent)
-}
-
 // Whether transition `n` of those from `at` on is the same as an earlier one. The 17 bits of each are compared as one number.
 fn repeated(bytes: &[u8], at: usize, n: usize) -> bool
     requires { ⌜ (at ≤ 1024) × (n ≤ 1023) × (at + n * 17 + 17 ≤ length (bitsOf (now bytes))) ⌝ }
@@ -79,7 +66,7 @@ fn repeated(bytes: &[u8], at: usize, n: usize) -> bool
 
 // From what the first `n` transitions from `at` on answered, and the fields of the next one: the first refusal, or whether it is one of those before
 // it. (Behind a refusal nothing is compared.)
-fn repeat_at(bytes: &[u8], at: usize, n: usize, earlier: Checked, one: Checked) -> Checked
+pub fn repeat_at(bytes: &[u8], at: usize, n: usize, earlier: Checked, one: Checked) -> Checked
     requires { ⌜ (at ≤ 1024) × (n ≤ 1023) × Reaches one (at + n * 17 + 17) (bitsOf (now bytes)) ⌝ }
     ensures { λ r. ⌜ ((s e : ℕ)
         → checkedMeans (transitionsAt (bitsOf (now (bytes .entry))) at n) (at + n * 17) earlier ≡ transitions s e n (bitsOf (now (bytes .entry))) at
@@ -102,40 +89,20 @@ fn repeat_at(bytes: &[u8], at: usize, n: usize, earlier: Checked, one: Checked) 
     }
 }
 
-// The same of the transitions from the reader's position on.
-fn check_repeat<'a>(reader: Reader<'a>, n: usize, earlier: Checked, one: Checked) -> Checked
-    requires { ⌜ (reader .position ≤ 1024) × (n ≤ 1023) × Reaches one (reader .position + n * 17 + 17) (bitsOf (now (reader .bytes))) ⌝ }
-    ensures { λ r. ⌜ ((s e : ℕ)
-        → checkedMeans (transitionsAt (bitsOf (now (reader .entry .bytes))) (reader .entry .position) n) (reader .entry .position + n * 17) earlier
-        ≡ transitions s e n (bitsOf (now (reader .entry .bytes))) (reader .entry .position)
-        → checkedMeans (transitionAt (bitsOf (now (reader .entry .bytes))) (reader .entry .position + n * 17)) (reader .entry .position + n * 17 + 6 + 5 + 6)
-        one
-        ≡ transition s e (bitsOf (now (reader .entry .bytes))) (reader .entry .position + n * 17)
-        → checkedMeans (transitionsAt (bitsOf (now (reader .entry .bytes))) (reader .entry .position) (n + 1)) (reader .entry .position + (n + 1) * 17) r
-        ≡ transitions s e (n + 1) (bitsOf (now (reader .entry .bytes))) (reader .entry .position)) ⌝ }
+pub fn numbers(from: usize, event: usize, to: usize) -> ListedTransition
+    ensures { λ r. ⌜ r ≡ record { from = from; event = event; to = to } ⌝ }
 {
-    repeat_at(reader.bytes, reader.position, n, earlier, one)
+    ListedTransition { from, event, to }
 }
 
-// The transitions from the reader's position on, one after another: each with its own checks, and then against all before it.
-pub fn check_transitions<'a>(
-    reader: Reader<'a>,
-    topstate: usize,
-    topevent: usize,
-    count: usize,
-) -> Checked
-    requires { ⌜ (reader .position ≤ 1024) × (count ≤ 1023) ⌝ }
-    ensures { λ r. ⌜ checkedMeans (transitionsAt (bitsOf (now (reader .entry .bytes))) (reader .entry .position) count) (reader .entry .position + count * 17) r
-        ≡ transitions topstate topevent count (bitsOf (now (reader .entry .bytes))) (reader .entry .position) ⌝ }
+// Sets the bit of a transition.
+pub fn place(table: &mut [u64], read: ListedTransition)
+    requires { ⌜ (length (now table) ≡ 2048) × (read .from < 64) × (read .event < 32) × (read .to < 64) ⌝ }
+    ensures { λ _. ⌜ now (table .exit) ≡ mark (now (table .entry)) read ⌝ }
 {
-    let mut next = reader;
-    let mut checked = Checked::Valid;
-    let mut i: usize = 0;
-    while i < count {
-        let one = check_transition(next, topstate, topevent);
-        checked = check_repeat(reader, i, checked, one);
-        next = bitfields::past(next, 17);
-        i += 1;
-    }
-    checked
+    let from = read.from;
+    let event = read.event;
+    let to = read.to;
+    let word = 64 * event + from;
+    table[word] |= 1u64 << to;
 }

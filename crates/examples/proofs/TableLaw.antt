@@ -10,7 +10,7 @@ use Rattle.encoding.specs.Transitions.{sameTransition}
 use Rattle.encoding.specs.declared.ListedTransition.{ListedTransition}
 use Rattle.encoding.specs.Table.{Holds, tableOf}
 use Rattle.encoding.proofs.Stored.{Small, holds-all}
-use Rattle.encoding.proofs.Listing.{Placed, listed-exactly}
+use Rattle.decoding.proofs.Listing.{Placed, listed-exactly}
 use Rattle.examples.specs.Meaning.{TableOf}
 use Rattle.examples.proofs.Booleans.{every, and-left, and-right, is-true, from-true, meet}
 use Rattle.examples.proofs.SearchLaws.{triple, Listing, listed-any, transition-is}

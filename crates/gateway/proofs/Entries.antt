@@ -6,9 +6,9 @@ use lib.ListN.{length}
 use Rattle.refusal.specs.Refusals.{numberOf}
 use Rattle.automaton.specs.declared.Header.{Header}
 use Rattle.refusal.specs.declared.Refusal.{Refusal}
-use Rattle.encoding.specs.Decoding as decoding
-use Rattle.encoding.specs.Decoding.{Decoding, answerMeans}
-use Rattle.encoding.specs.declared.Answer as decoded
+use Rattle.decoding.specs.Decoding as decoding
+use Rattle.decoding.specs.Decoding.{Decoding, answerMeans}
+use Rattle.decoding.specs.declared.Answer as decoded
 use Rattle.opacity.specs.declared.Notion.{Notion}
 use Rattle.opacity.specs.declared.Further.{Further}
 use Rattle.verifier.specs.declared.Estimator.{Estimator}

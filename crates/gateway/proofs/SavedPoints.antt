@@ -6,8 +6,8 @@ use native.Mathlib.Omega.{arith}
 use lib.ListN.{length, getD}
 use Rattle.automaton.specs.Run.{Automaton, automatonOf, WellFormed}
 use Rattle.automaton.specs.declared.Header.{Header}
-use Rattle.encoding.specs.Decoding.{Decoding, accept}
-use Rattle.encoding.proofs.Listing.{decoded-well-formed}
+use Rattle.decoding.specs.Decoding.{Decoding, accept}
+use Rattle.decoding.proofs.Listing.{decoded-well-formed}
 use Rattle.opacity.specs.declared.Notion.{Notion}
 use Rattle.opacity.specs.declared.Secret.{Secret}
 use Rattle.opacity.specs.declared.Further.{Further}

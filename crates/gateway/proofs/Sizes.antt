@@ -4,7 +4,7 @@ use mathlib.Core.Path.{_≡_}
 use mathlib.Core.List.{List}
 use Rattle.automaton.specs.declared.Header.{Header}
 use Rattle.encoding.specs.Encoding.{front, symbols}
-use Rattle.encoding.specs.Decoding.{Decoding, accept}
+use Rattle.decoding.specs.Decoding.{Decoding, accept}
 use Rattle.encoding.proofs.Ended.{secret-fits, observable-fits, encoding-in}
 use Rattle.encoding.proofs.HeaderSymbols.{header-length}
 use Rattle.layout.specs.Layout.{headerAt, headerBytes, HeaderSized}

@@ -5,7 +5,7 @@ use mathlib.Core.Path.{_≡_}
 use mathlib.Core.List.{List}
 use lib.ListN.{length, getD}
 use Rattle.automaton.specs.declared.Header.{Header}
-use Rattle.encoding.specs.Decoding.{Decoding, accept, refuse}
+use Rattle.decoding.specs.Decoding.{Decoding, accept, refuse}
 use Rattle.opacity.specs.declared.Further.{Further}
 use Rattle.verifier.specs.declared.Estimator.{Estimator}
 use Rattle.opacity.specs.Secrets.{Allowed, TooLarge}

@@ -1,6 +1,6 @@
 // The interface for a gateway in C or Rust: include/opacity.h describes it. Headers and saved states are bytes of a fixed layout (`layout`); each function
 // answers 0, or the number of a refusal, and then leaves every slice that it was lent as it was.
-use encoding::Answer as Decoded;
+use decoding::Answer as Decoded;
 use enforcer::Enforcer;
 use enforcer::OfferAnswer;
 use enforcer::StartAnswer;
@@ -20,7 +20,7 @@ pub extern "C" fn opacity_decode(encoding: &[u8], table: &mut [u64], header: &mu
     if header.len() != sizes::HEADER_SIZE {
         return MALFORMED;
     }
-    let decoded = encoding::decode(encoding, table);
+    let decoded = decoding::decode(encoding, table);
     let answer = decoded.answer;
     match answer {
         Decoded::Refused(refusal) => refusal::number(refusal),

@@ -11,9 +11,9 @@ use Rattle.bitfields.specs.Bits.{bitsOf}
 use Rattle.bitfields.specs.Parser as parser
 use Rattle.bitfields.specs.Parser.{Parsed}
 use Rattle.bitfields.proofs.Parsing.{Never}
-use Rattle.encoding.proofs.Refusing.{encoding-never}
+use Rattle.decoding.proofs.Refusing.{encoding-never}
 use Rattle.encoding.specs.Encoding.{Encoding, encoding}
-use Rattle.encoding.specs.Decoding.{Outcome, accept, refuse, Decoding}
+use Rattle.decoding.specs.Decoding.{Outcome, accept, refuse, Decoding}
 use Rattle.opacity.proofs.Numbering.{allowed-not-large}
 use Rattle.verifier.specs.Replies as verifier
 use Rattle.verifier.specs.Replies.{Findings, FindingsBy, Opening, Accepting, AcceptingBy}

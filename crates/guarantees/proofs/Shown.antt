@@ -79,7 +79,7 @@ pub proposition-3 : published.Proposition3
 proposition-3 = estimators.proposition-3
 
 pub proposition-4 : published.Proposition4
-proposition-4 p secret μ = estimators.proposition-4 p (secret .k) μ (secret .states)
+proposition-4 p secret μ = estimators.proposition-4 p secret μ
 
 pub verifier-gamma : published.VerifierGamma
 verifier-gamma = estimators.verifier-gamma

@@ -13,7 +13,7 @@ use Rattle.bitfields.specs.Parser as parser
 use Rattle.encoding.specs.Encoding.{Encoding, encoding}
 use Rattle.encoding.specs.Table.{Holds}
 use Rattle.encoding.specs.Answers.{headerOf}
-use Rattle.encoding.specs.Decoding.{Outcome, accept, refuse, noHeader, Decoding}
+use Rattle.decoding.specs.Decoding.{Outcome, accept, refuse, noHeader, Decoding}
 use Rattle.automaton.specs.Run.{automatonOf, Impossible, Observable, WellFormed}
 use Rattle.automaton.specs.Reaching.{SizeWithin}
 use Rattle.automaton.specs.declared.Header.{Header}
@@ -30,7 +30,7 @@ use Rattle.enforcer.specs.Enforcers as enforcer
 use Rattle.enforcer.specs.Offerings as offering
 use Rattle.enforcer.specs.Offerings.{OpensAsLeak, Starting, Offering}
 
--- `encoding::decode`, of an encoding (01: description): 9 exactly where the table has not 2,048 words; else what the layout says of the bytes: the refusal of
+-- `decoding::decode`, of an encoding (01: description): 9 exactly where the table has not 2,048 words; else what the layout says of the bytes: the refusal of
 -- its first field or check that fails, or the header and a table with exactly the transitions that are listed. A refusal leaves the table, and hands back no
 -- automaton's header
 pub record LayoutRefuses (bytes : List ℕ) (n : ℕ) : Type 0 where

@@ -5,7 +5,7 @@ use Prim.Native.Nat.{ℕ, _≤_}
 use lib.ListN.{length, getD}
 use Rattle.automaton.specs.Run.{automatonOf}
 use Rattle.automaton.specs.declared.Header.{Header}
-use Rattle.encoding.specs.Decoding.{Decoding, accept, refuse}
+use Rattle.decoding.specs.Decoding.{Decoding, accept, refuse}
 use Rattle.opacity.specs.Secrets.{secretsOf, clearedOf, Allowed}
 use Rattle.verifier.specs.Estimators as estimator
 use Rattle.verifier.specs.declared.Estimator.{Estimator}

@@ -16,8 +16,8 @@ use Rattle.opacity.specs.declared.Verdict.the-variants.{NoLeak, Leak}
 use Rattle.opacity.specs.Secrets.{own}
 use Rattle.opacity.specs.Verdicts.{none, leak, stepsOf, LeakAt, IsVerdict}
 use Rattle.opacity.proofs.Exactness.{words-exactly}
-use Rattle.encoding.proofs.Refusing.{decoding-never}
-use Rattle.encoding.proofs.Listing.{decoded-well-formed}
+use Rattle.decoding.proofs.Refusing.{decoding-never}
+use Rattle.decoding.proofs.Listing.{decoded-well-formed}
 use Rattle.report.specs.Text.{digits, decimal, idleLine, endLine}
 use Rattle.monitor.specs.Opening.{frontSize, encodingOf, RightOwn}
 use Rattle.monitor.specs.Log.{OpeningLeak, Refused, truncated, not-decoded, initial-leak, Monitored, Output, refused, idle, ended, Idle, clear, leaks}

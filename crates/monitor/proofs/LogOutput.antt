@@ -11,7 +11,7 @@ use lib.Seq.{sets, sets-eq, length-sets, slice, slice-empty, take-at, drop-at, t
 use Rattle.lists.specs.Calls.{Chain, done, next}
 use Rattle.automaton.specs.Run.{automatonOf, WellFormed}
 use Rattle.automaton.specs.declared.Header.{Header}
-use Rattle.encoding.specs.Decoding.{Outcome, Decoding}
+use Rattle.decoding.specs.Decoding.{Outcome, Decoding}
 use Rattle.opacity.specs.declared.Notion.the-variants.{Weak}
 use Rattle.opacity.specs.Secrets.{own, noFurther, secretsOf, secretAt}
 use Rattle.opacity.specs.Verdicts.{leak, Tells}
@@ -36,7 +36,7 @@ use Rattle.monitor.specs.Running as running
 use Rattle.monitor.specs.Running.{Front, takenBy, writtenBy, Follows, all, stops, call, Runs}
 use Rattle.monitor.specs.declared.Monitor.{Monitor}
 use Rattle.monitor.proofs.Following.{lines-none, lines-append, lines-count}
-use Rattle.encoding.proofs.Listing.{decoded-well-formed}
+use Rattle.decoding.proofs.Listing.{decoded-well-formed}
 use Rattle.monitor.proofs.Endings.{with-none, with-some}
 use Rattle.monitor.proofs.LogPromise.{log-promise}
 use Rattle.monitor.proofs.OneOutput.{one-output}

@@ -19,7 +19,7 @@ use Rattle.verifier.specs.Replies as verifier
 use Rattle.verifier.specs.Replies.{Findings, findings, Accepting}
 use Rattle.verifier.proofs.SecondPoint.{right}
 use Rattle.verifier.proofs.Growing.{grown-limits}
-use Rattle.encoding.proofs.Listing.{decoded-well-formed}
+use Rattle.decoding.proofs.Listing.{decoded-well-formed}
 use Rattle.enforcer.specs.declared.Release.{Release}
 use Rattle.enforcer.specs.declared.Enforcer.{Enforcer}
 use Rattle.enforcer.specs.Offerings as enforcer

@@ -5,8 +5,8 @@ use Prim.Native.Nat.{ℕ, _+_, _-_}
 use native.Mathlib.Omega.{arith}
 use lib.ListN.{length, take, drop}
 use Rattle.automaton.specs.declared.Header.{Header}
-use Rattle.encoding.specs.Decoding.{Outcome, accept, refuse, Decoding}
-use Rattle.encoding.proofs.Only.{Same, one-decoding}
+use Rattle.decoding.specs.Decoding.{Outcome, accept, refuse, Decoding}
+use Rattle.decoding.proofs.Only.{Same, one-decoding}
 use Rattle.opacity.specs.declared.Notion.the-variants.{Weak}
 use Rattle.opacity.specs.declared.Verdict.{Verdict}
 use Rattle.opacity.specs.declared.Verdict.the-variants.{NoLeak, Leak}

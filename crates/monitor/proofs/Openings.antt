@@ -15,7 +15,7 @@ use Rattle.verifier.specs.Replies.{findings, OthersNoLeak}
 use Rattle.verifier.specs.Calls.{Right}
 use Rattle.verifier.proofs.SecondPoint.{right}
 use lib.ListN.{length, take, drop}
-use Rattle.encoding.specs.Decoding.{Outcome, accept, Decoding}
+use Rattle.decoding.specs.Decoding.{Outcome, accept, Decoding}
 use Rattle.enforcer.specs.declared.Enforcer.{Enforcer}
 use Rattle.enforcer.specs.Offerings as enforcer
 use Rattle.enforcer.specs.Offerings.{Starting}

@@ -9,7 +9,7 @@ use Rattle.automaton.specs.Reaching.{EstimateSize}
 use Rattle.refusal.specs.Refusals.{numberOf}
 use Rattle.automaton.specs.declared.Header.{Header}
 use Rattle.refusal.specs.declared.Refusal.{Refusal}
-use Rattle.encoding.specs.Decoding.{accept, refuse}
+use Rattle.decoding.specs.Decoding.{accept, refuse}
 use Rattle.opacity.specs.declared.Notion.{Notion}
 use Rattle.opacity.specs.declared.Notion.the-variants.{Weak, Strong}
 use Rattle.opacity.specs.declared.Verdict.the-variants.{NoLeak, Leak}

@@ -15,7 +15,7 @@ use Rattle.verifier.specs.Replies as verifier
 use Rattle.verifier.specs.Replies.{noLeaks, OthersNoLeak}
 use Rattle.automaton.specs.Reaching.{RightSize}
 use Rattle.verifier.specs.Estimators as estimators
-use Rattle.encoding.specs.Decoding.{Outcome, accept, refuse, Decoding}
+use Rattle.decoding.specs.Decoding.{Outcome, accept, refuse, Decoding}
 use Rattle.enforcer.specs.declared.Enforcer.{Enforcer}
 use Rattle.enforcer.specs.Enforcers as enforcers
 use Rattle.enforcer.specs.Offerings.{Starting, not-started, Unusable}

@@ -20,7 +20,7 @@ use Rattle.opacity.specs.declared.Secret.{Secret}
 use Rattle.opacity.specs.declared.Notion.the-variants.{Weak}
 use Rattle.opacity.specs.Verdicts.{Steps, none, leak, LeakAt, Tells, IsVerdict, Exactly}
 use Rattle.opacity.specs.declared.Further.{Further}
-use Rattle.opacity.specs.Secrets.{secretOf, secretsOf, secretAt}
+use Rattle.opacity.specs.Secrets.{secretsOf, secretAt}
 use Rattle.verifier.specs.Replies.{toldAt, Said}
 use Rattle.opacity.proofs.Exactness.{exactly}
 use Rattle.published.specs.Source.{Prefix, Trace, RightVerdict, SaysAfter}
@@ -156,77 +156,79 @@ module _ (p : Automaton) (K : ℕ) (μ : List ℕ) where
       let (still, unstill) = still-delayed p μ (length μ - i) q (omega arith) in
       ((λ x. unstill (there x)), (λ x. back (still x)))
 
-  module _ (secret : ℕ) where
-    -- m(k) ∈ 2^S exactly where the reader is sure k steps back
-    within-sure : (k : ℕ) → k ≤ K → Within (estimatorAfter p K μ) k secret → SureAt p secret μ (length μ - k)
-    within-sure k h within = estimate-sure p secret μ (length μ - k) (λ q x. within q (estimator-delayed k q h .1 x))
+-- of a secret, by the estimator with its own K
+module _ (p : Automaton) (secret : Secret) (μ : List ℕ) where
+  -- m(k) ∈ 2^S exactly where the reader is sure k steps back
+  within-sure : (k : ℕ) → k ≤ secret .k → Within (estimatorAfter p (secret .k) μ) k (secret .states) → SureAt p (secret .states) μ (length μ - k)
+  within-sure k h within = estimate-sure p (secret .states) μ (length μ - k) (λ q x. within q (estimator-delayed p (secret .k) μ k q h .1 x))
 
-    sure-within : (k : ℕ) → k ≤ K → SureAt p secret μ (length μ - k) → Within (estimatorAfter p K μ) k secret
-    sure-within k h sure q x = sure-estimate p secret μ (length μ - k) sure q (estimator-delayed k q h .0 x)
+  sure-within : (k : ℕ) → k ≤ secret .k → SureAt p (secret .states) μ (length μ - k) → Within (estimatorAfter p (secret .k) μ) k (secret .states)
+  sure-within k h sure q x = sure-estimate p (secret .states) μ (length μ - k) sure q (estimator-delayed p (secret .k) μ k q h .0 x)
 
-    -- where k is past |μ| the reader is sure |μ| steps back
-    within-all : (k : ℕ) → k ≤ K → length μ ≤ k → Within (estimatorAfter p K μ) k secret → SureAt p secret μ (length μ - length μ)
-    within-all k h far within =
-        let e : length μ - k ≡ length μ - length μ = omega arith in
-        subst (SureAt p secret μ) e (within-sure k h within)
+  -- where k is past |μ| the reader is sure |μ| steps back
+  within-all : (k : ℕ) → k ≤ secret .k → length μ ≤ k → Within (estimatorAfter p (secret .k) μ) k (secret .states)
+      → SureAt p (secret .states) μ (length μ - length μ)
+  within-all k h far within =
+      let e : length μ - k ≡ length μ - length μ = omega arith in
+      subst (SureAt p (secret .states) μ) e (within-sure k h within)
 
-    -- where it is not, it is a leak k steps back
-    within-leak : (k : ℕ) → k ≤ K → k ≤ length μ → Within (estimatorAfter p K μ) k secret → LeakAt Weak p (secretOf secret K) μ k
-    within-leak k h reached within = record { within = h; reached = reached; sure = within-sure k h within }
+  -- where it is not, it is a leak k steps back
+  within-leak : (k : ℕ) → k ≤ secret .k → k ≤ length μ → Within (estimatorAfter p (secret .k) μ) k (secret .states) → LeakAt Weak p secret μ k
+  within-leak k h reached within = record { within = h; reached = reached; sure = within-sure k h within }
 
-    none-words : Gamma (estimatorAfter p K μ) (secretOf secret K) none → IsVerdict Weak p (secretOf secret K) μ none
-    none-words never l x = never l (x .within) (sure-within l (x .within) (x .sure))
+  none-words : Gamma (estimatorAfter p (secret .k) μ) secret none → IsVerdict Weak p secret μ none
+  none-words never l x = never l (x .within) (sure-within l (x .within) (x .sure))
 
-    words-none : IsVerdict Weak p (secretOf secret K) μ none → Gamma (estimatorAfter p K μ) (secretOf secret K) none
-    words-none never k h within = go (decLe k (length μ))
-      where
-        go : Dec (k ≤ length μ) → ⊥
-        go (yes reached) = never k (within-leak k h reached within)
-        go (no far) = never (length μ) (record { within = omega arith; reached = omega arith; sure = within-all k h (omega arith) within })
+  words-none : IsVerdict Weak p secret μ none → Gamma (estimatorAfter p (secret .k) μ) secret none
+  words-none never k h within = go (decLe k (length μ))
+    where
+      go : Dec (k ≤ length μ) → ⊥
+      go (yes reached) = never k (within-leak k h reached within)
+      go (no far) = never (length μ) (record { within = omega arith; reached = omega arith; sure = within-all k h (omega arith) within })
 
-    leak-words : (l : ℕ) → Gamma (estimatorAfter p K μ) (secretOf secret K) (leak l) → IsVerdict Weak p (secretOf secret K) μ (leak l)
-    leak-words l (h, within, least) = (within-leak l h (reached (decLe l (length μ))) within, λ m less x. least m less (sure-within m (x .within) (x .sure)))
-      where
-        -- past |μ| step |μ| would be a lesser one
-        reached : Dec (l ≤ length μ) → l ≤ length μ
-        reached (yes d) = d
-        reached (no far) = absurd (least (length μ) (omega arith) (sure-within (length μ) (omega arith) (within-all l h (omega arith) within)))
+  leak-words : (l : ℕ) → Gamma (estimatorAfter p (secret .k) μ) secret (leak l) → IsVerdict Weak p secret μ (leak l)
+  leak-words l (h, within, least) = (within-leak l h (reached (decLe l (length μ))) within, λ m less x. least m less (sure-within m (x .within) (x .sure)))
+    where
+      -- past |μ| step |μ| would be a lesser one
+      reached : Dec (l ≤ length μ) → l ≤ length μ
+      reached (yes d) = d
+      reached (no far) = absurd (least (length μ) (omega arith) (sure-within (length μ) (omega arith) (within-all l h (omega arith) within)))
 
-    words-leak : (l : ℕ) → IsVerdict Weak p (secretOf secret K) μ (leak l) → Gamma (estimatorAfter p K μ) (secretOf secret K) (leak l)
-    words-leak l (x, least) =
-        let h = x .within in
-        let reached = x .reached in
-        (h, sure-within l h (x .sure), λ k less within. least k less (within-leak k (omega arith) (omega arith) within))
+  words-leak : (l : ℕ) → IsVerdict Weak p secret μ (leak l) → Gamma (estimatorAfter p (secret .k) μ) secret (leak l)
+  words-leak l (x, least) =
+      let h = x .within in
+      let reached = x .reached in
+      (h, sure-within l h (x .sure), λ k less within. least k less (within-leak k (omega arith) (omega arith) within))
 
-    -- Γ says what 01's words say
-    pub gamma-words : (v : Steps) → Gamma (estimatorAfter p K μ) (secretOf secret K) v ↔ IsVerdict Weak p (secretOf secret K) μ v
-    gamma-words none = (none-words, words-none)
-    gamma-words (leak l) = (leak-words l, words-leak l)
+  -- Γ says what 01's words say
+  pub gamma-words : (v : Steps) → Gamma (estimatorAfter p (secret .k) μ) secret v ↔ IsVerdict Weak p secret μ v
+  gamma-words none = (none-words, words-none)
+  gamma-words (leak l) = (leak-words l, words-leak l)
 
-    -- so a verdict that is exactly 01's is Γ's: leak l exactly where l is the least k up to K with m(k) ∈ 2^S, and none exactly where there is none
-    pub exactly-gamma : (v : Steps) → Exactly Weak p (secretOf secret K) μ v → (w : Steps) → (v ≡ w) ↔ Gamma (estimatorAfter p K μ) (secretOf secret K) w
-    exactly-gamma v x w =
-        let (there, back) = x w in
-        ((λ e. gamma-words w .1 (there e)), (λ y. back (gamma-words w .0 y)))
+  -- so a verdict that is exactly 01's is Γ's: leak l exactly where l is the least k up to K with m(k) ∈ 2^S, and none exactly where there is none
+  pub exactly-gamma : (v : Steps) → Exactly Weak p secret μ v → (w : Steps) → (v ≡ w) ↔ Gamma (estimatorAfter p (secret .k) μ) secret w
+  exactly-gamma v x w =
+      let (there, back) = x w in
+      ((λ e. gamma-words w .1 (there e)), (λ y. back (gamma-words w .0 y)))
 
-    -- and the one that our verifier promises is
-    pub verdict-gamma : (v : Steps) → Tells Weak p (secretOf secret K) μ v → (w : Steps) → (v ≡ w) ↔ Gamma (estimatorAfter p K μ) (secretOf secret K) w
-    verdict-gamma v tells = exactly-gamma v (exactly Weak p (secretOf secret K) μ v tells)
+  -- and the one that our verifier promises is
+  pub verdict-gamma : (v : Steps) → Tells Weak p secret μ v → (w : Steps) → (v ≡ w) ↔ Gamma (estimatorAfter p (secret .k) μ) secret w
+  verdict-gamma v tells = exactly-gamma v (exactly Weak p secret μ v tells)
 
-    -- Γ is a function: there is one verdict
-    pub one-gamma : (γ : Steps) × ((w : Steps) → (γ ≡ w) ↔ Gamma (estimatorAfter p K μ) (secretOf secret K) w)
-    one-gamma = let (v, tells) = every-verdict Weak p (secretOf secret K) μ in (v, verdict-gamma v tells)
+  -- Γ is a function: there is one verdict
+  pub one-gamma : (γ : Steps) × ((w : Steps) → (γ ≡ w) ↔ Gamma (estimatorAfter p (secret .k) μ) secret w)
+  one-gamma = let (v, tells) = every-verdict Weak p secret μ in (v, verdict-gamma v tells)
 
-    -- Proposition 4: the verifier whose verdict after μ is Γ(δ_D(m_init, μ)) "is sound and complete w.r.t. G, P, S and the K-step weak opacity". (The paper
-    -- goes from Proposition 3 to the leak sets; here m(k) is read as our delayed estimate, and 01's verdict, which is known to be right, as Γ's)
-    pub proposition-4 : Trace p μ → (γ : Steps) → Gamma (estimatorAfter p K μ) (secretOf secret K) γ → RightVerdict Weak p (secretOf secret K) μ γ
-    proposition-4 x γ gamma = go (every-verdict Weak p (secretOf secret K) μ)
-      where
-        go : (v : Steps) × Tells Weak p (secretOf secret K) μ v → RightVerdict Weak p (secretOf secret K) μ γ
-        go (v, tells) =
-            let e : v ≡ γ = verdict-gamma v tells γ .1 gamma in
-            subst (RightVerdict Weak p (secretOf secret K) μ) e
-            (right-verdict Weak p (secretOf secret K) μ v .0 (published p (secretOf secret K) μ x Weak v (exactly Weak p (secretOf secret K) μ v tells)))
+  -- Proposition 4: the verifier whose verdict after μ is Γ(δ_D(m_init, μ)) "is sound and complete w.r.t. G, P, S and the K-step weak opacity". (The paper
+  -- goes from Proposition 3 to the leak sets; here m(k) is read as our delayed estimate, and 01's verdict, which is known to be right, as Γ's)
+  pub proposition-4 : Trace p μ → (γ : Steps) → Gamma (estimatorAfter p (secret .k) μ) secret γ → RightVerdict Weak p secret μ γ
+  proposition-4 x γ gamma = go (every-verdict Weak p secret μ)
+    where
+      go : (v : Steps) × Tells Weak p secret μ v → RightVerdict Weak p secret μ γ
+      go (v, tells) =
+          let e : v ≡ γ = verdict-gamma v tells γ .1 gamma in
+          subst (RightVerdict Weak p secret μ) e
+          (right-verdict Weak p secret μ v .0 (published p secret μ x Weak v (exactly Weak p secret μ v tells)))
 
 -- a trace has one right verdict
 one-right : (p : Automaton) (secret : Secret) (μ : List ℕ) (v w : Steps) → RightVerdict Weak p secret μ v → RightVerdict Weak p secret μ w → v ≡ w
@@ -244,10 +246,10 @@ verifier-gamma t h f μ x r says =
       as-many = right .as-many;
       gamma = λ i given.
           let c = secretAt (secretsOf h f) i in
-          let (γ, only) = one-gamma p (c .k) μ (c .states) in
+          let (γ, only) = one-gamma p c μ in
           let gamma = only γ .0 refl in
           let v = toldAt Weak (right .told .each) i in
-          let e : γ ≡ v = one-right p c μ γ v (proposition-4 p (c .k) μ (c .states) x γ gamma) (right .each-right Weak i given) in
+          let e : γ ≡ v = one-right p c μ γ v (proposition-4 p c μ x γ gamma) (right .each-right Weak i given) in
           subst (Gamma (estimatorAfter p (c .k) μ) c) e gamma;
       current = λ K. size-current p K μ (right .told .size) .0 (right .size-right);
     }

@@ -9,7 +9,6 @@ use Rattle.stateset.specs.Set.{In}
 use Rattle.automaton.specs.Run.{Automaton, Transition, Step, Takes, endOf, shows, shown}
 use Rattle.automaton.proofs.Runs.{takes-front}
 use Rattle.opacity.specs.declared.Secret.{Secret}
-use Rattle.opacity.specs.Secrets.{secretOf}
 use Rattle.opacity.specs.declared.Notion.{Notion}
 use Rattle.opacity.specs.declared.Notion.the-variants.{Weak, Strong}
 use Rattle.published.specs.Source.{Prefix, Lang, Secretly, WeaklyOpaque, StronglyOpaque, Opaque}
@@ -123,89 +122,88 @@ module _ (p : Automaton) where
   word-prefix : (s : List ℕ) (run : List Step) → Reading p s run → (front : List Step) → Prefix Step front run → Prefix ℕ (wordOf front) s
   word-prefix s run x front pre = record { rest = wordOf (pre .rest); joins = sym (word-append front (pre .rest)) ∙ ap wordOf (pre .joins) ∙ x .spells }
 
-  module _ (secret : ℕ) where
+  module _ (secret : Secret) where
     -- and the one ends in a secret state where the other leads to one
-    marked : (s : List ℕ) (run : List Step) → Reading p s run → Secretly p secret run → Marked p secret s
+    marked : (s : List ℕ) (run : List Step) → Reading p s run → Secretly p (secret .states) run → Marked p (secret .states) s
     marked s run x bad = (endOf (p .initial) run, bad, leads s run x)
 
-    secretly : OneTarget p → (s : List ℕ) (run : List Step) → Reading p s run → Marked p secret s → Secretly p secret run
-    secretly d s run x m = subst (λ (q : ℕ). In q secret) (same-end p d (p .initial) s (m .0) (endOf (p .initial) run) (m .2) (leads s run x)) (m .1)
+    secretly : OneTarget p → (s : List ℕ) (run : List Step) → Reading p s run → Marked p (secret .states) s → Secretly p (secret .states) run
+    secretly d s run x m = subst (λ (q : ℕ). In q (secret .states)) (same-end p d (p .initial) s (m .0) (endOf (p .initial) run) (m .2) (leads s run x)) (m .1)
 
-    module _ (K : ℕ) where
-      near-steps : (s s′ : List ℕ) (run front : List Step) → Reading p s run → Reading p s′ front → length (projected p s) - length (projected p s′) ≤ K
-          → length (shown p run) - length (shown p front) ≤ K
-      near-steps s s′ run front x y near = omega (arith, ap length (shown-word s run x), ap length (shown-word s′ front y))
+    near-steps : (s s′ : List ℕ) (run front : List Step) → Reading p s run → Reading p s′ front → length (projected p s) - length (projected p s′) ≤ secret .k
+        → length (shown p run) - length (shown p front) ≤ secret .k
+    near-steps s s′ run front x y near = omega (arith, ap length (shown-word s run x), ap length (shown-word s′ front y))
 
-      near-words : (s s′ : List ℕ) (run front : List Step) → Reading p s run → Reading p s′ front → length (shown p run) - length (shown p front) ≤ K
-          → length (projected p s) - length (projected p s′) ≤ K
-      near-words s s′ run front x y near = omega (arith, ap length (shown-word s run x), ap length (shown-word s′ front y))
+    near-words : (s s′ : List ℕ) (run front : List Step) → Reading p s run → Reading p s′ front → length (shown p run) - length (shown p front) ≤ secret .k
+        → length (projected p s) - length (projected p s′) ≤ secret .k
+    near-words s s′ run front x y near = omega (arith, ap length (shown-word s run x), ap length (shown-word s′ front y))
 
-      weak-words : OneTarget p → WeaklyOpaque p (secretOf secret K) → WeaklyByWords p (secretOf secret K)
-      weak-words d opaque t lang t′ pre near bad =
-          let T = read t lang in
-          let T′ = start t (T .run) (T .reading) t′ pre in
-          let x = opaque (T .run) (T .reading .takes) (T′ .front) (T′ .begins) (near-steps t t′ (T .run) (T′ .front) (T .reading) (T′ .reading) near)
-          (secretly d t′ (T′ .front) (T′ .reading) bad) in
-          let S = own (x .s) (x .takes) in
-          let S′ = front-read (x .s) (x .s′) (x .takes) (x .begins) in
-          record {
-            s = wordOf (x .s);
-            s′ = wordOf (x .s′);
-            inside = (endOf (p .initial) (x .s), leads (wordOf (x .s)) (x .s) S);
-            begins = word-prefix (wordOf (x .s)) (x .s) S (x .s′) (x .begins);
-            like = sym (word-shown p (x .s)) ∙ x .like ∙ shown-word t (T .run) (T .reading);
-            like′ = sym (word-shown p (x .s′)) ∙ x .like′ ∙ shown-word t′ (T′ .front) (T′ .reading);
-            free = λ m. x .free (secretly d (wordOf (x .s′)) (x .s′) S′ m);
-          }
+    weak-words : OneTarget p → WeaklyOpaque p secret → WeaklyByWords p secret
+    weak-words d opaque t lang t′ pre near bad =
+        let T = read t lang in
+        let T′ = start t (T .run) (T .reading) t′ pre in
+        let x = opaque (T .run) (T .reading .takes) (T′ .front) (T′ .begins) (near-steps t t′ (T .run) (T′ .front) (T .reading) (T′ .reading) near)
+        (secretly d t′ (T′ .front) (T′ .reading) bad) in
+        let S = own (x .s) (x .takes) in
+        let S′ = front-read (x .s) (x .s′) (x .takes) (x .begins) in
+        record {
+          s = wordOf (x .s);
+          s′ = wordOf (x .s′);
+          inside = (endOf (p .initial) (x .s), leads (wordOf (x .s)) (x .s) S);
+          begins = word-prefix (wordOf (x .s)) (x .s) S (x .s′) (x .begins);
+          like = sym (word-shown p (x .s)) ∙ x .like ∙ shown-word t (T .run) (T .reading);
+          like′ = sym (word-shown p (x .s′)) ∙ x .like′ ∙ shown-word t′ (T′ .front) (T′ .reading);
+          free = λ m. x .free (secretly d (wordOf (x .s′)) (x .s′) S′ m);
+        }
 
-      words-weak : WeaklyByWords p (secretOf secret K) → WeaklyOpaque p (secretOf secret K)
-      words-weak opaque t lang t′ pre near bad =
-          let T = own t lang in
-          let T′ = front-read t t′ lang pre in
-          let x = opaque (wordOf t) (endOf (p .initial) t, leads (wordOf t) t T) (wordOf t′) (word-prefix (wordOf t) t T t′ pre)
-          (near-words (wordOf t) (wordOf t′) t t′ T T′ near) (marked (wordOf t′) t′ T′ bad) in
-          let S = read (x .s) (x .inside) in
-          let S′ = start (x .s) (S .run) (S .reading) (x .s′) (x .begins) in
-          record {
-            s = S .run;
-            s′ = S′ .front;
-            takes = S .reading .takes;
-            begins = S′ .begins;
-            like = shown-word (x .s) (S .run) (S .reading) ∙ x .like ∙ sym (word-shown p t);
-            like′ = shown-word (x .s′) (S′ .front) (S′ .reading) ∙ x .like′ ∙ sym (word-shown p t′);
-            free = λ b. x .free (marked (x .s′) (S′ .front) (S′ .reading) b);
-          }
+    words-weak : WeaklyByWords p secret → WeaklyOpaque p secret
+    words-weak opaque t lang t′ pre near bad =
+        let T = own t lang in
+        let T′ = front-read t t′ lang pre in
+        let x = opaque (wordOf t) (endOf (p .initial) t, leads (wordOf t) t T) (wordOf t′) (word-prefix (wordOf t) t T t′ pre)
+        (near-words (wordOf t) (wordOf t′) t t′ T T′ near) (marked (wordOf t′) t′ T′ bad) in
+        let S = read (x .s) (x .inside) in
+        let S′ = start (x .s) (S .run) (S .reading) (x .s′) (x .begins) in
+        record {
+          s = S .run;
+          s′ = S′ .front;
+          takes = S .reading .takes;
+          begins = S′ .begins;
+          like = shown-word (x .s) (S .run) (S .reading) ∙ x .like ∙ sym (word-shown p t);
+          like′ = shown-word (x .s′) (S′ .front) (S′ .reading) ∙ x .like′ ∙ sym (word-shown p t′);
+          free = λ b. x .free (marked (x .s′) (S′ .front) (S′ .reading) b);
+        }
 
-      strong-words : OneTarget p → StronglyOpaque p (secretOf secret K) → StronglyByWords p (secretOf secret K)
-      strong-words d opaque t lang =
-          let T = read t lang in
-          let x = opaque (T .run) (T .reading .takes) in
-          let S = own (x .s) (x .takes) in
-          record {
-            s = wordOf (x .s);
-            inside = (endOf (p .initial) (x .s), leads (wordOf (x .s)) (x .s) S);
-            like = sym (word-shown p (x .s)) ∙ x .like ∙ shown-word t (T .run) (T .reading);
-            free = λ s′ pre near m.
-                let S′ = start (wordOf (x .s)) (x .s) S s′ pre in
-                x .free (S′ .front) (S′ .begins) (near-steps (wordOf (x .s)) s′ (x .s) (S′ .front) S (S′ .reading) near)
-                (secretly d s′ (S′ .front) (S′ .reading) m);
-          }
+    strong-words : OneTarget p → StronglyOpaque p secret → StronglyByWords p secret
+    strong-words d opaque t lang =
+        let T = read t lang in
+        let x = opaque (T .run) (T .reading .takes) in
+        let S = own (x .s) (x .takes) in
+        record {
+          s = wordOf (x .s);
+          inside = (endOf (p .initial) (x .s), leads (wordOf (x .s)) (x .s) S);
+          like = sym (word-shown p (x .s)) ∙ x .like ∙ shown-word t (T .run) (T .reading);
+          free = λ s′ pre near m.
+              let S′ = start (wordOf (x .s)) (x .s) S s′ pre in
+              x .free (S′ .front) (S′ .begins) (near-steps (wordOf (x .s)) s′ (x .s) (S′ .front) S (S′ .reading) near)
+              (secretly d s′ (S′ .front) (S′ .reading) m);
+        }
 
-      words-strong : StronglyByWords p (secretOf secret K) → StronglyOpaque p (secretOf secret K)
-      words-strong opaque t lang =
-          let x = opaque (wordOf t) (endOf (p .initial) t, leads (wordOf t) t (own t lang)) in
-          let S = read (x .s) (x .inside) in
-          record {
-            s = S .run;
-            takes = S .reading .takes;
-            like = shown-word (x .s) (S .run) (S .reading) ∙ x .like ∙ sym (word-shown p t);
-            free = λ s′ pre near bad.
-                let S′ = front-read (S .run) s′ (S .reading .takes) pre in
-                x .free (wordOf s′) (word-prefix (x .s) (S .run) (S .reading) s′ pre) (near-words (x .s) (wordOf s′) (S .run) s′ (S .reading) S′ near)
-                (marked (wordOf s′) s′ S′ bad);
-          }
+    words-strong : StronglyByWords p secret → StronglyOpaque p secret
+    words-strong opaque t lang =
+        let x = opaque (wordOf t) (endOf (p .initial) t, leads (wordOf t) t (own t lang)) in
+        let S = read (x .s) (x .inside) in
+        record {
+          s = S .run;
+          takes = S .reading .takes;
+          like = shown-word (x .s) (S .run) (S .reading) ∙ x .like ∙ sym (word-shown p t);
+          free = λ s′ pre near bad.
+              let S′ = front-read (S .run) s′ (S .reading .takes) pre in
+              x .free (wordOf s′) (word-prefix (x .s) (S .run) (S .reading) s′ pre) (near-words (x .s) (wordOf s′) (S .run) s′ (S .reading) S′ near)
+              (marked (wordOf s′) s′ S′ bad);
+        }
 
 -- so with one target for each state and event the two forms of Definitions 3 and 4 are the same
 pub by-words : (notion : Notion) (p : Automaton) (secret : Secret) → OneTarget p → Opaque notion p secret ↔ OpaqueByWords notion p secret
-by-words Weak p secret d = (weak-words p (secret .states) (secret .k) d, words-weak p (secret .states) (secret .k))
-by-words Strong p secret d = (strong-words p (secret .states) (secret .k) d, words-strong p (secret .states) (secret .k))
+by-words Weak p secret d = (weak-words p secret d, words-weak p secret)
+by-words Strong p secret d = (strong-words p secret d, words-strong p secret)

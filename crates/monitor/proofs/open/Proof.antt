@@ -6,9 +6,9 @@ use Prim.Native.Nat.{ℕ, _-_, _≤_}
 use denote.Ref.{now}
 use lib.ListN.{length, take, drop, replicate}
 use Rattle.stateset.proofs.Decides.{holds, fails}
-use Rattle.encoding.specs.declared.Answer
-use Rattle.encoding.specs.Decoding.{answerMeans, Decoding}
-use Rattle.encoding.proofs.Listing.{decoded-well-formed}
+use Rattle.decoding.specs.declared.Answer
+use Rattle.decoding.specs.Decoding.{answerMeans, Decoding}
+use Rattle.decoding.proofs.Listing.{decoded-well-formed}
 use Rattle.monitor.specs.Opening.{openOutcome, frontSize, encodingOf, Decodes, Opening, not-decoded}
 use Rattle.monitor.proofs.Openings.{short, decodes, opens}
 use borrow.Author.Needs.{needs}

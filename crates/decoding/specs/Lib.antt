@@ -1,0 +1,2 @@
+-- What the contract of `decode` cites, over the layout (`encoding/specs`).
+pub mod Decoding

@@ -1,5 +1,8 @@
 -- `encoding::preamble::fixed_from` meets its contract: each field's answer, put into the parser of `specs/` in order, and the test after it.
+use mathlib.Core.Path.{_≡_}
 use borrow.Author.Tests.{le-leb, lt-leb}
+use Rattle.refusal.specs.declared.Refusal.the-variants.{Truncated}
+use Rattle.bitfields.specs.Parser.{field, refused}
 use Rattle.bitfields.proofs.Parsing.{got, ended}
 use Rattle.encoding.specs.Encoding.{fixed}
 use borrow.Author.Needs.{needs}
@@ -56,8 +59,9 @@ unfolding fixed
 returns-3 c =
     let k2 = c .before .before in
     let k1 = up2 k2 in
-    λ bits h1 h2 h3 h4 h5 h6. rw
-    (got h1 (k1 .before .states .given .1), got h2 (k2 .before .events .given .1), ended 15 h3 (c .enum-told3 .given .1))
+    λ bits h1 h2 h3 h4 h5 h6.
+    let cut : field 4 bits 11 ≡ refused Truncated = ended 15 h3 (c .enum-told3 .given .1) in
+    rw (got h1 (k1 .before .states .given .1), got h2 (k2 .before .events .given .1), cut)
 
 enum-known-first : tie.Need-enum-known-first
 enum-known-first c = search needs

@@ -16,6 +16,9 @@ use Rattle.refusal.specs.declared.Refusal.{Refusal}
 use Rattle.automaton.specs.Reaching.{Enters, EstimateSize, SizeWithin}
 use Rattle.automaton.specs.declared.Header.{Header}
 use Rattle.automaton.proofs.Estimates.{size-some, size-most}
+use Rattle.estimates.specs.Estimates.{Estimated, Stepped}
+use Rattle.estimates.specs.declared.Estimate.{Estimate}
+use Rattle.estimates.proofs.Estimating.{estimated-size}
 use Rattle.opacity.specs.declared.Notion.{Notion}
 use Rattle.opacity.specs.declared.Notion.the-variants.{Weak, Strong}
 use Rattle.opacity.specs.declared.Verdict.{Verdict}
@@ -25,7 +28,6 @@ use Rattle.opacity.specs.declared.Secret.{Secret}
 use Rattle.opacity.specs.declared.Further.{Further}
 use Rattle.verifier.specs.declared.SecretVerdicts.{SecretVerdicts}
 use Rattle.verifier.specs.declared.Judgement.{Judgement}
-use Rattle.verifier.specs.declared.Estimate.{Estimate}
 use Rattle.verifier.specs.declared.Estimator.{Estimator}
 use Rattle.opacity.specs.Verdicts.{Steps, none, leak, stepsOf, Tells}
 use Rattle.opacity.specs.Secrets.{secretOf, own, secretsOf, secretAt, ForEach, lookBackOf, clearedOf, Allowed}
@@ -33,8 +35,7 @@ use Rattle.verifier.specs.Estimators.{Limits, InLimits, Grown, GrownOn}
 use Rattle.verifier.specs.Replies.{FindingsBy, toldOf, noneTold, noLeaks, stepsBy, toldAt, numbered, toldEach, refused, said, OthersNoLeak, Others}
 use Rattle.verifier.specs.Replies.{refused-by, verdicts-by, saidBy, OthersBy, chosen, Bounded, Opening, opened, Accepting, accepted, Moved, TellsBy}
 use Rattle.verifier.specs.Replies.{AcceptingBy, turned-back, accepted-by}
-use Rattle.verifier.specs.Inner.{Estimated, Stepped, Found, upTo, Asks, askFor, chosenAnswer, WhereAsked, Judged, JudgedAt, JudgedAll, Opened}
-use Rattle.verifier.specs.Inner.{AcceptingAsked}
+use Rattle.verifier.specs.Inner.{Found, upTo, Asks, askFor, chosenAnswer, WhereAsked, Judged, JudgedAt, JudgedAll, Opened, AcceptingAsked}
 use Rattle.verifier.specs.declared.Reply.{Reply}
 use Rattle.verifier.specs.declared.Asked.{Asked}
 use Rattle.verifier.specs.declared.Answer.{Answer}
@@ -42,7 +43,6 @@ use Rattle.verifier.specs.declared.Answer.the-variants as answer
 use Rattle.opacity.proofs.Exactness.{sure-any, clear-any}
 use Rattle.opacity.proofs.Numbering.{getD-map, secret-back, how-many, how-many-most, same-secrets}
 use Rattle.verifier.proofs.Growing.{grown-remembers, grown-limits}
-use Rattle.verifier.proofs.Estimating.{estimated-size}
 
 -- the states right after the last event
 pub grown-entry : (p : Automaton) (K : ℕ) (trace : List ℕ) (s : Estimator) → Grown p K trace s → Is (getD (s .entries) 0 0) (Enters p trace)

@@ -1,6 +1,5 @@
 // The verdicts of each secret after the last symbol, and what an accepted answer holds.
 use super::Asked;
-use super::Estimate;
 use super::Estimator;
 use super::Judgement;
 use super::SecretVerdicts;
@@ -13,6 +12,7 @@ use super::look_back::weak_verdict;
 use super::several::strong_each;
 use super::several::up_to;
 use automaton::Header;
+use estimates::Estimate;
 use opacity::Secret;
 use opacity::Verdict;
 use opacity::Verdicts;
@@ -20,9 +20,10 @@ ghost use mathlib.Core.Path.{_≡_};
 ghost use Prim.Native.Nat.{_≤_, min};
 ghost use lib.ListN.{length, getD, replicate};
 ghost use Rattle.automaton.specs.Run.{automatonOf};
+ghost use Rattle.estimates.specs.Estimates.{UnobservableReach};
 ghost use Rattle.opacity.specs.declared.Notion.the-variants as notion;
 ghost use Rattle.opacity.specs.Secrets.{own, secretsOf, secretAt};
-ghost use Rattle.verifier.specs.Inner.{UnobservableReach, Prepared, Explored, Delayed, StrongGiven, StrongEach, Asks, Judged, JudgedAt, JudgedAll};
+ghost use Rattle.verifier.specs.Inner.{Prepared, Explored, Delayed, StrongGiven, StrongEach, Asks, Judged, JudgedAt, JudgedAll};
 
 fn smaller(a: u8, b: u8) -> u8
     ensures { λ r. ⌜ r ≡ min a b ⌝ }

@@ -1,18 +1,13 @@
 // The estimator (01: watch): it accepts one symbol after another, and answers for each how many states are possible and the verdicts of each secret.
 // Here the types, what is chosen by a notion, and the estimator's entries: `fresh`, `well_formed`, `accept`, `accept_by` demand nothing of their callers.
+// What is remembered of the symbols, and the states that are possible now, are worked out in the crate `estimates`.
 // The modules, each on those before it:
-mod estimates; // what is remembered, and the states that are possible now
 mod look_back; // over the steps back: the verdicts of one secret, and the sets m(l) for all
 mod several; // the strong verdicts of several secrets in one pass
 mod each_secret; // the verdicts of each secret
 
 use automaton::Header;
-use estimates::count_after;
-use estimates::entered;
-use estimates::estimate_from;
-use estimates::next_estimate;
-use estimates::push_entry;
-use estimates::push_symbol;
+use estimates::NextEstimate;
 use opacity::Further;
 use opacity::Notion;
 use opacity::Verdict;
@@ -26,11 +21,12 @@ ghost use Rattle.stateset.specs.Set.{Is, Decided};
 ghost use Rattle.automaton.specs.Run.{Automaton, Possible, WellFormed};
 ghost use Rattle.automaton.specs.Reaching.{Enters};
 ghost use Rattle.relation.specs.Relation.{Sub};
+ghost use Rattle.estimates.specs.Estimates.{Inside};
 ghost use Rattle.opacity.specs.Secrets.{Allowed};
 ghost use Rattle.verifier.specs.Estimators.{Limits, InLimits, Grown, GrownOn};
 ghost use Rattle.verifier.specs.declared.Answer.the-variants as answer;
 ghost use Rattle.verifier.specs.Replies.{said, saidBy, chosen, chosenEach, Others, OthersBy, Unusable, Opening, Accepting, AcceptingBy};
-ghost use Rattle.verifier.specs.Inner.{Inside, askFor, chosenAnswer, Opened, AcceptingAsked};
+ghost use Rattle.verifier.specs.Inner.{askFor, chosenAnswer, Opened, AcceptingAsked};
 
 // The two verdicts of each secret: the automaton's own, number 0, and the further ones, 1 to 3. Those of a place that is not given are NoLeak.
 pub struct SecretVerdicts {
@@ -92,21 +88,6 @@ pub struct ReplyBy {
 struct Asked {
     weak: bool,
     strong: bool,
-}
-
-// The states that are possible: right after the last symbol, then with the unobservable transitions after it, and how many these are. And states
-// that unobservable events do not leave, with all of them among these.
-pub struct Estimate {
-    pub entry: u64,
-    pub states: u64,
-    pub size: u8,
-    pub near: u64,
-}
-
-// The states that are possible after one more symbol, if a run is left.
-pub enum NextEstimate {
-    States(Estimate),
-    Empty,
 }
 
 // Asks for one notion.
@@ -223,12 +204,12 @@ impl Estimator {
             × ((p : Automaton) (trace : List ℕ) → Grown p k trace self → Is entry (Enters p (trace ++ symbol ∷ []))
             → Possible p (trace ++ symbol ∷ []) → Grown p k (trace ++ symbol ∷ []) r) ⌝ }
     {
-        let count = count_after(self.count, k);
+        let count = estimates::count_after(self.count, k);
         let old_symbols = self.symbols;
         let old_entries = self.entries;
         let further = self.further;
-        let symbols = push_symbol(old_symbols, count, symbol);
-        let entries = push_entry(old_entries, count + 1, entry);
+        let symbols = estimates::push_symbol(old_symbols, count, symbol);
+        let entries = estimates::push_entry(old_entries, count + 1, entry);
         Estimator {
             count: count,
             symbols: symbols,
@@ -255,7 +236,7 @@ impl Estimator {
     {
         let entry = self.entries[0];
         let mut silent = [0u64; 64];
-        let estimate = estimate_from(table, header, &mut silent, 0, 0, entry);
+        let estimate = estimates::estimate_from(table, header, &mut silent, 0, 0, entry);
         let mut sets = [0u32; 32];
         automaton::by_symbol(header, &mut sets);
         let mut back = [0u64; 64];
@@ -314,10 +295,10 @@ impl Estimator {
             return self.refused(Refusal::NotObservable);
         }
         let mut silent = [0u64; 64];
-        let from = entered(self);
+        let from = estimates::entered(self.entries);
         let near = automaton::silent_rows(table, header, &mut silent, 0, from);
         let newest = self.entries[0];
-        let next = next_estimate(table, header, &mut silent, near, newest, shown);
+        let next = estimates::next_estimate(table, header, &mut silent, near, newest, shown);
         let NextEstimate::States(estimate) = next else {
             return self.refused(Refusal::Incompatible);
         };

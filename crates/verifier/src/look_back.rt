@@ -1,8 +1,8 @@
 // Over the steps back (source 000's delayed estimates m(l)): the verdict of one secret by each notion, alone, and m(l) for all secrets at once.
 use super::Asked;
-use super::Estimate;
 use super::Estimator;
 use automaton::Header;
+use estimates::Estimate;
 use opacity::Verdict;
 ghost use mathlib.Core.Path.{_≡_};
 ghost use mathlib.Core.List.{List};
@@ -12,9 +12,10 @@ ghost use Rattle.stateset.specs.Set.{Is};
 ghost use Rattle.automaton.specs.Run.{Automaton, automatonOf};
 ghost use Rattle.automaton.specs.Reaching.{Enters, Arrives, Closed, Entered};
 ghost use Rattle.relation.specs.Relation.{Sub};
+ghost use Rattle.estimates.specs.Estimates.{UnobservableReach};
 ghost use Rattle.opacity.specs.declared.Notion.the-variants as notion;
 ghost use Rattle.opacity.specs.Secrets.{secretOf};
-ghost use Rattle.verifier.specs.Inner.{Sampled, UnobservableReach, Prepared, Found, Delayed, Asks};
+ghost use Rattle.verifier.specs.Inner.{Sampled, Prepared, Found, Delayed, Asks};
 
 // The unobservable events the other way round, where a look back over `last` steps needs them: where it takes no step, it does not, and the array stays.
 pub fn backward_rows(silent: &[u64], states: u64, last: u8, back: &mut [u64])

@@ -12,11 +12,11 @@ use Rattle.refusal.specs.declared.Refusal.the-variants as refusal
 use Rattle.automaton.specs.Reaching.{Showing}
 use Rattle.automaton.proofs.SymbolSets.{some-observable, none-observable, observable-small}
 use Rattle.automaton.proofs.Entering.{known-none}
+use Rattle.estimates.proofs.Estimating.{some-left, none-left, reach-as, gained-part}
 use Rattle.verifier.specs.Estimators.{Limits, InLimits}
 use Rattle.verifier.specs.Replies.{Accepting, not-observable, incompatible, Moved}
 use Rattle.opacity.proofs.Numbering.{look-back-small}
 use Rattle.verifier.proofs.Judging.{grown-entry, limits-as, moved-by, judged-by, refused-asked}
-use Rattle.verifier.proofs.Estimating.{some-left, none-left, reach-as, gained-part}
 use Rattle.verifier.proofs.Estimator.accept_asked.Statement.{statement}
 use Rattle.verifier.proofs.Estimator.accept_asked.Tie as tie
 
@@ -90,7 +90,7 @@ slice-aggregate-silent-rows : tie.Need-slice-aggregate-silent-rows
 slice-aggregate-silent-rows c = search needs
 
 silent-rows-requires : tie.Need-silent-rows-requires
-silent-rows-requires c κs = (ok (c .before .before .before .before .before .before .before .before) .0 .words, known-none _ _)
+silent-rows-requires c κs = (ok (c .before .before .before .before .before .before .before .before .before) .0 .words, known-none _ _)
 
 element-copy-out-newest : tie.Need-element-copy-out-newest
 element-copy-out-newest c = search needs
@@ -102,7 +102,7 @@ next-estimate-requires : tie.Need-next-estimate-requires
 next-estimate-requires c κs =
     let g = c .before .before .before in
     let f = g .before .before in
-    let e = f .before in
+    let e = f .before .before in
     let o = ok (first e) in (
       o .0 .words,
       o .0 .start,
@@ -122,7 +122,7 @@ refused-requires-3 c κs = search needs
 returns-3 : tie.Need-returns-3
 returns-3 c =
     let r = c .refused3 .ensures in
-    let e = c .before .before .before .before .before .before .before .before .before .before .before in
+    let e = c .before .before .before .before .before .before .before .before .before .before .before .before in
     let o = ok (first e) in
     refused-asked _ _ _ _ _ refusal.Incompatible _ (r .0) (r .1)
     (incompatible (o .0) (o .1) (observed e)
@@ -134,7 +134,7 @@ look-back-requires c κs = search needs
 
 push-requires : tie.Need-push-requires
 push-requires c κs =
-    let e = c .before .before .before .before .before .before .before .before .before .before .before .before .before in
+    let e = c .before .before .before .before .before .before .before .before .before .before .before .before .before .before in
     let o = ok (first e) in
     let a = begin (e .before) .args in
     let K = c .look-back .ensures in (
@@ -145,7 +145,7 @@ push-requires c κs =
 
 slice-aggregate-assess : tie.Need-slice-aggregate-assess
 slice-aggregate-assess c =
-    let e = c .before .before .before .before .before .before .before .before .before .before .before .before .before .before .before in
+    let e = c .before .before .before .before .before .before .before .before .before .before .before .before .before .before .before .before in
     sym (e .before .before .before .before .by-symbol .ensures [] .size)
 
 slice-aggregate-assess-2 : tie.Need-slice-aggregate-assess-2
@@ -159,7 +159,7 @@ assess-requires c κs =
     let pushed = c .before .before .before in
     let k = pushed .before .before .before in
     let f = k .before .before .before .before .before .before .before .before .before .before in
-    let e = f .before in
+    let e = f .before .before in
     let o = ok (first e) in
     let a = begin (e .before) .args in
     let x = some-left (k .before .before .before .before .next-estimate .ensures _ (showing (e .before))) (k .before .next .given .1) in
@@ -182,7 +182,7 @@ returns-4 : tie.Need-returns-4
 returns-4 c =
     let pushed = c .before .before .before .before .before in
     let k = pushed .before .before .before in
-    let e = k .before .before .before .before .before .before .before .before .before .before .before in
+    let e = k .before .before .before .before .before .before .before .before .before .before .before .before in
     let a = begin (e .before) .args in
     let o = ok (first e) in
     let x = some-left (k .before .before .before .before .next-estimate .ensures _ (showing (e .before))) (k .before .next .given .1) in

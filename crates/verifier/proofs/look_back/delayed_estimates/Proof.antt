@@ -11,7 +11,8 @@ use lib.ListN.{length, getD, set, length-set}
 use lib.Seq.{getD-set-same}
 use Rattle.automaton.specs.Run.{Automaton, automatonOf}
 use Rattle.automaton.specs.Reaching.{Showing}
-use Rattle.verifier.specs.Inner.{Looks, Remembers, UnobservableReach}
+use Rattle.estimates.specs.Estimates.{UnobservableReach}
+use Rattle.verifier.specs.Inner.{Looks, Remembers}
 use Rattle.verifier.proofs.LookBack.{prepared-few, remembers-part, Follows, follows-start, follows-step, delayed-whole, Past, past-start, past-turn}
 use Rattle.verifier.proofs.look_back.delayed_estimates.Statement.{statement}
 use Rattle.verifier.proofs.look_back.delayed_estimates.Tie as tie

@@ -1,7 +1,5 @@
-// What an estimator remembers of the symbols, and which states are possible now: right after a symbol, and with the unobservable transitions after it.
-use super::Estimate;
-use super::Estimator;
-use super::NextEstimate;
+// What is remembered of the symbols, and which states are possible now: right after a symbol, and with the unobservable transitions after it.
+// All of this is inner: for the crate above, whose estimator holds the conditions; there is no entry. No secret and no verdict stands here.
 use automaton::Header;
 use automaton::Reach;
 ghost use mathlib.Core.Path.{_≡_};
@@ -10,7 +8,22 @@ ghost use lib.ListN.{length};
 ghost use Rattle.stateset.specs.Set.{In};
 ghost use Rattle.automaton.specs.Run.{automatonOf};
 ghost use Rattle.automaton.specs.Reaching.{Showing, Known, Gained};
-ghost use Rattle.verifier.specs.Inner.{Inside, Pushed, Estimated, Next};
+ghost use Rattle.estimates.specs.Estimates.{Pushed, Inside, Estimated, Next};
+
+// The states that are possible: right after the last symbol, then with the unobservable transitions after it, and how many these are. And states
+// that unobservable events do not leave, with all of them among these.
+pub struct Estimate {
+    pub entry: u64,
+    pub states: u64,
+    pub size: u8,
+    pub near: u64,
+}
+
+// The states that are possible after one more symbol, if a run is left.
+pub enum NextEstimate {
+    States(Estimate),
+    Empty,
+}
 
 // The first `n` of the new symbol and the old ones.
 pub fn push_symbol(symbols: [u8; 15], n: u8, symbol: u8) -> [u8; 15]
@@ -58,10 +71,9 @@ pub fn count_after(count: u8, k: u8) -> u8
 }
 
 // The states of all entry sets.
-pub fn entered(estimator: Estimator) -> u64
-    ensures { λ r. ⌜ Inside (estimator .entries) r ⌝ }
+pub fn entered(entries: [u64; 16]) -> u64
+    ensures { λ r. ⌜ Inside entries r ⌝ }
 {
-    let entries = estimator.entries;
     let mut r: u64 = 0;
     for l in 0..16 {
         r |= entries[l];

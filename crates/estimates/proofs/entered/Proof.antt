@@ -1,4 +1,4 @@
--- `verifier::estimates::entered` meets its contract. The invariant: the first l entry sets are in `r`.
+-- `estimates::entered` meets its contract. The invariant: the first l entry sets are in `r`.
 use Prim.Native.Nat.{ℕ, _-_, _≤_, _<_}
 use native.Mathlib.Omega.{arith}
 use native.Mathlib.Decide.{ℕ-discrete}
@@ -8,8 +8,8 @@ use lib.Bits.{bitOr}
 use lib.ListN.{getD}
 use Rattle.stateset.specs.Set.{In}
 use Rattle.stateset.proofs.Bits.{or-l, or-r}
-use Rattle.verifier.proofs.estimates.entered.Statement.{statement}
-use Rattle.verifier.proofs.estimates.entered.Tie as tie
+use Rattle.estimates.proofs.entered.Statement.{statement}
+use Rattle.estimates.proofs.entered.Tie as tie
 
 abbrev Inv-loop : tie.InvT-loop
 Inv-loop entries r₀ l₀ r l = (l ≤ 16) × ((k q : ℕ) → k < l → In q (getD entries k 0) → In q r)
@@ -40,7 +40,7 @@ loop-less c = omega arith
 loop-again : tie.Need-loop-again Inv-loop μ-loop
 loop-again c =
     let l = c .before .loop in
-    (omega arith, λ k q h i. more (c .before .before .before .args .estimator .entries) (l .r) (l .l) k q (l .inv .1) (ℕ-discrete k (l .l)) (omega arith) i)
+    (omega arith, λ k q h i. more (c .before .before .args .t1) (l .r) (l .l) k q (l .inv .1) (ℕ-discrete k (l .l)) (omega arith) i)
 
 returns : tie.Need-returns Inv-loop μ-loop
 returns c = λ k q h i. c .before .loop .inv .1 k q (omega arith) i

@@ -1,4 +1,4 @@
--- `verifier::estimates::next_estimate` meets its contract: a run is left exactly where the entry set is not empty, and then the estimate is worked out from it.
+-- `estimates::next_estimate` meets its contract: a run is left exactly where the entry set is not empty, and then the estimate is worked out from it.
 use mathlib.Core.Path.{refl}
 use mathlib.Core.List.{List, [], _∷_, _++_}
 use native.Mathlib.Omega.{arith}
@@ -10,10 +10,10 @@ use Rattle.automaton.specs.Run.{automatonOf}
 use Rattle.automaton.specs.Reaching.{Enters, Showing}
 use Rattle.automaton.proofs.Entering.{gained-closed}
 use Rattle.automaton.proofs.Traces.{entry-impossible}
-use Rattle.verifier.specs.Inner.{some-run, no-run}
-use Rattle.verifier.proofs.Estimating.{stepping}
-use Rattle.verifier.proofs.estimates.next_estimate.Statement.{statement}
-use Rattle.verifier.proofs.estimates.next_estimate.Tie as tie
+use Rattle.estimates.specs.Estimates.{some-run, no-run}
+use Rattle.estimates.proofs.Estimating.{stepping}
+use Rattle.estimates.proofs.next_estimate.Statement.{statement}
+use Rattle.estimates.proofs.next_estimate.Tie as tie
 
 -- the way back to where the call began
 abbrev begin : tie.After-observable-reach → tie.Start

@@ -1,10 +1,10 @@
--- `verifier::estimates::push_symbol` meets its contract, by the laws of Storing, which hold for any element and size.
+-- `estimates::push_symbol` meets its contract, by the laws of Storing, which hold for any element and size.
 use Prim.Native.Nat.{_-_}
 use native.Mathlib.Omega.{arith}
 use borrow.Author.Needs.{needs}
-use Rattle.verifier.proofs.Storing.{Storing, store-start, store-turn, store-end}
-use Rattle.verifier.proofs.estimates.push_symbol.Statement.{statement}
-use Rattle.verifier.proofs.estimates.push_symbol.Tie as tie
+use Rattle.estimates.proofs.Storing.{Storing, store-start, store-turn, store-end}
+use Rattle.estimates.proofs.push_symbol.Statement.{statement}
+use Rattle.estimates.proofs.push_symbol.Tie as tie
 
 abbrev Inv-loop : tie.InvT-loop
 Inv-loop n symbol symbols r₀ next₀ l₀ r next l = Storing symbol symbols n 15 r next l

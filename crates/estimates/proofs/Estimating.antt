@@ -15,10 +15,10 @@ use Rattle.automaton.specs.declared.Reach.{Reach}
 use Rattle.automaton.proofs.Entering.{gained-closed}
 use Rattle.automaton.proofs.Estimates.{set-size}
 use Rattle.automaton.proofs.Traces.{entry-possible}
-use Rattle.verifier.specs.declared.Estimate.{Estimate}
-use Rattle.verifier.specs.declared.NextEstimate.{NextEstimate}
-use Rattle.verifier.specs.declared.NextEstimate.the-variants.{States, Empty}
-use Rattle.verifier.specs.Inner.{UnobservableReach, Estimated, Stepped, Next, some-run, no-run}
+use Rattle.estimates.specs.declared.Estimate.{Estimate}
+use Rattle.estimates.specs.declared.NextEstimate.{NextEstimate}
+use Rattle.estimates.specs.declared.NextEstimate.the-variants.{States, Empty}
+use Rattle.estimates.specs.Estimates.{UnobservableReach, Estimated, Stepped, Next, some-run, no-run}
 
 -- the estimate, from what was explored, what the closure gave and what was counted
 pub estimated : (p : Automaton) (from entry : ℕ) (silent : List ℕ) (r : Reach) (states size : ℕ) → p .initial ≤ 63 → entry < 2 ^ 64 → states < 2 ^ 64

@@ -1,11 +1,11 @@
--- `verifier::estimates::estimate_from` meets its contract: rows, closure and number of one entry set.
+-- `estimates::estimate_from` meets its contract: rows, closure and number of one entry set.
 use native.Mathlib.Omega.{arith}
 use borrow.Author.Needs.{needs}
 use Rattle.stateset.proofs.Bits.{or-l}
 use Rattle.automaton.proofs.Entering.{known-more}
-use Rattle.verifier.proofs.Estimating.{estimated}
-use Rattle.verifier.proofs.estimates.estimate_from.Statement.{statement}
-use Rattle.verifier.proofs.estimates.estimate_from.Tie as tie
+use Rattle.estimates.proofs.Estimating.{estimated}
+use Rattle.estimates.proofs.estimate_from.Statement.{statement}
+use Rattle.estimates.proofs.estimate_from.Tie as tie
 
 silent-rows-requires : tie.Need-silent-rows-requires
 silent-rows-requires c κs =

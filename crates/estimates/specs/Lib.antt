@@ -1,0 +1,2 @@
+-- What the contracts of `estimates` cite.
+pub mod Estimates

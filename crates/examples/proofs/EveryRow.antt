@@ -208,7 +208,7 @@ about? e q =
     then (by (every inRange ts) (λ range. range)) (λ range.
     map (λ f. record {
       some = some-table ts range;
-      sound = λ t law. sound ts t law h (f .0) (f .1 .0) (f .1 .1 .0);
+      well-formed = λ t law. sound ts t law h (f .0) (f .1 .0) (f .1 .1 .0);
       says = λ t law. f .1 .1 .1 (record { table = t; holds = law });
     })
     (both (le? (h .k) 15) (both (le? (h .initial) 63) (both (symbols? h) (says? ts h range q)))))

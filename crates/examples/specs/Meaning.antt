@@ -141,7 +141,7 @@ pub record TableOf (ts : List ListedTransition) : Type 0 where
 -- there is such a table, and with every such table and the header, which are an automaton, the answer is right
 pub record AboutHolds (e : Example) (q : Question) : Type 0 where
   pub some : TableOf (e .transitions)
-  pub sound : (t : List ℕ) → Holds (e .transitions) t → WellFormed t (e .header)
+  pub well-formed : (t : List ℕ) → Holds (e .transitions) t → WellFormed t (e .header)
   pub says : (t : List ℕ) → Holds (e .transitions) t → Says t (e .header) q
 
 -- and the layout reads from the bytes of a description what the row says

@@ -257,7 +257,7 @@ accept-by-answers notion t h self symbol says after (AcceptingBy.turned-back {n 
       unchanged = λ m e. a .unchanged n refl;
     }
 accept-by-answers notion t h self symbol says after (AcceptingBy.accepted-by m many each) = record {
-  malformed = (λ e. absurd (not-by e), λ y. absurd (y (m .sound, m .limits)));
+  malformed = (λ e. absurd (not-by e), λ y. absurd (y (m .well-formed, m .limits)));
   not-observable = (λ e. absurd (not-by e), λ y. absurd (y .2 (m .observable)));
   incompatible = λ trace g. (λ e. absurd (not-by e), λ y. let p = m .grown trace g .possible in absurd (y .3 (p .run) (p .compatible)));
   no-other = λ n e. absurd (not-by e);

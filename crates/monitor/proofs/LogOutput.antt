@@ -194,7 +194,7 @@ fed-events {left} {bytes} {rest} e few (inr full) = sym (ap (take 4294967295) (s
 -- a fresh monitor is within its limits, and nobody is sure before the first event
 fresh-within : (t : List ℕ) (h : Header) (m : Monitor) → WellFormed t h → Fresh t h m → Within t h m
 fresh-within t h m so f = record {
-  sound = so;
+  well-formed = so;
   estimator = grown-limits (automatonOf t h) _ [] (m .estimator) (f .estimator) (so .symbols-small);
   enforcer = f .enforcer .limits;
   balanced = record { among = omega (arith, f .accepted, f .offered); balance = omega (arith, f .accepted, f .released, f .enforcer .queue .few) };

@@ -36,7 +36,7 @@ printed {room} {at} {before} {text} h (written free fit) = record { bytes = refl
 -- a refused byte leaves all but the count of offered ones
 refused-within : (t : List ℕ) (h : Header) (m : Monitor) → Within t h m → Within t h (offeredOnce m)
 refused-within t h m w = record {
-  sound = w .sound;
+  well-formed = w .well-formed;
   estimator = w .estimator;
   enforcer = w .enforcer;
   balanced = record { among = omega (arith, w .balanced .among); balance = w .balanced .balance };
@@ -100,7 +100,7 @@ by-both t h m byte j s r e output left after {out} {out′} {at} {next} b acc wi
       steps = accepted j acc wide off;
       printed = p;
       within = record {
-        sound = b .sound;
+        well-formed = b .well-formed;
         estimator = accepted-limits t h (m .estimator) byte (findings (m .estimator .further) j) s acc;
         enforcer = c .limits;
         balanced = record { among = omega (arith, b .balanced .among); balance = omega (arith, b .balanced .balance, c .kept) };

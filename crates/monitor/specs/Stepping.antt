@@ -32,7 +32,7 @@ pub record Balanced (m : Monitor) : Type 0 where
 
 -- on this automaton within its limits: its estimator and its enforcer are, and the counts agree
 pub record Within (t : List ℕ) (h : Header) (m : Monitor) : Type 0 where
-  pub sound : WellFormed t h
+  pub well-formed : WellFormed t h
   pub estimator : estimators.InLimits h (m .estimator)
   pub enforcer : enforcers.InLimits h (m .enforcer)
   pub balanced : Balanced m

@@ -246,7 +246,7 @@ module _ (t : List ℕ) (h : Header) (symbols : List ℕ) (g : SameSymbols (auto
   accepting-by-to notion self byte r s (turned-back x) = turned-back (accepting-to self byte _ s x)
   accepting-by-to notion self byte r s (accepted-by {j = j} m many each) =
       accepted-by (record {
-        sound = same-well-formed t h (relabelled h symbols) g refl .0 (m .sound);
+        well-formed = same-well-formed t h (relabelled h symbols) g refl .0 (m .well-formed);
         limits = m .limits;
         observable = same-observable t h (relabelled h symbols) g byte .0 (m .observable);
         same = m .same;

@@ -209,7 +209,7 @@ moved-by t h self symbol n from k silent e s so li ob x is largest same after pu
     let p = automatonOf t h in
     let K = lookBackOf h (self .further) in
     record {
-      sound = so;
+      well-formed = so;
       limits = li;
       observable = ob;
       same = same;
@@ -262,7 +262,7 @@ pub asked-both : (t : List ℕ) (h : Header) (self : Estimator) (symbol : ℕ) (
     → AcceptingAsked a t h self symbol r s → Accepting t h self symbol (said (self .further) r) s × Others (self .further) r
 asked-both t h self symbol a (answer.Refused n) s weak strong x = (x, tt)
 asked-both t h self symbol a (answer.Accepted j) s weak strong x = (
-  accepted (m .sound) (m .limits) (m .observable) (m .same) (m .limits-after) (as-many h (self .further) (j .verdicts) (m .limits .allowed .few))
+  accepted (m .well-formed) (m .limits) (m .observable) (m .same) (m .limits-after) (as-many h (self .further) (j .verdicts) (m .limits .allowed .few))
       (λ notion i given. subst (Bounded (secretAt (secretsOf h (self .further)) i .k)) (sym (place notion i given)) (by notion i given .bounded))
       (m .size-within)
       (λ trace g.

@@ -160,7 +160,7 @@ chosenEach notion v =
 -- a symbol that was accepted: how many states are possible, and the estimator after it, whatever is asked for. That it has grown says that some run is
 -- compatible (Grown.possible)
 pub record Moved (t : List ℕ) (h : Header) (self : Estimator) (symbol n : ℕ) (s : Estimator) : Type 0 where
-  pub sound : WellFormed t h
+  pub well-formed : WellFormed t h
   pub limits : InLimits h self
   pub observable : Observable h symbol
   pub same : s .further ≡ self .further

@@ -60,7 +60,7 @@ all x =
 
 -- so the largest K is at most 15
 small : (x : tie.After-answer2) → lookBackOf (asked x .args .header) (asked x .args .self .estimator .further) ≤ 15
-small x = let m = all x .0 in look-back-small (asked x .args .header) (asked x .args .self .estimator .further) (m .sound .back) (m .limits .allowed)
+small x = let m = all x .0 in look-back-small (asked x .args .header) (asked x .args .self .estimator .further) (m .well-formed .back) (m .limits .allowed)
 
 well-formed-requires : tie.Need-well-formed-requires
 well-formed-requires c κs = search needs
@@ -110,7 +110,7 @@ enum-known-answer-2 : tie.Need-enum-known-answer-2
 enum-known-answer-2 c = search needs
 
 longest-wait-requires : tie.Need-longest-wait-requires
-longest-wait-requires c κs = let m = all (c .before .before .before) .0 in (m .sound .back, m .limits .allowed)
+longest-wait-requires c κs = let m = all (c .before .before .before) .0 in (m .well-formed .back, m .limits .allowed)
 
 take-in-requires : tie.Need-take-in-requires
 take-in-requires c κs =
@@ -152,7 +152,7 @@ returns-5 c =
     let moved = all x .0 in
     taken-outcome (now (a .table)) (a .header) (a .self) (a .byte) (now (a .output)) (stepsEach (a .self .estimator .further) (j .verdicts))
     (waited .longest-wait .result) (j .size)
-    (called .accept-by .result .estimator) (taken .result .answer) (taken .result .enforcer) (taken .last .1 .1 .1 .1 .1 .1 .0) (moved .sound)
+    (called .accept-by .result .estimator) (taken .result .answer) (taken .result .enforcer) (taken .last .1 .1 .1 .1 .1 .1 .0) (moved .well-formed)
     (limits-joined _ (a .self) (moved .limits) (pending e3)) (e3 .before .before .before .before .before .if1 .left) moved (all x .1)
     (waited .longest-wait .ensures)
     (subst (λ (k : ℕ). Enqueues k (a .self) (called .accept-by .result .estimator) (waited .longest-wait .result) (j .size) (a .byte) (now (a .output))

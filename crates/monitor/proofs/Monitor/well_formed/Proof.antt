@@ -9,7 +9,7 @@ well-formed-requires : tie.Need-well-formed-requires
 well-formed-requires c κs = search needs
 
 returns : tie.Need-returns
-returns c = λ w. fails (c .before .well-formed .result) (not-true _ (c .if1 .taken)) (c .before .well-formed .ensures) (w .sound, w .estimator)
+returns c = λ w. fails (c .before .well-formed .result) (not-true _ (c .if1 .taken)) (c .before .well-formed .ensures) (w .well-formed, w .estimator)
 
 balanced-requires : tie.Need-balanced-requires
 balanced-requires c κs = search needs
@@ -27,8 +27,8 @@ returns-3 c =
     let agree = holds (c .before .before .before .balanced .result) (not-false _ (c .before .before .if2 .left))
     (c .before .before .before .balanced .ensures) in
     decided-as (c .well-formed2 .result)
-    (λ x. record { sound = x .0; estimator = good .1; enforcer = x .1; balanced = agree })
-    (λ w. (w .sound, w .enforcer))
+    (λ x. record { well-formed = x .0; estimator = good .1; enforcer = x .1; balanced = agree })
+    (λ w. (w .well-formed, w .enforcer))
     (c .well-formed2 .ensures)
 
 pub well-formed-spec : {M : Type 1} → statement M

@@ -166,7 +166,7 @@ assess-requires c κs =
     let near = k .before .before .before .before .before .before .before .before in
     let after = pushed .push .ensures in (
       record {
-        sound = o .0;
+        well-formed = o .0;
         limits = limits-as (a .header) (a .t1) _ _ (pushed .before .look-back .ensures) (after .0) (after .1);
         sets-are = e .before .before .before .before .by-symbol .ensures _;
         near = record {

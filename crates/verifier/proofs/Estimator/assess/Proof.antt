@@ -11,12 +11,12 @@ judge-all-requires : tie.Need-judge-all-requires
 judge-all-requires c κs =
     let x = c .before .before .before .before .before .before .before .before .before .pre .0 in (
       record {
-        sound = x .sound;
+        well-formed = x .well-formed;
         limits = x .limits;
         looks = record {
           table-is = refl;
-          start = x .sound .start;
-          symbols-small = x .sound .symbols-small;
+          start = x .well-formed .start;
+          symbols-small = x .well-formed .symbols-small;
           sets-are = x .sets-are;
           near = x .near;
           back-are = λ some. c .before .before .before .backward-rows .ensures some _ (x .near .closed);

@@ -37,7 +37,7 @@ assess-requires c κs =
     let so = a .pre .0 in
     let g = a .pre .1 in (
       record {
-        sound = so;
+        well-formed = so;
         limits = grown-limits _ _ _ _ g (so .symbols-small);
         sets-are = c .before .before .before .before .by-symbol .ensures _;
         near = record { closed = s .estimate-from .ensures .closed; inside = initial-inside _ _ _ _ g (s .estimate-from .ensures .new) };

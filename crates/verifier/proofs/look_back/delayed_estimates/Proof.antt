@@ -76,7 +76,7 @@ events-with-requires c κs = begin (c .before) .pre .0 .looks .sets-are .size
 backward-reach-requires : tie.Need-backward-reach-requires Inv-loop μ-loop
 backward-reach-requires c κs =
     let a = begin (c .before .before) in (
-      a .pre .0 .sound .words,
+      a .pre .0 .well-formed .words,
       a .pre .0 .looks .back-are (omega (arith, c .before .before .loop .inv .2)) .size,
       λ e i. showing c _ (a .pre .0 .looks) .sound e i .0,
     )

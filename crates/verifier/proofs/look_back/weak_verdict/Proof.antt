@@ -214,7 +214,7 @@ events-with-requires c κs = begin (c .before .before .before .before) .pre .0 .
 backward-reach-requires : tie.Need-backward-reach-requires Inv-states μ-states Inv-steps μ-steps
 backward-reach-requires c κs =
     let a = begin (c .before .before .before .before .before) in
-    (a .pre .0 .sound .words, a .pre .0 .looks .back-are (omega arith) .size, λ e i. showing c _ (a .pre .0 .looks) .sound e i .0)
+    (a .pre .0 .well-formed .words, a .pre .0 .looks .back-are (omega arith) .size, λ e i. showing c _ (a .pre .0 .looks) .sound e i .0)
 
 add-l : tie.Need-add-l Inv-states μ-states Inv-steps μ-steps
 add-l c = omega arith

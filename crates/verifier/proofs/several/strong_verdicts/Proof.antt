@@ -131,7 +131,7 @@ events-with-requires c κs = begin (c .before .before) .pre .looks .sets-are .si
 backward-reaches-requires : tie.Need-backward-reaches-requires Inv-steps μ-steps
 backward-reaches-requires c κs =
     let a = begin (c .before .before .before) in
-    (a .pre .sound .words, a .pre .looks .back-are (omega arith) .size, λ e i. showing c _ (a .pre .looks) .sound e i .0)
+    (a .pre .well-formed .words, a .pre .looks .back-are (omega arith) .size, λ e i. showing c _ (a .pre .looks) .sound e i .0)
 
 add-l : tie.Need-add-l Inv-steps μ-steps
 add-l c = omega arith

@@ -1,2 +1,3 @@
 -- What the contracts of `estimates` cite.
 pub mod Estimates
+pub mod LookBack

@@ -1,5 +1,7 @@
-// What is remembered of the symbols, and which states are possible now: right after a symbol, and with the unobservable transitions after it.
-// All of this is inner: for the crate above, whose estimator holds the conditions; there is no entry. No secret and no verdict stands here.
+// What is remembered of the symbols, and which states are possible: now, right after a symbol and with the unobservable transitions after it; and before,
+// over the steps back. All of this is inner: for the crate above, whose estimator holds the conditions; there is no entry.
+pub mod look_back; // over the steps back: the verdicts of one secret, and the sets m(l) for all
+
 use automaton::Header;
 use automaton::Reach;
 ghost use mathlib.Core.Path.{_≡_};
@@ -9,6 +11,14 @@ ghost use Rattle.stateset.specs.Set.{In};
 ghost use Rattle.automaton.specs.Run.{automatonOf};
 ghost use Rattle.automaton.specs.Reaching.{Showing, Known, Gained};
 ghost use Rattle.estimates.specs.Estimates.{Pushed, Inside, Estimated, Next};
+
+// What a look back works on: how many symbols are remembered, these, the newest first, and for each step back the states right after the last one that
+// is left.
+pub struct Remembered {
+    pub count: u8,
+    pub symbols: [u8; 15],
+    pub entries: [u64; 16],
+}
 
 // The states that are possible: right after the last symbol, then with the unobservable transitions after it, and how many these are. And states
 // that unobservable events do not leave, with all of them among these.

@@ -13,10 +13,10 @@ use Rattle.opacity.specs.declared.Secret.{Secret}
 use Rattle.opacity.specs.declared.Further.{Further}
 use Rattle.verifier.specs.declared.Estimator.{Estimator}
 use Rattle.opacity.specs.Secrets.{secretsOf, secretAt, clearedOf, Allowed}
-use Rattle.opacity.specs.Verdicts.{Steps, none, leak, Tells}
+use Rattle.opacity.specs.Verdicts.{Steps, none, leak, Tells, Bounded}
 use Rattle.verifier.specs.Estimators as estimator
 use Rattle.verifier.specs.Replies as replies
-use Rattle.verifier.specs.Replies.{Findings, toldAt, Bounded, Opening, Accepting}
+use Rattle.verifier.specs.Replies.{Findings, toldAt, Opening, Accepting}
 use Rattle.verifier.specs.Calls as verifier
 use Rattle.opacity.proofs.Numbering.{look-back-small, secret-back, how-many, allowed-not-large}
 use Rattle.verifier.proofs.Judging.{bounded-up}

@@ -8,6 +8,7 @@ use lib.Dec.{eqb}
 use native.Mathlib.Omega.{arith}
 use lib.ListN.{length, getD}
 use lib.Seq.{getD-take, length-take-le}
+use Rattle.opacity.specs.Verdicts.{Bounded}
 use Rattle.lists.specs.Calls.{done, next}
 use Rattle.automaton.specs.declared.Header.{Header}
 use Rattle.opacity.specs.declared.Notion.{Notion}
@@ -16,7 +17,7 @@ use Rattle.opacity.specs.declared.Further.{Further}
 use Rattle.verifier.specs.declared.Estimator.{Estimator}
 use Rattle.opacity.specs.Secrets.{secretsOf}
 use Rattle.verifier.specs.Replies as verifier
-use Rattle.verifier.specs.Replies.{Told, Findings, noneTold, stepsBy, toldAt, Bounded, Accepting}
+use Rattle.verifier.specs.Replies.{Told, Findings, noneTold, stepsBy, toldAt, Accepting}
 use Rattle.verifier.specs.Calls.{Calls}
 use Rattle.opacity.proofs.Numbering.{look-back-small, secret-back, how-many}
 use Rattle.verifier.proofs.Judging.{bounded-up}

@@ -6,6 +6,7 @@ use mathlib.Core.List.{List, _∷_, [], _++_}
 use mathlib.Core.Logic.{_⊎_, _↔_}
 use Prim.Native.Nat.{ℕ, _+_, _≤_, _<_}
 use lib.ListN.{length, take, drop}
+use Rattle.opacity.specs.Verdicts.{Bounded}
 use Rattle.refusal.specs.Refusals.{numberOf}
 use Rattle.refusal.specs.declared.Refusal.{Refusal}
 use Rattle.bitfields.specs.Bits.{bitsOf}
@@ -23,7 +24,7 @@ use Rattle.opacity.specs.Secrets.{secretsOf, ForEach, Allowed, TooLarge}
 use Rattle.verifier.specs.declared.Estimator.{Estimator}
 use Rattle.verifier.specs.Estimators as estimator
 use Rattle.verifier.specs.Replies as verifier
-use Rattle.verifier.specs.Replies.{Findings, toldAt, Bounded, Opening, Accepting, AcceptingBy}
+use Rattle.verifier.specs.Replies.{Findings, toldAt, Opening, Accepting, AcceptingBy}
 use Rattle.enforcer.specs.declared.Enforcer.{Enforcer}
 use Rattle.enforcer.specs.declared.Release.{Release}
 use Rattle.enforcer.specs.Enforcers as enforcer

@@ -15,8 +15,7 @@ use Rattle.opacity.specs.declared.Secret.{Secret}
 use Rattle.opacity.specs.declared.Further.{Further}
 use Rattle.verifier.specs.declared.Estimator.{Estimator}
 use Rattle.opacity.specs.Secrets.{placeOf}
-use Rattle.opacity.specs.Verdicts.{Steps, none, leak}
-use Rattle.verifier.specs.Replies.{Bounded}
+use Rattle.opacity.specs.Verdicts.{Steps, none, leak, Bounded}
 use Rattle.enforcer.specs.declared.Enforcer.{Enforcer}
 use Rattle.layout.specs.Sizes as sizes
 use Rattle.layout.specs.Layout.{littleEndianAt, littleEndianBytes, wordBytes, wordsAt, wordsBytes, bytesAt, headerAt, headerBytes, HeaderSized}

@@ -29,13 +29,15 @@ use Rattle.opacity.specs.declared.Further.{Further}
 use Rattle.verifier.specs.declared.SecretVerdicts.{SecretVerdicts}
 use Rattle.verifier.specs.declared.Judgement.{Judgement}
 use Rattle.verifier.specs.declared.Estimator.{Estimator}
-use Rattle.opacity.specs.Verdicts.{Steps, none, leak, stepsOf, Tells}
+use Rattle.opacity.specs.Verdicts.{Steps, none, leak, stepsOf, Tells, Bounded}
 use Rattle.opacity.specs.Secrets.{secretOf, own, secretsOf, secretAt, ForEach, lookBackOf, clearedOf, Allowed}
 use Rattle.verifier.specs.Estimators.{Limits, InLimits, Grown, GrownOn}
 use Rattle.verifier.specs.Replies.{FindingsBy, toldOf, noneTold, noLeaks, stepsBy, toldAt, numbered, toldEach, refused, said, OthersNoLeak, Others}
-use Rattle.verifier.specs.Replies.{refused-by, verdicts-by, saidBy, OthersBy, chosen, Bounded, Opening, opened, Accepting, accepted, Moved, TellsBy}
+use Rattle.verifier.specs.Replies.{refused-by, verdicts-by, saidBy, OthersBy, chosen, Opening, opened, Accepting, accepted, Moved, TellsBy}
 use Rattle.verifier.specs.Replies.{AcceptingBy, turned-back, accepted-by}
-use Rattle.verifier.specs.Inner.{Found, upTo, Asks, askFor, chosenAnswer, WhereAsked, Judged, JudgedAt, JudgedAll, Opened, AcceptingAsked}
+use Rattle.estimates.specs.LookBack.{Found, Delayed}
+use Rattle.estimates.specs.declared.Remembered.{Remembered}
+use Rattle.verifier.specs.Inner.{rememberedOf, upTo, Asks, askFor, chosenAnswer, WhereAsked, Judged, JudgedAt, JudgedAll, Opened, AcceptingAsked}
 use Rattle.verifier.specs.declared.Reply.{Reply}
 use Rattle.verifier.specs.declared.Asked.{Asked}
 use Rattle.verifier.specs.declared.Answer.{Answer}
@@ -66,7 +68,7 @@ tells-up notion p secret last trace (leak l) e x = record {
 
 -- the verdict of one secret by one notion, of a grown estimator: it remembers as much as the secret's own K asks for
 found-tells : (notion : Notion) (p : Automaton) (secret : Secret) (K : ℕ) (trace : List ℕ) (s : Estimator) (v : Verdict) → secret .k ≤ K → Grown p K trace s
-    → Found notion p (upTo (s .count) secret) (s .count) s v → Tells notion p secret trace (stepsOf v)
+    → Found notion p (upTo (s .count) secret) (s .count) (s .symbols) (s .entries) v → Tells notion p secret trace (stepsOf v)
 found-tells notion p secret K trace s v low g f =
     let c = g .count-is in
     tells-up notion p secret (min (secret .k) (s .count)) trace (stepsOf v) (omega arith)
@@ -81,15 +83,26 @@ not-both b t f = subst T (sym t ∙ f) tt
 
 -- both verdicts of one secret
 pub judged-both : (t : List ℕ) (h : Header) (s : Estimator) (c : Secret) (a : Asked) (weak strong : Verdict)
-    → WhereAsked Weak a weak (Found Weak (automatonOf t h) (upTo (s .count) c) (s .count) s weak)
-    → WhereAsked Strong a strong (Found Strong (automatonOf t h) (upTo (s .count) c) (s .count) s strong)
+    → WhereAsked Weak a weak (Found Weak (automatonOf t h) (upTo (s .count) c) (s .count) (s .symbols) (s .entries) weak)
+    → WhereAsked Strong a strong (Found Strong (automatonOf t h) (upTo (s .count) c) (s .count) (s .symbols) (s .entries) strong)
     → Judged t h s c a (record { weak = weak; strong = strong })
 judged-both t h s c a weak strong x y Weak = x
 judged-both t h s c a weak strong x y Strong = y
 
-pub found-last : {notion : Notion} {p : Automaton} {secret last m n : ℕ} {s : Estimator} {v : Verdict} → last ≡ m → Found notion p (secretOf secret last) n s v
-    → Found notion p (secretOf secret m) n s v
-found-last {notion} {p} {secret} {last} {m} {n} {s} {v} e f = subst (λ (x : ℕ). Found notion p (secretOf secret x) n s v) e f
+pub found-last : {notion : Notion} {p : Automaton} {secret last m n : ℕ} {symbols entries : List ℕ} {v : Verdict} → last ≡ m
+    → Found notion p (secretOf secret last) n symbols entries v → Found notion p (secretOf secret m) n symbols entries v
+found-last {notion} {p} {secret} {last} {m} {n} {symbols} {entries} {v} e f = subst (λ (x : ℕ). Found notion p (secretOf secret x) n symbols entries v) e f
+
+-- what was found of what an estimator remembers
+pub found-of : {notion : Notion} {p : Automaton} {secret : ℕ} (s : Estimator) {r : Remembered} {v : Verdict} → r ≡ rememberedOf s
+    → Found notion p (secretOf secret (r .count)) (r .count) (r .symbols) (r .entries) v
+    → Found notion p (secretOf secret (s .count)) (s .count) (s .symbols) (s .entries) v
+found-of {notion} {p} {secret} s {r} {v} e f =
+    subst (λ (x : Remembered). Found notion p (secretOf secret (x .count)) (x .count) (x .symbols) (x .entries) v) e f
+
+pub delayed-of : {p : Automaton} (s : Estimator) {r : Remembered} {past : List ℕ} → r ≡ rememberedOf s
+    → Delayed p (r .symbols) (r .entries) (r .count) past → Delayed p (s .symbols) (s .entries) (s .count) past
+delayed-of {p} s {r} {past} e d = subst (λ (x : Remembered). Delayed p (x .symbols) (x .entries) (x .count) past) e d
 
 both : (a : Asked) → Asks Weak a → Asks Strong a → (notion : Notion) → Asks notion a
 both a weak strong Weak = weak
@@ -228,7 +241,7 @@ moved-by t h self symbol n from k silent e s so li ob x is largest same after pu
 -- the verdict of one secret that was found for an estimator, as that of the symbol that led to it
 found-by : (notion : Notion) (t : List ℕ) (h : Header) (self : Estimator) (symbol n : ℕ) (s : Estimator) (c : Secret) (v : Verdict)
     → c .k ≤ lookBackOf h (s .further)
-    → Moved t h self symbol n s → Found notion (automatonOf t h) (upTo (s .count) c) (s .count) s v → TellsBy notion t h self symbol c (stepsOf v)
+    → Moved t h self symbol n s → Found notion (automatonOf t h) (upTo (s .count) c) (s .count) (s .symbols) (s .entries) v → TellsBy notion t h self symbol c (stepsOf v)
 found-by notion t h self symbol n s c v low m f =
     record {
       bounded = bounded-up _ _ (stepsOf v) (omega arith) (f .bounded);

@@ -1,7 +1,5 @@
 -- Laws that belong to no one function.
 pub mod Growing
-pub mod Passing
-pub mod LookBack
 pub mod Judging
 pub mod SecondPoint
 pub mod PastCount

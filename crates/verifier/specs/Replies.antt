@@ -8,7 +8,7 @@ use Rattle.automaton.specs.Reaching.{EstimateSize, SizeWithin}
 use Rattle.refusal.specs.Refusals.{numberOf}
 use Rattle.automaton.specs.declared.Header.{Header}
 use Rattle.opacity.specs.Secrets.{secretsOf, ForEach, clearedOf, Allowed, TooLarge}
-use Rattle.opacity.specs.Verdicts.{Steps, none, leak, stepsOf, Tells}
+use Rattle.opacity.specs.Verdicts.{Steps, none, stepsOf, Tells, Bounded}
 use Rattle.verifier.specs.Estimators.{Limits, InLimits, GrownOn}
 use Rattle.opacity.specs.declared.Notion.{Notion}
 use Rattle.opacity.specs.declared.Notion.the-variants.{Weak, Strong}
@@ -82,11 +82,6 @@ OthersNoLeak f v = (i : ℕ) → f .count < i → getD (numbered v) i noLeaks �
 abbrev pub Others : Further → Answer → Type 0
 Others f (answer.Refused r) = Unit {0}
 Others f (answer.Accepted j) = OthersNoLeak f (j .verdicts)
-
--- steps from 0 to K, or none
-abbrev pub Bounded : ℕ → Steps → Type 0
-Bounded K none = Unit {0}
-Bounded K (leak l) = l ≤ K
 
 -- the verdicts after a trace, two for each secret by its own K, how many states are possible, and the estimator that has grown by it. Some run is
 -- compatible with the trace: else a leak would say nothing

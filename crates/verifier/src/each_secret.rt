@@ -4,15 +4,12 @@ use super::Estimator;
 use super::Judgement;
 use super::SecretVerdicts;
 use super::VerdictsBy;
-use super::look_back::backward_rows;
-use super::look_back::first_secret;
-use super::look_back::shared_estimates;
-use super::look_back::strong_verdict;
-use super::look_back::weak_verdict;
 use super::several::strong_each;
 use super::several::up_to;
 use automaton::Header;
 use estimates::Estimate;
+use estimates::Remembered;
+use estimates::look_back;
 use opacity::Secret;
 use opacity::Verdict;
 use opacity::Verdicts;
@@ -21,9 +18,10 @@ ghost use Prim.Native.Nat.{_≤_, min};
 ghost use lib.ListN.{length, getD, replicate};
 ghost use Rattle.automaton.specs.Run.{automatonOf};
 ghost use Rattle.estimates.specs.Estimates.{UnobservableReach};
+ghost use Rattle.estimates.specs.LookBack.{Delayed};
 ghost use Rattle.opacity.specs.declared.Notion.the-variants as notion;
 ghost use Rattle.opacity.specs.Secrets.{own, secretsOf, secretAt};
-ghost use Rattle.verifier.specs.Inner.{Prepared, Explored, Delayed, StrongGiven, StrongEach, Asks, Judged, JudgedAt, JudgedAll};
+ghost use Rattle.verifier.specs.Inner.{rememberedOf, Ready, Explored, StrongGiven, StrongEach, Asks, Judged, JudgedAt, JudgedAll};
 
 fn smaller(a: u8, b: u8) -> u8
     ensures { λ r. ⌜ r ≡ min a b ⌝ }
@@ -32,6 +30,19 @@ fn smaller(a: u8, b: u8) -> u8
         return a;
     }
     b
+}
+
+// What a look back of the estimator works on.
+fn remembered(estimator: Estimator) -> Remembered
+    ensures { λ r. ⌜ r ≡ rememberedOf estimator ⌝ }
+{
+    let symbols = estimator.symbols;
+    let entries = estimator.entries;
+    Remembered {
+        count: estimator.count,
+        symbols: symbols,
+        entries: entries,
+    }
 }
 
 // The verdicts of the automaton's own secret, where no further one shares what is worked out: by the notions that are asked for, and none for the
@@ -46,16 +57,17 @@ fn judge_alone(
     estimate: Estimate,
     asked: Asked,
 ) -> Verdicts
-    requires { ⌜ Prepared (now table) header (now sets) estimator (now silent) (now back) (estimate .near) (estimator .count)
+    requires { ⌜ Ready (now table) header (now sets) estimator (now silent) (now back) (estimate .near)
         × UnobservableReach (automatonOf (now table) header) (getD (estimator .entries) 0 0) (estimate .states) × (estimator .further .count ≡ 0) ⌝ }
     ensures { λ r. ⌜ Judged (now (table .entry)) header estimator (own header) asked r ⌝ }
 {
+    let past = remembered(estimator);
     let near = estimate.near;
     let secret = header.secret;
     let mut weak = Verdict::NoLeak;
     if asked.weak {
-        weak = weak_verdict(
-            estimator,
+        weak = look_back::weak_verdict(
+            past,
             table,
             header,
             sets,
@@ -68,7 +80,7 @@ fn judge_alone(
     }
     let mut strong = Verdict::NoLeak;
     if asked.strong {
-        strong = strong_verdict(estimator, table, header, sets, silent, back, near, secret);
+        strong = look_back::strong_verdict(past, table, header, sets, silent, back, near, secret);
     }
     Verdicts {
         weak: weak,
@@ -95,13 +107,37 @@ fn judge(
     let states = secret.states;
     let mut weak = Verdict::NoLeak;
     if asked.weak {
-        weak = first_secret(past, states, last);
+        weak = look_back::first_secret(past, states, last);
     }
     let strong = up_to(found, last);
     Verdicts {
         weak: weak,
         strong: strong,
     }
+}
+
+// These sets where they are used: by the weak verdicts.
+fn shared_estimates(
+    estimator: Estimator,
+    table: &[u64],
+    header: Header,
+    sets: &[u32],
+    silent: &[u64],
+    back: &[u64],
+    estimate: Estimate,
+    past: &mut [u64],
+    asked: Asked,
+)
+    requires { ⌜ Ready (now table) header (now sets) estimator (now silent) (now back) (estimate .near)
+        × UnobservableReach (automatonOf (now table) header) (getD (estimator .entries) 0 0) (estimate .states) × (length (now past) ≡ 16) ⌝ }
+    ensures { λ _. ⌜ (length (now (past .exit)) ≡ 16) × (Asks notion.Weak asked
+        → Delayed (automatonOf (now (table .entry)) header) (estimator .symbols) (estimator .entries) (estimator .count) (now (past .exit))) ⌝ }
+{
+    if !asked.weak {
+        return;
+    }
+    let steps = remembered(estimator);
+    look_back::delayed_estimates(steps, table, header, sets, silent, back, estimate, past);
 }
 
 impl Estimator {
@@ -172,7 +208,7 @@ impl Estimator {
         estimate: Estimate,
         asked: Asked,
     ) -> SecretVerdicts
-        requires { ⌜ Prepared (now table) header (now sets) self (now silent) (now back) (estimate .near) (self .count)
+        requires { ⌜ Ready (now table) header (now sets) self (now silent) (now back) (estimate .near)
             × UnobservableReach (automatonOf (now table) header) (getD (self .entries) 0 0) (estimate .states) ⌝ }
         ensures { λ r. ⌜ JudgedAll (now (table .entry)) header self asked r ⌝ }
     {
@@ -212,7 +248,7 @@ impl Estimator {
         estimate: Estimate,
         asked: Asked,
     ) -> SecretVerdicts
-        requires { ⌜ Prepared (now table) header (now sets) self (now silent) (now back) (estimate .near) (self .count)
+        requires { ⌜ Ready (now table) header (now sets) self (now silent) (now back) (estimate .near)
             × UnobservableReach (automatonOf (now table) header) (getD (self .entries) 0 0) (estimate .states) ⌝ }
         ensures { λ r. ⌜ JudgedAll (now (table .entry)) header self asked r ⌝ }
     {
@@ -246,7 +282,7 @@ impl Estimator {
         requires { ⌜ Explored (now table) header (now sets) self (now silent) estimate × (now back ≡ replicate 64 0) ⌝ }
         ensures { λ r. ⌜ JudgedAll (now (table .entry)) header self asked (r .verdicts) × (r .size ≡ estimate .size) ⌝ }
     {
-        backward_rows(silent, estimate.near, self.count, back);
+        look_back::backward_rows(silent, estimate.near, self.count, back);
         let verdicts = self.judge_all(table, header, sets, silent, back, estimate, asked);
         Judgement {
             verdicts: verdicts,

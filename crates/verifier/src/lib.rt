@@ -2,7 +2,6 @@
 // Here the types, what is chosen by a notion, and the estimator's entries: `fresh`, `well_formed`, `accept`, `accept_by` demand nothing of their callers.
 // What is remembered of the symbols, and the states that are possible now, are worked out in the crate `estimates`.
 // The modules, each on those before it:
-mod look_back; // over the steps back: the verdicts of one secret, and the sets m(l) for all
 mod several; // the strong verdicts of several secrets in one pass
 mod each_secret; // the verdicts of each secret
 

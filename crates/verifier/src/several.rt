@@ -8,6 +8,7 @@ use opacity::Notion;
 use opacity::Verdict;
 use relation::StateSets;
 ghost use mathlib.Core.Path.{_≡_};
+ghost use mathlib.Core.List.{List};
 ghost use Prim.Native.Nat.{ℕ, _^_, _≤_, _<_};
 ghost use lib.Bits.{bitAnd};
 ghost use Rattle.stateset.specs.Set.{complement};
@@ -16,7 +17,8 @@ ghost use Rattle.relation.specs.Relation.{setAt};
 ghost use Rattle.opacity.specs.declared.Notion.the-variants as notion;
 ghost use Rattle.opacity.specs.declared.Verdict.the-variants as verdict;
 ghost use Rattle.opacity.specs.Secrets.{secretOf, secretsOf, secretAt};
-ghost use Rattle.verifier.specs.Inner.{Prepared, Found, verdictAt, WithStep, StrongEach};
+ghost use Rattle.estimates.specs.LookBack.{Prepared, Found, WithStep};
+ghost use Rattle.verifier.specs.Inner.{verdictAt, StrongEach};
 
 // A strong verdict with one more step tested, l: one that was found stays; else it is leak l where no state of the entry set is in `then`.
 fn with_step(found: Verdict, entry: u64, then: u64, l: u8) -> Verdict
@@ -73,9 +75,10 @@ fn strong_verdicts(
     states: u64,
     clear: StateSets,
 ) -> VerdictsBy
-    requires { ⌜ Prepared (now table) header (now sets) estimator (now silent) (now back) states (estimator .count) ⌝ }
+    requires { ⌜ Prepared (now table) header (now sets) (estimator .entries) (now silent) (now back) states (estimator .count) ⌝ }
     ensures { λ r. ⌜ ((i secret : ℕ) → i < 4 → secret < 2 ^ 64 → setAt clear i ≡ bitAnd states (complement secret)
-        → Found notion.Strong (automatonOf (now (table .entry)) header) (secretOf secret (estimator .count)) (estimator .count) estimator (verdictAt r i)) ⌝ }
+        → Found notion.Strong (automatonOf (now (table .entry)) header) (secretOf secret (estimator .count)) (estimator .count) (estimator .symbols)
+        (estimator .entries) (verdictAt r i)) ⌝ }
 {
     let symbols = estimator.symbols;
     let entries = estimator.entries;
@@ -119,7 +122,7 @@ pub fn strong_each(
     states: u64,
     asked: Asked,
 ) -> VerdictsBy
-    requires { ⌜ Prepared (now table) header (now sets) estimator (now silent) (now back) states (estimator .count) ⌝ }
+    requires { ⌜ Prepared (now table) header (now sets) (estimator .entries) (now silent) (now back) states (estimator .count) ⌝ }
     ensures { λ r. ⌜ StrongEach (now (table .entry)) header estimator asked r ⌝ }
 {
     if !asked.strong {
@@ -138,8 +141,8 @@ pub fn strong_each(
 // The verdict over fewer steps.
 pub fn up_to(found: Verdict, last: u8) -> Verdict
     ensures { λ r. ⌜ (found ≡ verdict.NoLeak → r ≡ verdict.NoLeak)
-        × ((notion : Notion) (p : Automaton) (secret n : ℕ) (s : Estimator) → last ≤ n → Found notion p (secretOf secret n) n s found
-        → Found notion p (secretOf secret last) n s r) ⌝ }
+        × ((notion : Notion) (p : Automaton) (secret n : ℕ) (symbols entries : List ℕ) → last ≤ n
+        → Found notion p (secretOf secret n) n symbols entries found → Found notion p (secretOf secret last) n symbols entries r) ⌝ }
 {
     match found {
         Verdict::NoLeak => Verdict::NoLeak,

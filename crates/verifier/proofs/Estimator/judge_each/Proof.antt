@@ -1,7 +1,6 @@
 -- `Estimator::judge_each` meets its contract, with what the places share.
 use mathlib.Core.Path.{refl}
 use borrow.Author.Needs.{needs}
-use Rattle.verifier.proofs.LookBack.{prepared-few}
 use Rattle.verifier.proofs.Estimator.judge_each.Statement.{statement}
 use Rattle.verifier.proofs.Estimator.judge_each.Tie as tie
 
@@ -12,7 +11,7 @@ shared-estimates-requires : tie.Need-shared-estimates-requires
 shared-estimates-requires c κs = let x = c .before .before .before .before .before .pre in (x .0, x .1, refl)
 
 strong-each-requires : tie.Need-strong-each-requires
-strong-each-requires c κs = c .before .before .before .before .before .before .before .pre .0
+strong-each-requires c κs = c .before .before .before .before .before .before .before .pre .0 .prepared
 
 slice-aggregate-judge-places : tie.Need-slice-aggregate-judge-places
 slice-aggregate-judge-places c = search needs
@@ -21,7 +20,7 @@ judge-places-requires : tie.Need-judge-places-requires
 judge-places-requires c κs =
     let x = c .before .before .before .before .before .before .before .before .before .pre .0 in
     let shared = c .before .before .before .shared-estimates .ensures in
-    (prepared-few x, x .limits .allowed .few, shared .0, shared .1, c .before .strong-each .ensures)
+    (x .prepared .few, x .limits .allowed .few, shared .0, shared .1, c .before .strong-each .ensures)
 
 returns : tie.Need-returns
 returns c = c .judge-places .ensures

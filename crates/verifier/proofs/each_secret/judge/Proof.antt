@@ -26,12 +26,12 @@ returns c =
     let x = c .before .before .before .before .before .pre in
     judged-both _ (a .header) (a .estimator) (a .secret) (a .asked) _ _
     (record {
-      found = λ asks. ⊎-elim (λ w. rw (w .2) (found-last n (w .1 .ensures _ (a .estimator) _ (x .2 asks) (omega (arith, n)))))
+      found = λ asks. ⊎-elim (λ w. rw (w .2) (found-last n (w .1 .ensures _ _ _ _ (x .2 asks) (omega (arith, n)))))
           (λ w. absurd (not-both _ asks (w .0 .left))) (c .before .if1 .came);
       silent = λ not. ⊎-elim (λ w. absurd (not (w .0 .taken))) (λ w. w .1) (c .before .if1 .came);
     })
     (record {
-      found = λ asks. found-last n (c .up-to .ensures .1 Strong _ _ _ (a .estimator) (omega (arith, n)) (x .3 .found asks));
+      found = λ asks. found-last n (c .up-to .ensures .1 Strong _ _ _ _ _ (omega (arith, n)) (x .3 .found asks));
       silent = λ not. c .up-to .ensures .0 (x .3 .silent not);
     })
 

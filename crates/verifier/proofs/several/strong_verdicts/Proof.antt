@@ -17,11 +17,11 @@ use Rattle.relation.proofs.FourSets.{four}
 use Rattle.opacity.specs.declared.Notion.the-variants.{Strong}
 use Rattle.opacity.specs.declared.Verdict.{Verdict}
 use Rattle.opacity.specs.Secrets.{secretOf}
-use Rattle.opacity.specs.Verdicts.{stepsOf}
-use Rattle.verifier.specs.Replies.{Bounded}
-use Rattle.verifier.specs.Inner.{Looks, verdictAt}
-use Rattle.verifier.proofs.LookBack.{ForTraces, Searched, searched-step, searched-end, searched-bounded, Follows, follows-start, follows-step}
-use Rattle.verifier.proofs.LookBack.{prepared-few, remembers-inside, strong-sure, strong-clear}
+use Rattle.opacity.specs.Verdicts.{stepsOf, Bounded}
+use Rattle.estimates.specs.LookBack.{Looks}
+use Rattle.verifier.specs.Inner.{verdictAt}
+use Rattle.estimates.proofs.LookBack.{ForTraces, Searched, searched-step, searched-end, searched-bounded, Follows, follows-start, follows-step}
+use Rattle.estimates.proofs.LookBack.{remembers-inside, strong-sure, strong-clear}
 use Rattle.opacity.proofs.Exactness.{below-start}
 use Rattle.verifier.proofs.several.strong_verdicts.Statement.{statement}
 use Rattle.verifier.proofs.several.strong_verdicts.Tie as tie
@@ -54,7 +54,7 @@ steps-holds c =
       ),
       λ i h. subst (λ (v : Verdict). Bounded (a .args .estimator .count) (stepsOf v)) (sym (c .none-found .ensures i h)) tt,
       omega arith,
-      omega (arith, prepared-few (a .pre)),
+      a .pre .few,
     )
 
 -- One step
@@ -131,7 +131,7 @@ events-with-requires c κs = begin (c .before .before) .pre .looks .sets-are .si
 backward-reaches-requires : tie.Need-backward-reaches-requires Inv-steps μ-steps
 backward-reaches-requires c κs =
     let a = begin (c .before .before .before) in
-    (a .pre .well-formed .words, a .pre .looks .back-are (omega arith) .size, λ e i. showing c _ (a .pre .looks) .sound e i .0)
+    (a .pre .words, a .pre .looks .back-are (omega arith) .size, λ e i. showing c _ (a .pre .looks) .sound e i .0)
 
 add-l : tie.Need-add-l Inv-steps μ-steps
 add-l c = omega arith

@@ -1,4 +1,4 @@
--- `verifier::look_back::strong_verdict` meets its contract, in the order of `weak_verdict`: the steps from 0 upward, and at each step l that the loop takes up
+-- `estimates::look_back::strong_verdict` meets its contract, in the order of `weak_verdict`: the steps from 0 upward, and at each step l that the loop takes up
 -- no step below l is a leak (`NoLeakBelow`, by the strong notion). What a step tests is another: a state right after the event l steps back from which the
 -- later events can follow with no secret state. Assumes nothing.
 use mathlib.Core.List.{List}
@@ -16,11 +16,11 @@ use Rattle.opacity.specs.declared.Notion.the-variants.{Strong}
 use Rattle.opacity.specs.declared.Secret.{Secret}
 use Rattle.opacity.specs.Secrets.{secretOf}
 use Rattle.opacity.specs.Verdicts.{NoLeakBelow}
-use Rattle.verifier.specs.Inner.{Looks}
-use Rattle.verifier.proofs.LookBack.{ForTraces, Follows, follows-start, follows-step, prepared-few, remembers-inside, strong-sure, strong-clear}
+use Rattle.estimates.specs.LookBack.{Looks}
+use Rattle.estimates.proofs.LookBack.{ForTraces, Follows, follows-start, follows-step, remembers-inside, strong-sure, strong-clear}
 use Rattle.opacity.proofs.Exactness.{below-start, below-step, below-leak, below-last}
-use Rattle.verifier.proofs.look_back.strong_verdict.Statement.{statement}
-use Rattle.verifier.proofs.look_back.strong_verdict.Tie as tie
+use Rattle.estimates.proofs.look_back.strong_verdict.Statement.{statement}
+use Rattle.estimates.proofs.look_back.strong_verdict.Tie as tie
 
 -- What the loop knows: no step below l is a leak, and `then` has the states from which the last l events can follow with no secret state
 
@@ -38,10 +38,10 @@ abbrev μ-steps : tie.MeasureT-steps
 steps-holds : tie.Need-steps-holds Inv-steps μ-steps
 steps-holds c =
     let a = c .before .before .before .before .before .before in (
-      λ p trace g m. below-start Strong p (secretOf (a .args .secret) (a .args .estimator .count)) trace,
+      λ p trace g m. below-start Strong p (secretOf (a .args .secret) (a .args .remembered .count)) trace,
       λ p trace g m. follows-start p _ trace,
       omega arith,
-      omega (arith, prepared-few (a .pre)),
+      a .pre .few,
       omega (arith, and-le-r (a .args .states) (complement (a .args .secret))),
     )
 
@@ -53,19 +53,19 @@ begin s = s .before .before .before .before .before .before .before
 -- an automaton for which holds what was prepared for this call
 abbrev Good : tie.At-steps Inv-steps μ-steps → Automaton → Type 0
 Good u p =
-    Looks p (begin u .args .table .now) (begin u .args .sets .now) (begin u .args .estimator .entries) (begin u .args .silent .now) (begin u .args .back .now)
-    (begin u .args .states) (begin u .args .estimator .count)
+    Looks p (begin u .args .table .now) (begin u .args .sets .now) (begin u .args .remembered .entries) (begin u .args .silent .now) (begin u .args .back .now)
+    (begin u .args .states) (begin u .args .remembered .count)
 
 -- the secret that is looked for, as far as is remembered
 abbrev sought : tie.At-steps Inv-steps μ-steps → Secret
-sought u = secretOf (begin u .args .secret) (begin u .args .estimator .count)
+sought u = secretOf (begin u .args .secret) (begin u .args .remembered .count)
 
 -- what holds for each of these and each trace that is remembered
 abbrev Each : tie.At-steps Inv-steps μ-steps → (Automaton → List ℕ → Type 0) → Type 0
 Each u =
     ForTraces (begin u .args .table .now) (begin u .args .sets .now) (begin u .args .silent .now) (begin u .args .back .now) (begin u .args .states)
-    (begin u .args .estimator .count)
-    (begin u .args .estimator .symbols) (begin u .args .estimator .entries)
+    (begin u .args .remembered .count)
+    (begin u .args .remembered .symbols) (begin u .args .remembered .entries)
 
 secret-small : (s : tie.At-steps Inv-steps μ-steps) → begin s .args .secret < 2 ^ 64
 secret-small s = begin s .fits .secret .fits
@@ -85,7 +85,7 @@ below-next c p trace g m = below-step Strong p (sought (c .before)) trace _ (c .
 
 -- the events that show the symbol before
 showing : (c : tie.After-events-with Inv-steps μ-steps) (p : Automaton) → Good (c .before .before .before) p
-    → Showing p (getD (begin (c .before .before .before) .args .estimator .symbols) (c .before .before .before .steps .l) 0) (c .events-with .result)
+    → Showing p (getD (begin (c .before .before .before) .args .remembered .symbols) (c .before .before .before .steps .l) 0) (c .events-with .result)
 showing c p g = c .events-with .ensures p (g .symbols-small) (g .sets-are)
 
 -- and the loop takes up step l + 1
@@ -148,7 +148,7 @@ events-with-requires c κs = begin (c .before .before) .pre .looks .sets-are .si
 backward-reach-requires : tie.Need-backward-reach-requires Inv-steps μ-steps
 backward-reach-requires c κs =
     let a = begin (c .before .before .before) in
-    (a .pre .well-formed .words, a .pre .looks .back-are (omega arith) .size, λ e i. showing c _ (a .pre .looks) .sound e i .0)
+    (a .pre .words, a .pre .looks .back-are (omega arith) .size, λ e i. showing c _ (a .pre .looks) .sound e i .0)
 
 add-l : tie.Need-add-l Inv-steps μ-steps
 add-l c = omega arith

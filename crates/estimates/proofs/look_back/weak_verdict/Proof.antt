@@ -1,4 +1,4 @@
--- `verifier::look_back::weak_verdict` meets its contract, in the order of source document 000's Proposition 4: "noleak if ∀ k ∈ [0, K] : m(k) ∉ 2^S, leak_l
+-- `estimates::look_back::weak_verdict` meets its contract, in the order of source document 000's Proposition 4: "noleak if ∀ k ∈ [0, K] : m(k) ∉ 2^S, leak_l
 -- where l = min{k ∈ [0, K] | m(k) ∈ 2^S} otherwise". Its k is the loop's l, taken up from 0 upward. Whenever the loop takes up a step l, it knows
 -- `NoLeakBelow`:
 -- for every i < l a compatible run with a position of count n − i that is not secret, so that no smaller step is a leak.
@@ -27,13 +27,13 @@ use Rattle.opacity.specs.declared.Notion.the-variants.{Weak}
 use Rattle.opacity.specs.declared.Secret.{Secret}
 use Rattle.opacity.specs.Secrets.{secretOf}
 use Rattle.opacity.specs.Verdicts.{NoLeakBelow}
-use Rattle.verifier.specs.Inner.{Looks, DecidedBy}
-use Rattle.verifier.proofs.Passing.{Passed, pass-start, pass-turn, pass-end, digit-in}
-use Rattle.verifier.proofs.LookBack.{ForTracesWith, Follows, follows-start, follows-step, prepared-few, remembers-inside, delayed-is, delayed-by}
-use Rattle.verifier.proofs.LookBack.{estimate-by, decided-sure, decided-clear}
+use Rattle.estimates.specs.LookBack.{Looks, DecidedBy}
+use Rattle.estimates.proofs.Passing.{Passed, pass-start, pass-turn, pass-end, digit-in}
+use Rattle.estimates.proofs.LookBack.{ForTracesWith, Follows, follows-start, follows-step, remembers-inside, delayed-is, delayed-by}
+use Rattle.estimates.proofs.LookBack.{estimate-by, decided-sure, decided-clear}
 use Rattle.opacity.proofs.Exactness.{below-start, below-step, below-leak, below-last}
-use Rattle.verifier.proofs.look_back.weak_verdict.Statement.{statement}
-use Rattle.verifier.proofs.look_back.weak_verdict.Tie as tie
+use Rattle.estimates.proofs.look_back.weak_verdict.Statement.{statement}
+use Rattle.estimates.proofs.look_back.weak_verdict.Tie as tie
 
 -- What the loops know
 
@@ -61,8 +61,8 @@ abbrev μ-states : tie.MeasureT-states
 steps-holds : tie.Need-steps-holds Inv-states μ-states Inv-steps μ-steps
 steps-holds c =
     let a = c .before .before .before .before .before .before in
-    let few : a .args .estimator .count ≤ 15 = omega (arith, prepared-few (a .pre .0)) in (
-      λ p trace g m r. below-start Weak p (secretOf (a .args .secret) (a .args .estimator .count)) trace,
+    let few : a .args .remembered .count ≤ 15 = a .pre .0 .few in (
+      λ p trace g m r. below-start Weak p (secretOf (a .args .secret) (a .args .remembered .count)) trace,
       λ p trace g m r. follows-start p _ trace,
       λ p trace g m r. estimate-by p _ trace _ _ _ _ _ _ (g .start) few (g .near) m r,
       omega arith,
@@ -78,19 +78,19 @@ begin u = u .before .before .before .before .before .before .before
 -- an automaton for which holds what was prepared for this call
 abbrev Good : tie.At-steps Inv-states μ-states Inv-steps μ-steps → Automaton → Type 0
 Good u p =
-    Looks p (begin u .args .table .now) (begin u .args .sets .now) (begin u .args .estimator .entries) (begin u .args .silent .now) (begin u .args .back .now)
-    (begin u .args .states) (begin u .args .estimator .count)
+    Looks p (begin u .args .table .now) (begin u .args .sets .now) (begin u .args .remembered .entries) (begin u .args .silent .now) (begin u .args .back .now)
+    (begin u .args .states) (begin u .args .remembered .count)
 
 -- the secret that is looked for, as far as is remembered
 abbrev sought : tie.At-steps Inv-states μ-states Inv-steps μ-steps → Secret
-sought u = secretOf (begin u .args .secret) (begin u .args .estimator .count)
+sought u = secretOf (begin u .args .secret) (begin u .args .remembered .count)
 
 -- what holds for each of these and each trace that is remembered
 abbrev Each : tie.At-steps Inv-states μ-states Inv-steps μ-steps → (Automaton → List ℕ → Type 0) → Type 0
 Each u =
     ForTracesWith (begin u .args .table .now) (begin u .args .sets .now) (begin u .args .silent .now) (begin u .args .back .now) (begin u .args .states)
     (begin u .args .estimate)
-    (begin u .args .estimator .count) (begin u .args .estimator .symbols) (begin u .args .estimator .entries)
+    (begin u .args .remembered .count) (begin u .args .remembered .symbols) (begin u .args .remembered .entries)
 
 -- the state that a turn of the inner loop visits
 pick : (c : tie.In-states Inv-states μ-states Inv-steps μ-steps)
@@ -129,7 +129,7 @@ below-next c p trace g m r = below-step Weak p (sought (c .before .before .befor
 
 -- the events that show the symbol before
 showing : (c : tie.After-events-with Inv-states μ-states Inv-steps μ-steps) (p : Automaton) → Good (c .before .before .before .before .before) p
-    → Showing p (getD (begin (c .before .before .before .before .before) .args .estimator .symbols) (c .before .before .before .before .before .steps .l) 0)
+    → Showing p (getD (begin (c .before .before .before .before .before) .args .remembered .symbols) (c .before .before .before .before .before .steps .l) 0)
     (c .events-with .result)
 showing c p g = c .events-with .ensures p (g .symbols-small) (g .sets-are)
 
@@ -148,7 +148,7 @@ steps-again : tie.Need-steps-again Inv-states μ-states Inv-steps μ-steps
 steps-again c =
     let u = c .before .before .before .before .before .before .before in
     let s = u .steps in
-    let next : s .l + 1 ≤ begin u .args .estimator .count = omega arith in (
+    let next : s .l + 1 ≤ begin u .args .remembered .count = omega arith in (
       below-next (c .before .before .before .before),
       follows-next (c .before),
       λ p trace g m r.
@@ -214,7 +214,7 @@ events-with-requires c κs = begin (c .before .before .before .before) .pre .0 .
 backward-reach-requires : tie.Need-backward-reach-requires Inv-states μ-states Inv-steps μ-steps
 backward-reach-requires c κs =
     let a = begin (c .before .before .before .before .before) in
-    (a .pre .0 .well-formed .words, a .pre .0 .looks .back-are (omega arith) .size, λ e i. showing c _ (a .pre .0 .looks) .sound e i .0)
+    (a .pre .0 .words, a .pre .0 .looks .back-are (omega arith) .size, λ e i. showing c _ (a .pre .0 .looks) .sound e i .0)
 
 add-l : tie.Need-add-l Inv-states μ-states Inv-steps μ-steps
 add-l c = omega arith

@@ -1,4 +1,4 @@
--- `verifier::look_back::first_secret` meets its contract, in the order of `weak_verdict`: the steps from 0 upward, and at each step l that the loop takes up no
+-- `estimates::look_back::first_secret` meets its contract, in the order of `weak_verdict`: the steps from 0 upward, and at each step l that the loop takes up no
 -- step below l is a leak (`NoLeakBelow`). What it visits is all of m(l), which was worked out before. Assumes nothing.
 use mathlib.Core.Logic.{⊎-elim}
 use Prim.Native.Nat.{_+_, _-_, _≤_}
@@ -12,11 +12,11 @@ use Rattle.automaton.specs.Notion.{ClearAt}
 use Rattle.opacity.specs.declared.Notion.the-variants.{Weak}
 use Rattle.opacity.specs.Secrets.{secretOf}
 use Rattle.opacity.specs.Verdicts.{NoLeakBelow}
-use Rattle.verifier.proofs.Passing.{Passed, pass-start, pass-turn, pass-end, digit-in}
-use Rattle.verifier.proofs.LookBack.{remembers-part, ForPast, past-by, decided-sure, decided-clear}
+use Rattle.estimates.proofs.Passing.{Passed, pass-start, pass-turn, pass-end, digit-in}
+use Rattle.estimates.proofs.LookBack.{remembers-part, ForPast, past-by, decided-sure, decided-clear}
 use Rattle.opacity.proofs.Exactness.{below-start, below-step, below-leak, below-last}
-use Rattle.verifier.proofs.look_back.first_secret.Statement.{statement}
-use Rattle.verifier.proofs.look_back.first_secret.Tie as tie
+use Rattle.estimates.proofs.look_back.first_secret.Statement.{statement}
+use Rattle.estimates.proofs.look_back.first_secret.Tie as tie
 
 -- What the loops know
 
@@ -95,7 +95,7 @@ steps-again c = (below-next (c .before), omega (arith, c .before .before .before
 -- First exit: leak l, the least because no step below it is one
 
 returns : tie.Need-returns Inv-states μ-states Inv-steps μ-steps
-returns c = λ p s n d few.
+returns c = λ p symbols entries n d few.
     let a = c .before .before .before .before .before .args in
     let u = c .before .before .before .before .steps in
     record {
@@ -110,7 +110,7 @@ returns c = λ p s n d few.
 -- Second exit: step l is the last one, K or n, and no leak
 
 returns-2 : tie.Need-returns-2 Inv-states μ-states Inv-steps μ-steps
-returns-2 c = λ p s n d few.
+returns-2 c = λ p symbols entries n d few.
     let a = begin (turn (c .before)) .args in
     record {
       bounded = tt;

@@ -1,8 +1,8 @@
--- `verifier::look_back::backward_rows` meets its contract: only where there is a step.
+-- `estimates::look_back::backward_rows` meets its contract: only where there is a step.
 use native.Mathlib.Omega.{arith}
 use borrow.Author.Needs.{needs}
-use Rattle.verifier.proofs.look_back.backward_rows.Statement.{statement}
-use Rattle.verifier.proofs.look_back.backward_rows.Tie as tie
+use Rattle.estimates.proofs.look_back.backward_rows.Statement.{statement}
+use Rattle.estimates.proofs.look_back.backward_rows.Tie as tie
 
 returns : tie.Need-returns
 returns c = λ some. absurd (omega (arith, some, c .if1 .taken))

@@ -1,8 +1,7 @@
 // Over the steps back (source 000's delayed estimates m(l)): the verdict of one secret by each notion, alone, and m(l) for all secrets at once.
-use super::Asked;
-use super::Estimator;
+use super::Estimate;
+use super::Remembered;
 use automaton::Header;
-use estimates::Estimate;
 use opacity::Verdict;
 ghost use mathlib.Core.Path.{_≡_};
 ghost use mathlib.Core.List.{List};
@@ -12,10 +11,10 @@ ghost use Rattle.stateset.specs.Set.{Is};
 ghost use Rattle.automaton.specs.Run.{Automaton, automatonOf};
 ghost use Rattle.automaton.specs.Reaching.{Enters, Arrives, Closed, Entered};
 ghost use Rattle.relation.specs.Relation.{Sub};
-ghost use Rattle.estimates.specs.Estimates.{UnobservableReach};
 ghost use Rattle.opacity.specs.declared.Notion.the-variants as notion;
 ghost use Rattle.opacity.specs.Secrets.{secretOf};
-ghost use Rattle.verifier.specs.Inner.{Sampled, Prepared, Found, Delayed, Asks};
+ghost use Rattle.estimates.specs.Estimates.{UnobservableReach};
+ghost use Rattle.estimates.specs.LookBack.{Sampled, Prepared, Found, Delayed};
 
 // The unobservable events the other way round, where a look back over `last` steps needs them: where it takes no step, it does not, and the array stays.
 pub fn backward_rows(silent: &[u64], states: u64, last: u8, back: &mut [u64])
@@ -47,7 +46,7 @@ fn possible_states(silent: &[u64], states: u64, entry: u64, then: u64, secret: u
 // state".) As source 000's Proposition 4 takes it: l from 0 upward, and leak l at the first l for which all of m(l), the possible states l steps back, are
 // secret. Whenever the loop takes up a step, no smaller one is a leak (`NoLeakBelow`). m(0) is the estimate, which is known.
 pub fn weak_verdict(
-    estimator: Estimator,
+    remembered: Remembered,
     table: &[u64],
     header: Header,
     sets: &[u32],
@@ -57,13 +56,14 @@ pub fn weak_verdict(
     estimate: u64,
     secret: u64,
 ) -> Verdict
-    requires { ⌜ Prepared (now table) header (now sets) estimator (now silent) (now back) states (estimator .count)
-        × UnobservableReach (automatonOf (now table) header) (getD (estimator .entries) 0 0) estimate ⌝ }
-    ensures { λ r. ⌜ Found notion.Weak (automatonOf (now (table .entry)) header) (secretOf secret (estimator .count)) (estimator .count) estimator r ⌝ }
+    requires { ⌜ Prepared (now table) header (now sets) (remembered .entries) (now silent) (now back) states (remembered .count)
+        × UnobservableReach (automatonOf (now table) header) (getD (remembered .entries) 0 0) estimate ⌝ }
+    ensures { λ r. ⌜ Found notion.Weak (automatonOf (now (table .entry)) header) (secretOf secret (remembered .count)) (remembered .count)
+        (remembered .symbols) (remembered .entries) r ⌝ }
 {
-    let symbols = estimator.symbols;
-    let entries = estimator.entries;
-    let last = estimator.count; // K, or n where that is less
+    let symbols = remembered.symbols;
+    let entries = remembered.entries;
+    let last = remembered.count; // K, or n where that is less
     let mut then = states;
     let mut possible = estimate;
     let mut l: u8 = 0; // from 0 upward
@@ -93,7 +93,7 @@ pub fn weak_verdict(
 // The least step back from which no run avoids the secret. (01: "every fitting run has a moment of count at least n − l in a secret state".) In the
 // same order.
 pub fn strong_verdict(
-    estimator: Estimator,
+    remembered: Remembered,
     table: &[u64],
     header: Header,
     sets: &[u32],
@@ -102,12 +102,13 @@ pub fn strong_verdict(
     states: u64,
     secret: u64,
 ) -> Verdict
-    requires { ⌜ Prepared (now table) header (now sets) estimator (now silent) (now back) states (estimator .count) ⌝ }
-    ensures { λ r. ⌜ Found notion.Strong (automatonOf (now (table .entry)) header) (secretOf secret (estimator .count)) (estimator .count) estimator r ⌝ }
+    requires { ⌜ Prepared (now table) header (now sets) (remembered .entries) (now silent) (now back) states (remembered .count) ⌝ }
+    ensures { λ r. ⌜ Found notion.Strong (automatonOf (now (table .entry)) header) (secretOf secret (remembered .count)) (remembered .count)
+        (remembered .symbols) (remembered .entries) r ⌝ }
 {
-    let symbols = estimator.symbols;
-    let entries = estimator.entries;
-    let last = estimator.count;
+    let symbols = remembered.symbols;
+    let entries = remembered.entries;
+    let last = remembered.count;
     let clear = states & !secret;
     let mut then = clear;
     let mut l: u8 = 0;
@@ -127,8 +128,8 @@ pub fn strong_verdict(
 
 // Source 000's m(l), all of it, for each step that is remembered: the states in which runs can be l steps back and from which the last l symbols can
 // follow. It depends on no secret.
-fn delayed_estimates(
-    estimator: Estimator,
+pub fn delayed_estimates(
+    remembered: Remembered,
     table: &[u64],
     header: Header,
     sets: &[u32],
@@ -137,13 +138,13 @@ fn delayed_estimates(
     estimate: Estimate,
     past: &mut [u64],
 )
-    requires { ⌜ Prepared (now table) header (now sets) estimator (now silent) (now back) (estimate .near) (estimator .count)
-        × UnobservableReach (automatonOf (now table) header) (getD (estimator .entries) 0 0) (estimate .states) × (length (now past) ≡ 16) ⌝ }
-    ensures { λ _. ⌜ Delayed (automatonOf (now (table .entry)) header) (estimator .symbols) (estimator .entries) (estimator .count) (now (past .exit)) ⌝ }
+    requires { ⌜ Prepared (now table) header (now sets) (remembered .entries) (now silent) (now back) (estimate .near) (remembered .count)
+        × UnobservableReach (automatonOf (now table) header) (getD (remembered .entries) 0 0) (estimate .states) × (length (now past) ≡ 16) ⌝ }
+    ensures { λ _. ⌜ Delayed (automatonOf (now (table .entry)) header) (remembered .symbols) (remembered .entries) (remembered .count) (now (past .exit)) ⌝ }
 {
-    let symbols = estimator.symbols;
-    let entries = estimator.entries;
-    let last = estimator.count;
+    let symbols = remembered.symbols;
+    let entries = remembered.entries;
+    let last = remembered.count;
     let near = estimate.near;
     past[0] = estimate.states;
     let mut then = near;
@@ -157,35 +158,12 @@ fn delayed_estimates(
     }
 }
 
-// These sets where they are used: by the weak verdicts.
-pub fn shared_estimates(
-    estimator: Estimator,
-    table: &[u64],
-    header: Header,
-    sets: &[u32],
-    silent: &[u64],
-    back: &[u64],
-    estimate: Estimate,
-    past: &mut [u64],
-    asked: Asked,
-)
-    requires { ⌜ Prepared (now table) header (now sets) estimator (now silent) (now back) (estimate .near) (estimator .count)
-        × UnobservableReach (automatonOf (now table) header) (getD (estimator .entries) 0 0) (estimate .states) × (length (now past) ≡ 16) ⌝ }
-    ensures { λ _. ⌜ (length (now (past .exit)) ≡ 16) × (Asks notion.Weak asked
-        → Delayed (automatonOf (now (table .entry)) header) (estimator .symbols) (estimator .entries) (estimator .count) (now (past .exit))) ⌝ }
-{
-    if !asked.weak {
-        return;
-    }
-    delayed_estimates(estimator, table, header, sets, silent, back, estimate, past);
-}
-
 // The weak verdict of one secret from these sets: as `weak_verdict` takes its steps, l from 0 upward, and leak l at the first l for which all of m(l) is
 // secret.
 pub fn first_secret(past: &[u64], secret: u64, last: u8) -> Verdict
     requires { ⌜ (length (now past) ≡ 16) × (last ≤ 15) ⌝ }
-    ensures { λ r. ⌜ ((p : Automaton) (s : Estimator) (n : ℕ) → Delayed p (s .symbols) (s .entries) n (now (past .entry)) → last ≤ n
-        → Found notion.Weak p (secretOf secret last) n s r) ⌝ }
+    ensures { λ r. ⌜ ((p : Automaton) (symbols entries : List ℕ) (n : ℕ) → Delayed p symbols entries n (now (past .entry)) → last ≤ n
+        → Found notion.Weak p (secretOf secret last) n symbols entries r) ⌝ }
 {
     let mut l: u8 = 0;
     'steps: loop {

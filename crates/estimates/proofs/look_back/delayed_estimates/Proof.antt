@@ -1,4 +1,4 @@
--- `verifier::look_back::delayed_estimates` meets its contract: m(0) is the estimate, and each further set is where unobservable transitions after the step's
+-- `estimates::look_back::delayed_estimates` meets its contract: m(0) is the estimate, and each further set is where unobservable transitions after the step's
 -- event lead, within the states that the later events can follow. Assumes nothing.
 use mathlib.Core.Path.{_≡_, sym, subst, _∙_}
 use mathlib.Core.List.{List}
@@ -11,11 +11,11 @@ use lib.ListN.{length, getD, set, length-set}
 use lib.Seq.{getD-set-same}
 use Rattle.automaton.specs.Run.{Automaton, automatonOf}
 use Rattle.automaton.specs.Reaching.{Showing}
 use Rattle.estimates.specs.Estimates.{UnobservableReach}
-use Rattle.verifier.specs.Inner.{Looks, Remembers}
-use Rattle.verifier.proofs.LookBack.{prepared-few, remembers-part, Follows, follows-start, follows-step, delayed-whole, Past, past-start, past-turn}
-use Rattle.verifier.proofs.look_back.delayed_estimates.Statement.{statement}
-use Rattle.verifier.proofs.look_back.delayed_estimates.Tie as tie
+use Rattle.estimates.specs.LookBack.{Looks, Remembers}
+use Rattle.estimates.proofs.LookBack.{remembers-part, Follows, follows-start, follows-step, delayed-whole, Past, past-start, past-turn}
+use Rattle.estimates.proofs.look_back.delayed_estimates.Statement.{statement}
+use Rattle.estimates.proofs.look_back.delayed_estimates.Tie as tie
 
 abbrev Inv-loop : tie.InvT-loop
 Inv-loop table sets silent back past₀ symbols entries last near then₀ l₀ past then l =
@@ -31,19 +31,19 @@ begin u = u .before .before .before .before .before .before .before .before
 -- an automaton for which holds what was prepared for this call
 abbrev Good : tie.At-loop Inv-loop μ-loop → Automaton → Type 0
 Good u p =
-    Looks p (begin u .args .table .now) (begin u .args .sets .now) (begin u .args .estimator .entries) (begin u .args .silent .now) (begin u .args .back .now)
+    Looks p (begin u .args .table .now) (begin u .args .sets .now) (begin u .args .remembered .entries) (begin u .args .silent .now) (begin u .args .back .now)
     (begin u .args .estimate .near)
-    (begin u .args .estimator .count)
+    (begin u .args .remembered .count)
 
 -- the events that show the symbol before
 showing : (c : tie.After-events-with Inv-loop μ-loop) (p : Automaton) → Good (c .before .before) p
-    → Showing p (getD (begin (c .before .before) .args .estimator .symbols) (c .before .before .loop .l) 0) (c .events-with .result)
+    → Showing p (getD (begin (c .before .before) .args .remembered .symbols) (c .before .before .loop .l) 0) (c .events-with .result)
 showing c p g = c .events-with .ensures p (g .symbols-small) (g .sets-are)
 
 -- the states that the last l + 1 events can follow
 follows-next : (c : tie.After-backward-reach Inv-loop μ-loop) (p : Automaton) (trace : List ℕ) → Good (c .before .before .before) p
-    → Remembers p trace (c .before .before .before .loop .l + 1) (begin (c .before .before .before) .args .estimator .symbols)
-    (begin (c .before .before .before) .args .estimator .entries)
+    → Remembers p trace (c .before .before .before .loop .l + 1) (begin (c .before .before .before) .args .remembered .symbols)
+    (begin (c .before .before .before) .args .remembered .entries)
     → Follows p (begin (c .before .before .before) .args .estimate .near) trace (c .before .before .before .loop .l + 1) (c .backward-reach .result)
 follows-next c p trace g m =
     let s = c .before .before .before .loop in
@@ -60,7 +60,7 @@ loop-holds c =
       λ p trace g m. follows-start p _ trace,
       past-start _ _ _ _ _ _ _ _ (set (now (a .args .past)) 0 (a .args .estimate .states)),
       omega arith,
-      prepared-few (a .pre .0),
+      a .pre .0 .few,
       length-set (now (a .args .past)) 0 (a .args .estimate .states) ∙ a .pre .2,
     )
 
@@ -76,7 +76,7 @@ events-with-requires c κs = begin (c .before) .pre .0 .looks .sets-are .size
 backward-reach-requires : tie.Need-backward-reach-requires Inv-loop μ-loop
 backward-reach-requires c κs =
     let a = begin (c .before .before) in (
-      a .pre .0 .well-formed .words,
+      a .pre .0 .words,
       a .pre .0 .looks .back-are (omega (arith, c .before .before .loop .inv .2)) .size,
       λ e i. showing c _ (a .pre .0 .looks) .sound e i .0,
     )
@@ -133,7 +133,7 @@ returns c =
     record {
       size = s .inv .4;
       are = λ trace l h m. s .inv .1 _ trace l (a .pre .0 .looks)
-          (subst (UnobservableReach (automatonOf (now (a .args .table)) (a .args .header)) (getD (a .args .estimator .entries) 0 0)) (sym first) (a .pre .1))
+          (subst (UnobservableReach (automatonOf (now (a .args .table)) (a .args .header)) (getD (a .args .remembered .entries) 0 0)) (sym first) (a .pre .1))
           (omega arith) m;
     }
 

@@ -1,11 +1,11 @@
--- `verifier::look_back::possible_states` meets its contract: an entry set is part of its unobservable reach.
+-- `estimates::look_back::possible_states` meets its contract: an entry set is part of its unobservable reach.
 use native.Mathlib.Omega.{arith}
 use lib.Bits.{bitAnd}
 use Rattle.stateset.specs.Set.{complement}
 use Rattle.stateset.proofs.Bits.{in-and, and-in, in-not, meet}
 use borrow.Author.Needs.{needs}
-use Rattle.verifier.proofs.look_back.possible_states.Statement.{statement}
-use Rattle.verifier.proofs.look_back.possible_states.Tie as tie
+use Rattle.estimates.proofs.look_back.possible_states.Statement.{statement}
+use Rattle.estimates.proofs.look_back.possible_states.Tie as tie
 
 returns : tie.Need-returns
 returns c = λ p trace start k sub E.

@@ -61,13 +61,13 @@ fn judge_alone(
         × UnobservableReach (automatonOf (now table) header) (getD (estimator .entries) 0 0) (estimate .states) × (estimator .further .count ≡ 0) ⌝ }
     ensures { λ r. ⌜ Judged (now (table .entry)) header estimator (own header) asked r ⌝ }
 {
-    let past = remembered(estimator);
+    let steps = remembered(estimator);
     let near = estimate.near;
     let secret = header.secret;
     let mut weak = Verdict::NoLeak;
     if asked.weak {
         weak = look_back::weak_verdict(
-            past,
+            steps,
             table,
             header,
             sets,
@@ -80,7 +80,7 @@ fn judge_alone(
     }
     let mut strong = Verdict::NoLeak;
     if asked.strong {
-        strong = look_back::strong_verdict(past, table, header, sets, silent, back, near, secret);
+        strong = look_back::strong_verdict(steps, table, header, sets, silent, back, near, secret);
     }
     Verdicts {
         weak: weak,
@@ -116,7 +116,7 @@ fn judge(
     }
 }
 
-// These sets where they are used: by the weak verdicts.
+// Source 000's m(l) for all secrets, where they are used: by the weak verdicts.
 fn shared_estimates(
     estimator: Estimator,
     table: &[u64],

@@ -1,3 +1,3 @@
--- What the contracts of `estimates` cite.
+-- What the functions of `estimates` promise one another and the verifier: the states that are possible now, and over the steps back.
 pub mod Estimates
-pub mod LookBack
+pub mod StepsBack

@@ -14,7 +14,7 @@ ghost use Rattle.relation.specs.Relation.{Sub};
 ghost use Rattle.opacity.specs.declared.Notion.the-variants as notion;
 ghost use Rattle.opacity.specs.Secrets.{secretOf};
 ghost use Rattle.estimates.specs.Estimates.{UnobservableReach};
-ghost use Rattle.estimates.specs.LookBack.{Sampled, Prepared, Found, Delayed};
+ghost use Rattle.estimates.specs.StepsBack.{Sampled, Prepared, Found, Delayed};
 
 // The unobservable events the other way round, where a look back over `last` steps needs them: where it takes no step, it does not, and the array stays.
 pub fn backward_rows(silent: &[u64], states: u64, last: u8, back: &mut [u64])

@@ -35,7 +35,7 @@ use Rattle.verifier.specs.Estimators.{Limits, InLimits, Grown, GrownOn}
 use Rattle.verifier.specs.Replies.{FindingsBy, toldOf, noneTold, noLeaks, stepsBy, toldAt, numbered, toldEach, refused, said, OthersNoLeak, Others}
 use Rattle.verifier.specs.Replies.{refused-by, verdicts-by, saidBy, OthersBy, chosen, Opening, opened, Accepting, accepted, Moved, TellsBy}
 use Rattle.verifier.specs.Replies.{AcceptingBy, turned-back, accepted-by}
-use Rattle.estimates.specs.LookBack.{Found, Delayed}
+use Rattle.estimates.specs.StepsBack.{Found, Delayed}
 use Rattle.estimates.specs.declared.Remembered.{Remembered}
 use Rattle.verifier.specs.Inner.{rememberedOf, upTo, Asks, askFor, chosenAnswer, WhereAsked, Judged, JudgedAt, JudgedAll, Opened, AcceptingAsked}
 use Rattle.verifier.specs.declared.Reply.{Reply}

@@ -18,7 +18,7 @@ ghost use Prim.Native.Nat.{_≤_, min};
 ghost use lib.ListN.{length, getD, replicate};
 ghost use Rattle.automaton.specs.Run.{automatonOf};
 ghost use Rattle.estimates.specs.Estimates.{UnobservableReach};
-ghost use Rattle.estimates.specs.LookBack.{Delayed};
+ghost use Rattle.estimates.specs.StepsBack.{Delayed};
 ghost use Rattle.opacity.specs.declared.Notion.the-variants as notion;
 ghost use Rattle.opacity.specs.Secrets.{own, secretsOf, secretAt};
 ghost use Rattle.verifier.specs.Inner.{rememberedOf, Ready, Explored, StrongGiven, StrongEach, Asks, Judged, JudgedAt, JudgedAll};

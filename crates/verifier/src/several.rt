@@ -17,7 +17,7 @@ ghost use Rattle.relation.specs.Relation.{setAt};
 ghost use Rattle.opacity.specs.declared.Notion.the-variants as notion;
 ghost use Rattle.opacity.specs.declared.Verdict.the-variants as verdict;
 ghost use Rattle.opacity.specs.Secrets.{secretOf, secretsOf, secretAt};
-ghost use Rattle.estimates.specs.LookBack.{Prepared, Found, WithStep};
+ghost use Rattle.estimates.specs.StepsBack.{Prepared, Found, WithStep};
 ghost use Rattle.verifier.specs.Inner.{verdictAt, StrongEach};
 
 // A strong verdict with one more step tested, l: one that was found stays; else it is leak l where no state of the entry set is in `then`.

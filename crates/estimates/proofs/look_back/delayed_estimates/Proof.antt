@@ -12,7 +12,7 @@ use lib.Seq.{getD-set-same}
 use Rattle.automaton.specs.Run.{Automaton, automatonOf}
 use Rattle.automaton.specs.Reaching.{Showing}
 use Rattle.estimates.specs.Estimates.{UnobservableReach}
-use Rattle.estimates.specs.LookBack.{Looks, Remembers}
+use Rattle.estimates.specs.StepsBack.{Looks, Remembers}
 use Rattle.estimates.proofs.LookBack.{remembers-part, Follows, follows-start, follows-step, delayed-whole, Past, past-start, past-turn}
 use Rattle.estimates.proofs.look_back.delayed_estimates.Statement.{statement}
 use Rattle.estimates.proofs.look_back.delayed_estimates.Tie as tie

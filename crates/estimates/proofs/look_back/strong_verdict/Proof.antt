@@ -16,7 +16,7 @@ use Rattle.opacity.specs.declared.Notion.the-variants.{Strong}
 use Rattle.opacity.specs.declared.Secret.{Secret}
 use Rattle.opacity.specs.Secrets.{secretOf}
 use Rattle.opacity.specs.Verdicts.{NoLeakBelow}
-use Rattle.estimates.specs.LookBack.{Looks}
+use Rattle.estimates.specs.StepsBack.{Looks}
 use Rattle.estimates.proofs.LookBack.{ForTraces, Follows, follows-start, follows-step, remembers-inside, strong-sure, strong-clear}
 use Rattle.opacity.proofs.Exactness.{below-start, below-step, below-leak, below-last}
 use Rattle.estimates.proofs.look_back.strong_verdict.Statement.{statement}

@@ -27,7 +27,7 @@ use Rattle.opacity.specs.declared.Notion.the-variants.{Weak}
 use Rattle.opacity.specs.declared.Secret.{Secret}
 use Rattle.opacity.specs.Secrets.{secretOf}
 use Rattle.opacity.specs.Verdicts.{NoLeakBelow}
-use Rattle.estimates.specs.LookBack.{Looks, DecidedBy}
+use Rattle.estimates.specs.StepsBack.{Looks, DecidedBy}
 use Rattle.estimates.proofs.Passing.{Passed, pass-start, pass-turn, pass-end, digit-in}
 use Rattle.estimates.proofs.LookBack.{ForTracesWith, Follows, follows-start, follows-step, remembers-inside, delayed-is, delayed-by}
 use Rattle.estimates.proofs.LookBack.{estimate-by, decided-sure, decided-clear}

@@ -18,7 +18,7 @@ use Rattle.opacity.specs.declared.Notion.the-variants.{Strong}
 use Rattle.opacity.specs.declared.Verdict.{Verdict}
 use Rattle.opacity.specs.Secrets.{secretOf}
 use Rattle.opacity.specs.Verdicts.{stepsOf, Bounded}
-use Rattle.estimates.specs.LookBack.{Looks}
+use Rattle.estimates.specs.StepsBack.{Looks}
 use Rattle.verifier.specs.Inner.{verdictAt}
 use Rattle.estimates.proofs.LookBack.{ForTraces, Searched, searched-step, searched-end, searched-bounded, Follows, follows-start, follows-step}
 use Rattle.estimates.proofs.LookBack.{remembers-inside, strong-sure, strong-clear}

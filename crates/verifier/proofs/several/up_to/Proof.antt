@@ -9,7 +9,7 @@ use Rattle.opacity.specs.declared.Notion.{Notion}
 use Rattle.opacity.specs.declared.Verdict.{Verdict}
 use Rattle.opacity.specs.declared.Verdict.the-variants.{NoLeak, Leak}
 use Rattle.opacity.specs.Secrets.{secretOf}
-use Rattle.estimates.specs.LookBack.{Found}
+use Rattle.estimates.specs.StepsBack.{Found}
 use Rattle.opacity.proofs.Exactness.{sure-any, clear-any}
 use Rattle.verifier.proofs.several.up_to.Statement.{statement}
 use Rattle.verifier.proofs.several.up_to.Tie as tie

@@ -86,8 +86,8 @@ module _ (t : List ℕ) where
       let x = observable-event h byte o in
       subst (λ (n : ℕ). Observable h′ n) (sym (g .symbols-are (x .0) (x .2)) ∙ x .3) (event-observable h′ (x .0) (x .1) (in-same _ _ (g .same) (x .0) (x .2)))
 
-  sound-to : (h h′ : Header) → SameSymbols (automatonOf t h) (automatonOf t h′) → h .k ≡ h′ .k → WellFormed t h → WellFormed t h′
-  sound-to h h′ g k x =
+  well-formed-to : (h h′ : Header) → SameSymbols (automatonOf t h) (automatonOf t h′) → h .k ≡ h′ .k → WellFormed t h → WellFormed t h′
+  well-formed-to h h′ g k x =
       record {
         words = x .words;
         back = omega (arith, x .back);
@@ -102,7 +102,7 @@ module _ (t : List ℕ) where
     same-observable byte = (observable-to h h′ g byte, observable-to h′ h (same-back _ _ g) byte)
 
     pub same-well-formed : h .k ≡ h′ .k → WellFormed t h ↔ WellFormed t h′
-    same-well-formed k = (sound-to h h′ g k, sound-to h′ h (same-back _ _ g) (sym k))
+    same-well-formed k = (well-formed-to h h′ g k, well-formed-to h′ h (same-back _ _ g) (sym k))
 
 -- what is the same under a header with other symbols for unobservable events is the same under any two headers that differ there alone
 abbrev pub relabelled : Header → List ℕ → Header
@@ -127,13 +127,13 @@ observable? h byte =
     (some? (λ e. showsBy (h .observable) (h .symbols) e ≡ byte ∷ []) (λ e. same? (showsBy (h .observable) (h .symbols) e) (byte ∷ [])) 32)
 
 -- so each list of bytes under the one header has a list under the other that corresponds to it
-module _ (t : List ℕ) (h h′ : Header) (s : SameButSymbols (automatonOf t h) (automatonOf t h′)) (sound : WellFormed t h′) where
+module _ (t : List ℕ) (h h′ : Header) (s : SameButSymbols (automatonOf t h) (automatonOf t h′)) (well-formed : WellFormed t h′) where
   pub same-byte : (x : ℕ) → (y : ℕ) × SameByte t h h′ x y
   same-byte x = go (observable? h x)
     where
       go : Dec (Observable h x) → (y : ℕ) × SameByte t h h′ x y
       go (yes o) = let y = other-symbol t h h′ s x o in (y .0, of-event (y .1))
-      go (no never) = (32, of-none never (λ o. let e = observable-event h′ 32 o in omega (arith, e .3, sound .symbols-small (e .0) (e .2))))
+      go (no never) = (32, of-none never (λ o. let e = observable-event h′ 32 o in omega (arith, e .3, well-formed .symbols-small (e .0) (e .2))))
 
   pub same-bytes : (xs : List ℕ) → (ys : List ℕ) × Pairs (SameByte t h h′) xs ys
   same-bytes [] = ([], no-more)
@@ -162,9 +162,9 @@ module _ (t : List ℕ) (h h′ : Header) (s : SameButSymbols (automatonOf t h) 
 -- so each list of events, offered without symbols, is paired with a list of symbols
 pub event-bytes : (t : List ℕ) (h h′ : Header) → SameButSymbols (automatonOf t h) (automatonOf t h′) → WellFormed t h
     → (ys : List ℕ) → (xs : List ℕ) × Pairs (SameByte t h h′) xs ys
-event-bytes t h h′ s sound ys =
+event-bytes t h h′ s well-formed ys =
     let back = but-back _ _ s in
-    let xs = same-bytes t h′ h back sound ys in
+    let xs = same-bytes t h′ h back well-formed ys in
     (xs .0, same-bytes-back t h′ h back ys (xs .0) (xs .1))
 
 -- where all of them are observable, with their symbols

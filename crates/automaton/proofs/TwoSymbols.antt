@@ -41,22 +41,22 @@ two : (e : ℕ) → In e 3 → e < 2
 two e i = in-lt 2 e 3 (omega arith) i
 
 -- the three headers are automata with this table
-sound : (symbols : List ℕ) → ((e : ℕ) → e < 2 → getD symbols e 0 ≤ 31) → WellFormed one-state (header symbols)
-sound symbols small = record { words = refl; back = omega arith; start = omega arith; symbols-small = λ e i. small e (two e i) }
+well-formed : (symbols : List ℕ) → ((e : ℕ) → e < 2 → getD symbols e 0 ≤ 31) → WellFormed one-state (header symbols)
+well-formed symbols small = record { words = refl; back = omega arith; start = omega arith; symbols-small = λ e i. small e (two e i) }
 
 at-most-31 : (a b : ℕ) (others : List ℕ) → a ≤ 31 → b ≤ 31 → (e : ℕ) → e < 2 → getD (a ∷ b ∷ others) e 0 ≤ 31
 at-most-31 a b others ha hb zero h = ha
 at-most-31 a b others ha hb (suc zero) h = hb
 at-most-31 a b others ha hb (suc (suc e)) h = absurd (omega arith)
 
-pub sound-5-6 : WellFormed one-state header-5-6
-sound-5-6 = sound _ (at-most-31 5 6 (5 ∷ replicate 29 0) (omega arith) (omega arith))
+pub well-formed-5-6 : WellFormed one-state header-5-6
+well-formed-5-6 = well-formed _ (at-most-31 5 6 (5 ∷ replicate 29 0) (omega arith) (omega arith))
 
-pub sound-plain : WellFormed one-state plain-header
-sound-plain = sound _ (at-most-31 0 1 (replicate 30 0) (omega arith) (omega arith))
+pub well-formed-plain : WellFormed one-state plain-header
+well-formed-plain = well-formed _ (at-most-31 0 1 (replicate 30 0) (omega arith) (omega arith))
 
-pub sound-5-6-9 : WellFormed one-state header-5-6-9
-sound-5-6-9 = sound _ (at-most-31 5 6 (9 ∷ replicate 29 0) (omega arith) (omega arith))
+pub well-formed-5-6-9 : WellFormed one-state header-5-6-9
+well-formed-5-6-9 = well-formed _ (at-most-31 5 6 (9 ∷ replicate 29 0) (omega arith) (omega arith))
 
 pub events-0-1 : Events p (0 ∷ 1 ∷ [])
 unfolding bit

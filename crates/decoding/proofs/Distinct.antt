@@ -1,5 +1,5 @@
 -- Of an accepted encoding no transition is listed twice, so that their number is the number of different ones. Assumes nothing.
-use Prim.Native.Nat.{ℕ, zero, suc, _+_, _≤_, _<_}
+use Prim.Native.Nat.{ℕ, zero, suc, _≤_, _<_}
 use mathlib.Core.Path.{_≡_, refl, sym, ap, subst, _∙_}
 use mathlib.Core.Bool.{Bool, true, false, _||_, false≢true}
 use mathlib.Core.List.{List, [], _∷_, _++_}
@@ -11,7 +11,7 @@ use Rattle.bitfields.specs.Parser.{done}
 use Rattle.bitfields.proofs.Parsing.{same-done}
 use Rattle.encoding.specs.Transitions.{sameTransition, listed}
 use Rattle.encoding.specs.declared.ListedTransition.{ListedTransition}
-use Rattle.encoding.specs.Repeats.{Distinct, Counted, Different}
+use Rattle.decoding.specs.Repeats.{Distinct, Counted, Different}
 use Rattle.encoding.specs.Encoding.{Encoding, encoding, transitions}
 use Rattle.encoding.proofs.Listed.{unless-true, or-split, same-equal, first-listed, later-listed, listed-snoc}
 use Rattle.encoding.proofs.Ended.{transitions-read, encoding-read}

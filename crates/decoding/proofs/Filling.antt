@@ -16,7 +16,7 @@ use Rattle.encoding.specs.Answers.{frontEnd, preambleEnd, FrontSmall}
 use Rattle.encoding.specs.declared.Front.{Front}
 use Rattle.encoding.specs.declared.ListedTransition.{ListedTransition}
 use Rattle.encoding.proofs.Ended.{symbols-few}
-use Rattle.encoding.proofs.Stored.{table-none, table-more}
+use Rattle.decoding.proofs.Stored.{table-none, table-more}
 use Rattle.decoding.proofs.Carried.{moved}
 
 pub none-filled : (bits : List ℕ) (at : ℕ) → replicate 2048 0 ≡ tableOf (transitionsAt bits at 0)

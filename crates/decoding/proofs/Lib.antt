@@ -1,4 +1,5 @@
--- The promise at each return of `decode`.
+-- A table that holds transitions, and the promise at each return of `decode`.
+pub mod Stored
 pub mod Promise
 -- For the walks over the Reader: what was read where it came to, the table so far; and of any crate's, a slice that is lent again and a loop that counts.
 mod Carried

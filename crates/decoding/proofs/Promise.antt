@@ -16,7 +16,7 @@ use Rattle.encoding.specs.declared.Front.{Front}
 use Rattle.decoding.specs.declared.Decoded.{Decoded}
 use Rattle.encoding.specs.declared.FrontAnswer.the-variants.{Value}
 use Rattle.encoding.proofs.Ended.{encoding-in}
-use Rattle.encoding.proofs.Stored.{holds}
+use Rattle.decoding.proofs.Stored.{holds}
 
 -- what is promised of a refusal is promised of the struct that says it
 pub refuses : (bytes table : List ℕ) (refusal : Refusal) {r : Decoded} → r ≡ refusedBy refusal

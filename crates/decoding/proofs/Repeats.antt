@@ -12,7 +12,7 @@ use Rattle.bitfields.proofs.Parsing.{on-refused}
 use Rattle.encoding.specs.Transitions.{listed}
 use Rattle.encoding.specs.declared.ListedTransition.{ListedTransition}
 use Rattle.encoding.specs.Encoding.{Encoding, encoding, ending, Preamble, preamble, transition, transitions}
-use Rattle.encoding.specs.Repeats.{Again, Repeats}
+use Rattle.decoding.specs.Repeats.{Again, Repeats}
 use Rattle.encoding.proofs.Ended.{transitions-repeated, transitions-stop}
 use Rattle.decoding.proofs.Refusing.{preamble-never, transition-never, ending-never}
 

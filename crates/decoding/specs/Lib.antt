@@ -1,2 +1,3 @@
--- What the contract of `decode` cites, over the layout (`encoding/specs`).
+-- Decoding: what the contract of `decode` cites, over the layout (`encoding/specs`). Repeats: for theorems alone.
 pub mod Decoding
+pub mod Repeats

@@ -2,8 +2,6 @@
 // The whole encoding is checked first (`first_pass`), so that a refusal leaves the table as it was; then the table is cleared and filled (`second_pass`).
 // Each pass makes one Reader of `bitfields` where it begins, which goes from field to field; what the fields answer is judged by `encoding` below. Only
 // `decode` is an entry: it demands nothing of its caller.
-mod preamble; // the fields before the transitions
-mod transitions; // the transitions, one after another
 mod first_pass; // all of an encoding is in order
 mod second_pass; // what it says is stored
 

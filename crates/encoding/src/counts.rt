@@ -7,8 +7,11 @@ use super::FrontAnswer;
 ghost use mathlib.Core.Path.{_≡_};
 ghost use Prim.Native.Nat.{_*_};
 ghost use Rattle.encoding.specs.Encoding.{symbolCount};
-ghost use Rattle.encoding.specs.Answers.{FixedSmall, FrontSmall, FixedAnswerSmall, FrontAnswerSmall};
 ghost use Rattle.encoding.specs.Answers.{
+  FixedSmall,
+  FrontSmall,
+  FixedAnswerSmall,
+  FrontAnswerSmall,
   frontEnd,
   preambleEnd,
   statesOf,
@@ -167,5 +170,5 @@ pub fn transition_count(front: Front) -> usize
     ensures { λ r. ⌜ r ≡ front .fixed .count ⌝ }
 {
     let fixed = front.fixed;
-    fixed.count // as the front says
+    fixed.count // all that are listed
 }

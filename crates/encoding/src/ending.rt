@@ -28,6 +28,7 @@ pub fn ending_at(bytes: &[u8], at: usize) -> Checked
     Checked::Valid
 }
 
+// The front of a whole encoding that is in order: else the first refusal, of the front, of the transitions or of what stands behind them.
 pub fn checked_from(answer: FrontAnswer, listed: Checked, ended: Checked) -> FrontAnswer
     ensures { λ r. ⌜ ((bits : List ℕ) → preambleMeans bits answer ≡ preamble bits 0
         → checkedMeans (transitionsAt bits (startOf answer) (countOf answer)) (startOf answer + countOf answer * 17) listed

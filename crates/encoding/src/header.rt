@@ -40,6 +40,7 @@ fn all_symbols(bytes: &[u8], at: usize, n: usize, observable: u64) -> [u8; 32]
     symbols
 }
 
+// The header, with the symbols that stand at a position.
 pub fn header_at(bytes: &[u8], at: usize, front: Front) -> Header
     requires { ⌜ (at ≡ frontEnd front) × FrontSmall front × (preambleEnd front ≤ length (bitsOf (now bytes))) ⌝ }
     ensures { λ r. ⌜ r ≡ headerOf front (givenSymbols (bitsOf (now (bytes .entry))) front) ⌝ }

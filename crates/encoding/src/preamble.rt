@@ -62,6 +62,7 @@ pub fn fixed_from(
     })
 }
 
+// The front, from what its parts answered: the first refusal, or all of it.
 pub fn front_from(answer: FixedAnswer, secret: Flags, observable: Flags) -> FrontAnswer
     ensures { λ r. ⌜ ((bits : List ℕ) → fixedMeans answer ≡ fixed bits 0 → flagsMeans (32 + statesOf answer) secret ≡ flags (statesOf answer) bits 32
         → flagsMeans (32 + statesOf answer + eventsOf answer) observable ≡ flags (eventsOf answer) bits (32 + statesOf answer)
@@ -96,6 +97,7 @@ pub fn symbols_at(bytes: &[u8], at: usize, n: usize) -> Checked
     Checked::Valid
 }
 
+// The front, where the symbols behind it are in order too.
 pub fn preamble_from(answer: FrontAnswer, listed: Checked) -> FrontAnswer
     ensures { λ r. ⌜ ((bits : List ℕ) → frontMeans answer ≡ front bits 0
         → checkedMeans (symbolsAt bits (endOf answer) (symbolsOf answer)) (endOf answer + symbolsOf answer * 5) listed

@@ -89,6 +89,7 @@ pub fn repeat_at(bytes: &[u8], at: usize, n: usize, earlier: Checked, one: Check
     }
 }
 
+// The three numbers of a transition, as one.
 pub fn numbers(from: usize, event: usize, to: usize) -> ListedTransition
     ensures { λ r. ⌜ r ≡ record { from = from; event = event; to = to } ⌝ }
 {

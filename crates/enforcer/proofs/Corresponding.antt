@@ -155,7 +155,7 @@ module _ (t : List ℕ) (h h′ : Header) (like : Alike (automatonOf t h) (autom
         (alike-longest _ _ like a b x (secretsOf h f) notion (length a - s .count) (g .grown .queue .longest)) in
         one-longest S b (length a - s .count) (length b - s′ .count) l (g′ .grown .queue .longest)
 
-    module _ (sound : WellFormed t h) (sound′ : WellFormed t h′) where
+    module _ (well-formed : WellFormed t h) (well-formed′ : WellFormed t h′) where
       abbrev AfterA : List ℕ → Enforcer → Type 0
       AfterA a s = After notion t h f a s
 
@@ -172,8 +172,8 @@ module _ (t : List ℕ) (h h′ : Header) (like : Alike (automatonOf t h) (autom
       one-pair : (a b : List ℕ) (s s′ : Enforcer) (o o′ : Offer) (m m′ : Enforcer) → Same a b → AfterA a s → AfterB b s′ → SameOffered t h h′ o o′
           → Offered t h s o m → Offered t h′ s′ o′ m′ → OnePair a b o o′ m m′
       one-pair a b s s′ o o′ m m′ x g g′ offered step step′ =
-          let y = third.one notion t h f sound a s (o .byte) (o .output) (o .says) m (o .left) g step in
-          let z = third.one notion t h′ f sound′ b s′ (o′ .byte) (o′ .output) (o′ .says) m′ (o′ .left) g′ step′ in
+          let y = third.one notion t h f well-formed a s (o .byte) (o .output) (o .says) m (o .left) g step in
+          let z = third.one notion t h′ f well-formed′ b s′ (o′ .byte) (o′ .output) (o′ .says) m′ (o′ .left) g′ step′ in
           let j = judged-alike a b x o o′ offered (o .says) (o′ .says) (y .judged) (z .judged) in
           let a1 = a ++ takenBy (o .says) (o .byte) in
           let b1 = b ++ takenBy (o′ .says) (o′ .byte) in
@@ -284,14 +284,14 @@ module _ (p q : Automaton) (like : Alike p q) (f : Further) (cs : List Secret) (
 pub alike-starts : (notion : Notion) (t : List ℕ) (h h′ : Header) (f : Further) → Alike (automatonOf t h) (automatonOf t h′) → h .secret ≡ h′ .secret
     → h .k ≡ h′ .k
     → WellFormed t h ↔ WellFormed t h′ → (r r′ : StartOutcome) (s s′ : Enforcer) → Starting t h f notion r s → Starting t h′ f notion r′ s′ → r ≡ r′
-alike-starts notion t h h′ f like secret k sounds r r′ s s′ x y =
+alike-starts notion t h h′ f like secret k both-formed r r′ s s′ x y =
     first-alike r r′ (not-started 9) (reasons t h f notion r s x)
     (subst (λ (cs : List Secret). Reasons (automatonOf t h′) cs f notion r′ (WellFormed t h′)) (sym (same-own h h′ f secret k)) (reasons t h′ f notion r′ s′ y))
-    (λ bad z. bad (sounds .1 (z .0))) (λ z bad. bad (sounds .0 (z .0)))
+    (λ bad z. bad (both-formed .1 (z .0))) (λ z bad. bad (both-formed .0 (z .0)))
     (λ a b. counts-alike _ _ like f (secretsOf h f) notion r r′ (a .1) (b .1))
 
-started-sound : (notion : Notion) (t : List ℕ) (h : Header) (f : Further) (s : Enforcer) → Starting t h f notion started s → WellFormed t h
-started-sound notion t h f s x = started-after notion t h f s x .0
+started-well-formed : (notion : Notion) (t : List ℕ) (h : Header) (f : Further) (s : Enforcer) → Starting t h f notion started s → WellFormed t h
+started-well-formed notion t h f s x = started-after notion t h f s x .0
 
 -- so where no two observable events share a symbol: a start with symbols and one without are answered alike, and what is then accepted and released is
 -- the symbols of what is without symbols
@@ -311,7 +311,7 @@ module _ (notion : Notion) (t : List ℕ) (h h′ : Header) (f : Further) (d : D
   pub distinct-offers : (r′ : StartOutcome) (s s′ : Enforcer) → Starting t h f notion started s → Starting t h′ f notion r′ s′
       → (r′ ≡ started) × OffersFollow t h h′ s s′
   distinct-offers r′ s s′ x y =
-      let e = sym (distinct-starts (started-sound notion t h f s x) started r′ s s′ x y) in
+      let e = sym (distinct-starts (started-well-formed notion t h f s x) started r′ s s′ x y) in
       (e, follow s s′ x (subst (λ (r : StartOutcome). Starting t h′ f notion r s′) e y))
 
   -- the one without symbols has
@@ -327,32 +327,32 @@ module _ (t : List ℕ) (h : Header) (symbols : List ℕ) (g : SameSymbols (auto
   abbrev other : Header
   other = relabelled h symbols
 
-  sound-to : WellFormed t h → WellFormed t other
-  sound-to so = same-well-formed t h other g refl .0 so
+  well-formed-to : WellFormed t h → WellFormed t other
+  well-formed-to so = same-well-formed t h other g refl .0 so
 
   starting-to : (f : Further) (notion : Notion) (r : StartOutcome) (s : Enforcer) → Starting t h f notion r s → Starting t other f notion r s
   starting-to f notion r s (Starting.malformed bad out) = Starting.malformed (λ so. bad (same-well-formed t h other g refl .1 so)) out
-  starting-to f notion r s (Starting.too-many-secrets so many out) = Starting.too-many-secrets (sound-to so) many out
-  starting-to f notion r s (Starting.look-back-too-large so few large out) = Starting.look-back-too-large (sound-to so) few large out
+  starting-to f notion r s (Starting.too-many-secrets so many out) = Starting.too-many-secrets (well-formed-to so) many out
+  starting-to f notion r s (Starting.look-back-too-large so few large out) = Starting.look-back-too-large (well-formed-to so) few large out
   starting-to f notion r s (Starting.initial-leak so allowed l out) =
-      Starting.initial-leak (sound-to so) allowed
+      Starting.initial-leak (well-formed-to so) allowed
       (record { number = l .number; given = l .given; tells = same-tells _ _ g [] _ notion (leak 0) .0 (l .tells) }) out
   starting-to f notion r s (Starting.ready so allowed each-none same x) =
-      Starting.ready (sound-to so) allowed (λ i given. same-tells _ _ g [] _ notion none .0 (each-none i given)) same
+      Starting.ready (well-formed-to so) allowed (λ i given. same-tells _ _ g [] _ notion none .0 (each-none i given)) same
       (same-grown _ _ g notion (secretsIn h s) [] s .0 x)
 
   offering-to : (self : Enforcer) (byte : ℕ) (output : List ℕ) (r : OfferOutcome) (after : Enforcer) (left : List ℕ)
       → Offering t h self byte output r after left
       → Offering t other self byte output r after left
   offering-to self byte output r after left (Offering.malformed bad) = Offering.malformed (λ x. bad (same-well-formed t h other g refl .1 (x .0), x .1))
-  offering-to self byte output r after left (Offering.output-too-small so li few) = Offering.output-too-small (sound-to so) li few
+  offering-to self byte output r after left (Offering.output-too-small so li few) = Offering.output-too-small (well-formed-to so) li few
   offering-to self byte output r after left (Offering.not-observable so li wide never) =
-      Offering.not-observable (sound-to so) li wide (λ o. never (same-observable t h other g byte .1 o))
+      Offering.not-observable (well-formed-to so) li wide (λ o. never (same-observable t h other g byte .1 o))
   offering-to self byte output r after left (Offering.incompatible so li wide ob nobody) =
-      Offering.incompatible (sound-to so) li wide (same-observable t h other g byte .0 ob) (λ notion trace x.
+      Offering.incompatible (well-formed-to so) li wide (same-observable t h other g byte .0 ob) (λ notion trace x.
       impossible-agree _ _ _ _ (same-agree _ _ g (trace ++ byte ∷ [])) (nobody notion trace (same-grown _ _ g notion (secretsIn h self) trace self .1 x)))
   offering-to self byte output r after left (Offering.accepted {r = released-now} so li wide ob same la bal front rest within exact) =
-      Offering.accepted (sound-to so) li wide (same-observable t h other g byte .0 ob) same la bal front rest within (λ notion trace x.
+      Offering.accepted (well-formed-to so) li wide (same-observable t h other g byte .0 ob) same la bal front rest within (λ notion trace x.
       let y = exact notion trace (same-grown _ _ g notion (secretsIn h self) trace self .1 x) in
       record {
         possible = possible-agree _ _ _ _ (same-agree _ _ g (trace ++ byte ∷ [])) (y .possible);

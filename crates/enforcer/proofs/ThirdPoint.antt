@@ -38,9 +38,9 @@ module _ (notion : Notion) (t : List ℕ) (h : Header) (f : Further) where
   }
 
   pub started-after : (s : Enforcer) → Starting t h f notion started s → WellFormed t h × After notion t h f [] s
-  started-after s (Starting.ready sound allowed tells same grown) = (sound, after-held [] s same grown)
+  started-after s (Starting.ready well-formed allowed tells same grown) = (well-formed, after-held [] s same grown)
 
-module _ (notion : Notion) (t : List ℕ) (h : Header) (f : Further) (sound : WellFormed t h) where
+module _ (notion : Notion) (t : List ℕ) (h : Header) (f : Further) (well-formed : WellFormed t h) where
   abbrev AfterBy : List ℕ → Enforcer → Type 0
   AfterBy trace s = After notion t h f trace s
 
@@ -61,7 +61,7 @@ module _ (notion : Notion) (t : List ℕ) (h : Header) (f : Further) (sound : We
 
   pub one : (trace : List ℕ) (s : Enforcer) (b : ℕ) (output : List ℕ) (r : OfferOutcome) (m : Enforcer) (left : List ℕ) → AfterBy trace s
       → Offering t h s b output r m left → OneOf trace s (record { byte = b; output = output; says = r; left = left }) m
-  one trace s b output r m left g (Offering.malformed bad) = absurd (bad (sound, held notion t h f trace s g .limits))
+  one trace s b output r m left g (Offering.malformed bad) = absurd (bad (well-formed, held notion t h f trace s g .limits))
   one trace s b output r m left g (Offering.output-too-small so li few) = turned trace s b output left 10 g (TurnedBack.output-too-small few)
   one trace s b output r m left g (Offering.not-observable so li wide never) = turned trace s b output left 6 g (TurnedBack.not-observable wide never)
   one trace s b output r m left g (Offering.incompatible so li wide ob none) =

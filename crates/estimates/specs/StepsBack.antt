@@ -2,7 +2,6 @@
 use mathlib.Core.Path.{_≡_}
 use mathlib.Core.List.{List}
 use Prim.Native.Nat.{ℕ, suc, _≤_, _<_, _-_}
-use lib.Bits.{bitAnd}
 use lib.ListN.{length, getD, take}
 use Rattle.stateset.specs.Set.{In, Is}
 use Rattle.relation.specs.Relation.{Sub}
@@ -12,7 +11,6 @@ use Rattle.automaton.specs.declared.Header.{Header}
 use Rattle.opacity.specs.declared.Notion.{Notion}
 use Rattle.opacity.specs.declared.Secret.{Secret}
 use Rattle.opacity.specs.declared.Verdict.{Verdict}
-use Rattle.opacity.specs.declared.Verdict.the-variants.{NoLeak, Leak}
 use Rattle.opacity.specs.Verdicts.{stepsOf, Bounded, Tells}
 use Rattle.estimates.specs.Estimates.{Inside}
 
@@ -42,7 +40,7 @@ pub record Looks (p : Automaton) (t sets entries silent back : List ℕ) (states
   pub near : Near p entries silent states
   pub back-are : 0 < last → Entered p states back
 
--- what a look back over `last` steps works on: a table of 2,048 words, at most 15 steps, and all this
+-- what a look back over `last` steps requires: a table of 2,048 words, at most 15 steps, and all this
 pub record Prepared (t : List ℕ) (h : Header) (sets entries silent back : List ℕ) (states last : ℕ) : Type 0 where
   pub words : length t ≡ 2048
   pub few : last ≤ 15
@@ -64,9 +62,3 @@ pub record Found (notion : Notion) (p : Automaton) (secret : Secret) (n : ℕ) (
 pub record Delayed (p : Automaton) (symbols entries : List ℕ) (last : ℕ) (past : List ℕ) : Type 0 where
   pub size : length past ≡ 16
   pub are : (trace : List ℕ) (l : ℕ) → l ≤ last → Remembers p trace l symbols entries → Is (getD past l 0) (DelayedEstimate p trace (length trace - l))
-
--- a verdict with step l tested: one that was found stays, and else it is leak l where the entry set and `then` share no state
-pub data WithStep (entry then l : ℕ) : Verdict → Verdict → Type 0 where
-  stays : {m : ℕ} → WithStep entry then l (Leak m) (Leak m)
-  leaks : bitAnd entry then ≡ 0 → WithStep entry then l NoLeak (Leak l)
-  clears : (bitAnd entry then ≡ 0 → ⊥) → WithStep entry then l NoLeak NoLeak

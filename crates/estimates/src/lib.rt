@@ -1,5 +1,5 @@
 // What is remembered of the symbols, and which states are possible: now, right after a symbol and with the unobservable transitions after it; and before,
-// over the steps back. All of this is inner: for the crate above, whose estimator holds the conditions; there is no entry.
+// over the steps back. None of these functions is an entry: `verifier` calls them, and proves what they require.
 pub mod look_back; // over the steps back: the verdicts of one secret, and the sets m(l) for all
 
 use automaton::Header;
@@ -12,8 +12,8 @@ ghost use Rattle.automaton.specs.Run.{automatonOf};
 ghost use Rattle.automaton.specs.Reaching.{Showing, Known, Gained};
 ghost use Rattle.estimates.specs.Estimates.{Pushed, Inside, Estimated, Next};
 
-// What a look back works on: how many symbols are remembered, these, the newest first, and for each step back the states right after the last one that
-// is left.
+// What is kept of a trace for look backs: how many symbols are remembered, these, the newest first, and for each step back the states right after the last
+// one that is left.
 pub struct Remembered {
     pub count: u8,
     pub symbols: [u8; 15],

@@ -36,7 +36,7 @@ use Rattle.examples.specs.Meaning.{Says, Example, Row, about, descriptio
 use Rattle.examples.specs.StarredRows.{rows, EveryRowHolds}
 use Rattle.examples.proofs.Booleans.{every, sameList, same-list, list-same}
 use Rattle.examples.proofs.Checks.{Check, done, failed, checked, map, then, both, either, by, le?, eq?, all-below, some-below}
-use Rattle.examples.proofs.TableLaw.{inRange, some-table, sound}
+use Rattle.examples.proofs.TableLaw.{inRange, some-table, table-well-formed}
 use Rattle.examples.proofs.Descriptions.{description?}
 use Rattle.examples.proofs.NotionChecks.{For, possible?, impossible?, size?, tells?, longest?, tells-each?, opens-as-leak?, longest-for-all?}
 
@@ -208,7 +208,7 @@ about? e q =
     then (by (every inRange ts) (λ range. range)) (λ range.
     map (λ f. record {
       some = some-table ts range;
-      well-formed = λ t law. sound ts t law h (f .0) (f .1 .0) (f .1 .1 .0);
+      well-formed = λ t law. table-well-formed ts t law h (f .0) (f .1 .0) (f .1 .1 .0);
       says = λ t law. f .1 .1 .1 (record { table = t; holds = law });
     })
     (both (le? (h .k) 15) (both (le? (h .initial) 63) (both (symbols? h) (says? ts h range q)))))

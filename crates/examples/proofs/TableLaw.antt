@@ -9,7 +9,7 @@ use Rattle.automaton.specs.declared.Header.{Header}
 use Rattle.encoding.specs.Transitions.{sameTransition}
 use Rattle.encoding.specs.declared.ListedTransition.{ListedTransition}
 use Rattle.encoding.specs.Table.{Holds, tableOf}
-use Rattle.encoding.proofs.Stored.{Small, holds-all}
+use Rattle.decoding.proofs.Stored.{Small, holds-all}
 use Rattle.decoding.proofs.Listing.{Placed, listed-exactly}
 use Rattle.examples.specs.Meaning.{TableOf}
 use Rattle.examples.proofs.Booleans.{every, and-left, and-right, is-true, from-true, meet}
@@ -37,8 +37,8 @@ pub some-table : (ts : List ListedTransition) → T (every inRange ts) → Table
 some-table ts all = record { table = tableOf ts; holds = holds-all ts (small ts all) }
 
 module _ (ts : List ListedTransition) (table : List ℕ) (law : Holds ts table) where
-  pub sound : (h : Header) → h .k ≤ 15 → h .initial ≤ 63 → SmallSymbols (h .observable) (h .symbols) → WellFormed table h
-  sound h back start small = record { words = law .size; back = back; start = start; symbols-small = small }
+  pub table-well-formed : (h : Header) → h .k ≤ 15 → h .initial ≤ 63 → SmallSymbols (h .observable) (h .symbols) → WellFormed table h
+  table-well-formed h back start small = record { words = law .size; back = back; start = start; symbols-small = small }
 
   pub listing : T (every inRange ts) → (h : Header) → Listing (automatonOf table h) ts
   listing all h = record {

@@ -60,10 +60,10 @@ idle-text t h v w n closed right =
 opening-size : {input t : List ℕ} {h : Header} (n : ℕ) → Monitored input t h → EstimateSize (automatonOf t h) [] n → RightSize (automatonOf t h) [] n
 opening-size {input} {t} {h} n m size =
     let d = m .decodes in
-    let sound = decoded-well-formed (encodingOf input) (d .before) h t (d .decoding) in
+    let well-formed = decoded-well-formed (encodingOf input) (d .before) h t (d .decoding) in
     right-size (automatonOf t h) [] n record {
       some = size-some (automatonOf t h) [] n (record { run = []; compatible = record { takes = tt; shown-is = refl } }) size;
-      most = size-most (automatonOf t h) [] n (sound .start) size;
+      most = size-most (automatonOf t h) [] n (well-formed .start) size;
     } size
 
 text-idle : {input t text : List ℕ} {h : Header} → Monitored input t h → length input ≡ frontSize input → Idle t h text → Output input text

@@ -40,7 +40,7 @@ use Rattle.monitor.proofs.Openings.{right-own}
 refused-as : (b : ℕ) (r q : Refusal) → numberOf q ≡ numberOf r → refusedLine b r ≡ refusedLine b q
 refused-as b r q e = ap (λ (n : ℕ). line ((33 ∷ []) ∷ decimal b ∷ decimal n ∷ [])) (sym e)
 
-module _ (t : List ℕ) (h : Header) (sound : WellFormed t h) where
+module _ (t : List ℕ) (h : Header) (well-formed : WellFormed t h) where
   -- a monitor after the accepted events, of which r are released
   record After (trace : List ℕ) (r : ℕ) (m : Monitor) : Type 0 where
     estimator : estimators.GrownOn t h trace (m .estimator)
@@ -57,7 +57,7 @@ module _ (t : List ℕ) (h : Header) (sound : WellFormed t h) where
       → numberOf q ≡ n → Accepting t h (m .estimator) b (verifier.refused n) s → Prints t h trace r bytes rest after r′
       → Prints t h trace r (b ∷ bytes) (refusedLine b q ++ rest) after r′
   by-verifier trace r m b q n s bytes rest after r′ a e (Accepting.malformed bad) p = absurd
-      (bad (sound, grown-limits (automatonOf t h) _ trace (m .estimator) (a .estimator) (sound .symbols-small)))
+      (bad (well-formed, grown-limits (automatonOf t h) _ trace (m .estimator) (a .estimator) (well-formed .symbols-small)))
   by-verifier trace r m b q n s bytes rest after r′ a e (Accepting.not-observable so li never) p =
       subst (λ (l : List ℕ). Prints t h trace r (b ∷ bytes) (l ++ rest) after r′) (sym (refused-as b q NotObservable (sym e))) (log.not-observable never p)
   by-verifier trace r m b q n s bytes rest after r′ a e (Accepting.incompatible so li ob impossible) p =
@@ -68,7 +68,7 @@ module _ (t : List ℕ) (h : Header) (sound : WellFormed t h) where
   agree : (trace : List ℕ) (r : ℕ) (m : Monitor) (b n : ℕ) (j : Findings) (s : Estimator) (output left : List ℕ) (e : Enforcer) → After trace r m
       → Accepting t h (m .estimator) b (verifier.verdicts j) s → length output ≡ 17 → Offering t h (m .enforcer) b output (enforcer.refused n) e left → ⊥
   agree trace r m b n j s output left e a acc wide (Offering.malformed bad) =
-      bad (sound, third.held Weak t h noFurther trace (m .enforcer) (a .enforcer) .limits)
+      bad (well-formed, third.held Weak t h noFurther trace (m .enforcer) (a .enforcer) .limits)
   agree trace r m b n j s output left e a acc wide (Offering.output-too-small so li small) = omega arith
   agree trace r m b n j s output left e a (Accepting.accepted so li ob same ls many bounded size exact) wide (Offering.not-observable so′ li′ enough never) =
       never ob
@@ -93,7 +93,7 @@ module _ (t : List ℕ) (h : Header) (sound : WellFormed t h) where
   by-both trace r m b j s q e output left a (Accepting.accepted so li ob same ls many bounded size exact) off =
       let f = q .count in
       let x = exact trace (a .estimator) in
-      let y = third.one Weak t h noFurther sound trace (m .enforcer) b output (enforcer.released q) e left (a .enforcer) off in
+      let y = third.one Weak t h noFurther well-formed trace (m .enforcer) b output (enforcer.released q) e left (a .enforcer) off in
       let len : length (trace ++ b ∷ []) ≡ length trace + 1 = length-append trace (b ∷ []) in
       let here : length trace - m .enforcer .count ≡ r = omega (arith, a .pending) in
       let there : length (trace ++ b ∷ []) - e .count ≡ r + f = omega (arith, a .pending, y .passes .shifted) in
@@ -172,14 +172,14 @@ pub log-promise : (log : List ℕ) (n : ℕ) (t : List ℕ) (h : Header) (m : Mo
     → Lines t h m bytes text e
     → MonitorPromise t h bytes text e
 log-promise log n t h m bytes text e (opened within d fresh) ls =
-    let sound = decoded-well-formed (encodingOf log) (d .before) h t (d .decoding) in
+    let well-formed = decoded-well-formed (encodingOf log) (d .before) h t (d .decoding) in
     let few = fresh .enforcer .queue .few in
-    let a : After t h sound [] 0 m = record {
+    let a : After t h well-formed [] 0 m = record {
       estimator = fresh .estimator;
       enforcer = third.after-held Weak t h noFurther [] (m .enforcer) (fresh .enforcer-alone) (fresh .enforcer);
       accepted = fresh .accepted;
       released = fresh .released;
       pending = omega arith;
     } in
-    let y = follow t h sound [] 0 m (ls .events) e a (ls .steps) in
+    let y = follow t h well-formed [] 0 m (ls .events) e a (ls .steps) in
     record { trace = y .after; prints = rw (ls .bytes-are, ls .text-is) at (y .prints); accepted = y .accepted; pending = y .pending }

@@ -241,14 +241,15 @@ moved-by t h self symbol n from k silent e s so li ob x is largest same after pu
 -- the verdict of one secret that was found for an estimator, as that of the symbol that led to it
 found-by : (notion : Notion) (t : List ℕ) (h : Header) (self : Estimator) (symbol n : ℕ) (s : Estimator) (c : Secret) (v : Verdict)
     → c .k ≤ lookBackOf h (s .further)
-    → Moved t h self symbol n s → Found notion (automatonOf t h) (upTo (s .count) c) (s .count) (s .symbols) (s .entries) v → TellsBy notion t h self symbol c (stepsOf v)
+    → Moved t h self symbol n s → Found notion (automatonOf t h) (upTo (s .count) c) (s .count) (s .symbols) (s .entries) v
+    → TellsBy notion t h self symbol c (stepsOf v)
 found-by notion t h self symbol n s c v low m f =
     record {
       bounded = bounded-up _ _ (stepsOf v) (omega arith) (f .bounded);
       tells = λ trace g. found-tells notion _ _ _ (trace ++ symbol ∷ []) s v low (m .grown trace g) f;
     }
 
-pub given-by : {notion : Notion} {a : Asked} {v : Verdict} {P Q : Type 0} → (P → Q) → WhereAsked notion a v P → WhereAsked notion a v Q
+given-by : {notion : Notion} {a : Asked} {v : Verdict} {P Q : Type 0} → (P → Q) → WhereAsked notion a v P → WhereAsked notion a v Q
 given-by f g = record { found = λ asks. f (g .found asks); silent = g .silent }
 
 -- the verdicts that were found for an estimator, as those of the symbol that led to it

@@ -31,7 +31,7 @@ right t h f trace j s as-many within x =
       size = right-size (automatonOf t h) trace (j .size) within (x .size);
     }
 
-module _ (t : List ℕ) (h : Header) (f : Further) (sound : WellFormed t h) where
+module _ (t : List ℕ) (h : Header) (f : Further) (well-formed : WellFormed t h) where
   -- one call after some accepted bytes, on an estimator with the secrets that were given
   record One (trace : List ℕ) (byte : ℕ) (says : Said) (m : Estimator) : Type 0 where
     answered : Answered t h f trace byte says
@@ -40,7 +40,7 @@ module _ (t : List ℕ) (h : Header) (f : Further) (sound : WellFormed t h) wher
 
   one : (trace : List ℕ) (s : Estimator) (byte : ℕ) (says : Said) (m : Estimator) → s .further ≡ clearedOf f → GrownOn t h trace s → Accepting t h s byte says m
       → One trace byte says m
-  one trace s byte says m same g (Accepting.malformed bad) = absurd (bad (sound, grown-limits (automatonOf t h) _ trace s g (sound .symbols-small)))
+  one trace s byte says m same g (Accepting.malformed bad) = absurd (bad (well-formed, grown-limits (automatonOf t h) _ trace s g (well-formed .symbols-small)))
   one trace s byte says m same g (not-observable so li never) = record { answered = inl (refl, never); same = same; grown = rw (append-nil trace) g }
   one trace s byte says m same g (incompatible so li ob none) = record { answered = inr (refl, ob, none trace g); same = same; grown = rw (append-nil trace) g }
   one trace s byte says m same g (accepted {j = j} so li ob kept after as-many b within exact) =
@@ -78,8 +78,8 @@ module _ (t : List ℕ) (h : Header) (f : Further) (sound : WellFormed t h) wher
 -- a fresh estimator with further secrets that was not refused, and a list of offered bytes
 pub second-point : (t : List ℕ) (h : Header) (f : Further) (j : Findings) (s : Estimator) (cs : List Call) (e : Estimator)
     → Opening t h f (verdicts j) s → Calls t h s cs e → VerifierPromise t h f j cs e
-second-point t h f j s cs e (opened sound allowed same li as-many within x) calls =
-    let y = follow t h f sound [] s cs e same (x .grown) calls in
+second-point t h f j s cs e (opened well-formed allowed same li as-many within x) calls =
+    let y = follow t h f well-formed [] s cs e same (x .grown) calls in
     record { opening = right t h f [] j s as-many within x; answered = y .answered; same = y .same; grown = y .grown }
 
 -- what a refused start hands back is no estimator: every byte offered to it, with every table and header, gets 9

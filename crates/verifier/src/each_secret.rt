@@ -9,7 +9,11 @@ use super::several::up_to;
 use automaton::Header;
 use estimates::Estimate;
 use estimates::Remembered;
-use estimates::look_back;
+use estimates::look_back::backward_rows;
+use estimates::look_back::delayed_estimates;
+use estimates::look_back::first_secret;
+use estimates::look_back::strong_verdict;
+use estimates::look_back::weak_verdict;
 use opacity::Secret;
 use opacity::Verdict;
 use opacity::Verdicts;
@@ -21,7 +25,7 @@ ghost use Rattle.estimates.specs.Estimates.{UnobservableReach};
 ghost use Rattle.estimates.specs.StepsBack.{Delayed};
 ghost use Rattle.opacity.specs.declared.Notion.the-variants as notion;
 ghost use Rattle.opacity.specs.Secrets.{own, secretsOf, secretAt};
-ghost use Rattle.verifier.specs.Inner.{rememberedOf, Ready, Explored, StrongGiven, StrongEach, Asks, Judged, JudgedAt, JudgedAll};
+ghost use Rattle.verifier.specs.Inner.{rememberedOf, PreparedFor, Explored, StrongGiven, StrongEach, Asks, Judged, JudgedAt, JudgedAll};
 
 fn smaller(a: u8, b: u8) -> u8
     ensures { λ r. ⌜ r ≡ min a b ⌝ }
@@ -32,8 +36,8 @@ fn smaller(a: u8, b: u8) -> u8
     b
 }
 
-// What a look back of the estimator works on.
-fn remembered(estimator: Estimator) -> Remembered
+// What the estimator remembers of its trace, for a look back.
+fn remembered_of(estimator: Estimator) -> Remembered
     ensures { λ r. ⌜ r ≡ rememberedOf estimator ⌝ }
 {
     let symbols = estimator.symbols;
@@ -57,17 +61,17 @@ fn judge_alone(
     estimate: Estimate,
     asked: Asked,
 ) -> Verdicts
-    requires { ⌜ Ready (now table) header (now sets) estimator (now silent) (now back) (estimate .near)
+    requires { ⌜ PreparedFor (now table) header (now sets) estimator (now silent) (now back) (estimate .near)
         × UnobservableReach (automatonOf (now table) header) (getD (estimator .entries) 0 0) (estimate .states) × (estimator .further .count ≡ 0) ⌝ }
     ensures { λ r. ⌜ Judged (now (table .entry)) header estimator (own header) asked r ⌝ }
 {
-    let steps = remembered(estimator);
+    let remembered = remembered_of(estimator);
     let near = estimate.near;
     let secret = header.secret;
     let mut weak = Verdict::NoLeak;
     if asked.weak {
-        weak = look_back::weak_verdict(
-            steps,
+        weak = weak_verdict(
+            remembered,
             table,
             header,
             sets,
@@ -80,7 +84,7 @@ fn judge_alone(
     }
     let mut strong = Verdict::NoLeak;
     if asked.strong {
-        strong = look_back::strong_verdict(steps, table, header, sets, silent, back, near, secret);
+        strong = strong_verdict(remembered, table, header, sets, silent, back, near, secret);
     }
     Verdicts {
         weak: weak,
@@ -107,7 +111,7 @@ fn judge(
     let states = secret.states;
     let mut weak = Verdict::NoLeak;
     if asked.weak {
-        weak = look_back::first_secret(past, states, last);
+        weak = first_secret(past, states, last);
     }
     let strong = up_to(found, last);
     Verdicts {
@@ -128,7 +132,7 @@ fn shared_estimates(
     past: &mut [u64],
     asked: Asked,
 )
-    requires { ⌜ Ready (now table) header (now sets) estimator (now silent) (now back) (estimate .near)
+    requires { ⌜ PreparedFor (now table) header (now sets) estimator (now silent) (now back) (estimate .near)
         × UnobservableReach (automatonOf (now table) header) (getD (estimator .entries) 0 0) (estimate .states) × (length (now past) ≡ 16) ⌝ }
     ensures { λ _. ⌜ (length (now (past .exit)) ≡ 16) × (Asks notion.Weak asked
         → Delayed (automatonOf (now (table .entry)) header) (estimator .symbols) (estimator .entries) (estimator .count) (now (past .exit))) ⌝ }
@@ -136,8 +140,17 @@ fn shared_estimates(
     if !asked.weak {
         return;
     }
-    let steps = remembered(estimator);
-    look_back::delayed_estimates(steps, table, header, sets, silent, back, estimate, past);
+    let remembered = remembered_of(estimator);
+    delayed_estimates(
+        remembered,
+        table,
+        header,
+        sets,
+        silent,
+        back,
+        estimate,
+        past,
+    );
 }
 
 impl Estimator {
@@ -208,7 +221,7 @@ impl Estimator {
         estimate: Estimate,
         asked: Asked,
     ) -> SecretVerdicts
-        requires { ⌜ Ready (now table) header (now sets) self (now silent) (now back) (estimate .near)
+        requires { ⌜ PreparedFor (now table) header (now sets) self (now silent) (now back) (estimate .near)
             × UnobservableReach (automatonOf (now table) header) (getD (self .entries) 0 0) (estimate .states) ⌝ }
         ensures { λ r. ⌜ JudgedAll (now (table .entry)) header self asked r ⌝ }
     {
@@ -248,7 +261,7 @@ impl Estimator {
         estimate: Estimate,
         asked: Asked,
     ) -> SecretVerdicts
-        requires { ⌜ Ready (now table) header (now sets) self (now silent) (now back) (estimate .near)
+        requires { ⌜ PreparedFor (now table) header (now sets) self (now silent) (now back) (estimate .near)
             × UnobservableReach (automatonOf (now table) header) (getD (self .entries) 0 0) (estimate .states) ⌝ }
         ensures { λ r. ⌜ JudgedAll (now (table .entry)) header self asked r ⌝ }
     {
@@ -282,7 +295,7 @@ impl Estimator {
         requires { ⌜ Explored (now table) header (now sets) self (now silent) estimate × (now back ≡ replicate 64 0) ⌝ }
         ensures { λ r. ⌜ JudgedAll (now (table .entry)) header self asked (r .verdicts) × (r .size ≡ estimate .size) ⌝ }
     {
-        look_back::backward_rows(silent, estimate.near, self.count, back);
+        backward_rows(silent, estimate.near, self.count, back);
         let verdicts = self.judge_all(table, header, sets, silent, back, estimate, asked);
         Judgement {
             verdicts: verdicts,

@@ -1,6 +1,6 @@
 // The estimator (01: watch): it accepts one symbol after another, and answers for each how many states are possible and the verdicts of each secret.
 // Here the types, what is chosen by a notion, and the estimator's entries: `fresh`, `well_formed`, `accept`, `accept_by` demand nothing of their callers.
-// What is remembered of the symbols, and the states that are possible now, are worked out in the crate `estimates`.
+// What is remembered of the symbols, the states that are possible now, and the look backs of one secret are worked out in the crate `estimates`.
 // The modules, each on those before it:
 mod several; // the strong verdicts of several secrets in one pass
 mod each_secret; // the verdicts of each secret
@@ -14,7 +14,7 @@ use opacity::Verdicts;
 use refusal::Refusal;
 ghost use mathlib.Core.Path.{_≡_};
 ghost use mathlib.Core.List.{List, [], _∷_, _++_};
-ghost use Prim.Native.Nat.{ℕ, _+_, _≤_};
+ghost use Prim.Native.Nat.{ℕ, _≤_};
 ghost use lib.ListN.{getD};
 ghost use Rattle.stateset.specs.Set.{Is, Decided};
 ghost use Rattle.automaton.specs.Run.{Automaton, Possible, WellFormed};

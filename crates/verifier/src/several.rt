@@ -17,8 +17,8 @@ ghost use Rattle.relation.specs.Relation.{setAt};
 ghost use Rattle.opacity.specs.declared.Notion.the-variants as notion;
 ghost use Rattle.opacity.specs.declared.Verdict.the-variants as verdict;
 ghost use Rattle.opacity.specs.Secrets.{secretOf, secretsOf, secretAt};
-ghost use Rattle.estimates.specs.StepsBack.{Prepared, Found, WithStep};
-ghost use Rattle.verifier.specs.Inner.{verdictAt, StrongEach};
+ghost use Rattle.estimates.specs.StepsBack.{Prepared, Found};
+ghost use Rattle.verifier.specs.Inner.{verdictAt, WithStep, StrongEach};
 
 // A strong verdict with one more step tested, l: one that was found stays; else it is leak l where no state of the entry set is in `then`.
 fn with_step(found: Verdict, entry: u64, then: u64, l: u8) -> Verdict
@@ -63,8 +63,8 @@ fn none_found() -> VerdictsBy
     }
 }
 
-// The strong verdicts of four secrets, over all steps that are remembered: as `strong_verdict` takes them, in one pass for all. `clear` has for each the
-// states that are not in it.
+// The strong verdicts of four secrets, over all steps that are remembered: as `estimates::look_back::strong_verdict` takes them, in one pass for all.
+// `clear` has for each the states that are not in it.
 fn strong_verdicts(
     estimator: Estimator,
     table: &[u64],

@@ -55,10 +55,10 @@ use Rattle.encoding.proofs.FrontAnswer.Laws as FrontAnswerˡ
 use Rattle.encoding.specs.declared.Checked.{Checked}
 use Rattle.encoding.proofs.Checked as Checkedᵗ
 use Rattle.encoding.proofs.Checked.Laws as Checkedˡ
-use Rattle.decoding.proofs.preamble.read_preamble as read-preamble
-use Rattle.decoding.proofs.preamble.read_preamble.Symbol as read-preamble-def
-use Rattle.decoding.proofs.preamble.read_preamble.Symbol.{name as #read-preamble}
-use Rattle.decoding.proofs.preamble.read_preamble.Met as read-preamble-thm
+use Rattle.decoding.proofs.first_pass.read_preamble as read-preamble
+use Rattle.decoding.proofs.first_pass.read_preamble.Symbol as read-preamble-def
+use Rattle.decoding.proofs.first_pass.read_preamble.Symbol.{name as #read-preamble}
+use Rattle.decoding.proofs.first_pass.read_preamble.Met as read-preamble-thm
 use Rattle.encoding.proofs.counts.start_of as start-of
 use Rattle.encoding.proofs.counts.start_of.Symbol as start-of-def
 use Rattle.encoding.proofs.counts.start_of.Symbol.{name as #start-of}
@@ -83,10 +83,10 @@ use Rattle.bitfields.proofs.past as past
 use Rattle.bitfields.proofs.past.Symbol as past-def
 use Rattle.bitfields.proofs.past.Symbol.{name as #past}
 use Rattle.bitfields.proofs.past.Met as past-thm
-use Rattle.decoding.proofs.transitions.check_transitions as check-transitions
-use Rattle.decoding.proofs.transitions.check_transitions.Symbol as check-transitions-def
-use Rattle.decoding.proofs.transitions.check_transitions.Symbol.{name as #check-transitions}
-use Rattle.decoding.proofs.transitions.check_transitions.Met as check-transitions-thm
+use Rattle.decoding.proofs.first_pass.check_transitions as check-transitions
+use Rattle.decoding.proofs.first_pass.check_transitions.Symbol as check-transitions-def
+use Rattle.decoding.proofs.first_pass.check_transitions.Symbol.{name as #check-transitions}
+use Rattle.decoding.proofs.first_pass.check_transitions.Met as check-transitions-thm
 use Rattle.decoding.proofs.first_pass.check_ending as check-ending
 use Rattle.decoding.proofs.first_pass.check_ending.Symbol as check-ending-def
 use Rattle.decoding.proofs.first_pass.check_ending.Symbol.{name as #check-ending}
@@ -543,7 +543,7 @@ check-spec 𝓤 H 𝓜 𝓖 𝓡 =
     entered 𝓤 H (tripleOf 𝓤 H (𝓖 .A) check.signature (check.spec 𝓤 H (𝓖 .A) (𝓜 .mem) (𝓡 .run)))
     (tables 𝓤 H 𝓜 𝓡 code.env .C) (tables 𝓤 H 𝓜 𝓡 code.env .Λ) #own code.function (code.unfolded 𝓤 H 𝓜 𝓡)
     (meets 𝓤 H (𝓖 .A) (givenOf 𝓤 H 𝓜 𝓖) (𝓜 .mem) (𝓡 .run) (tablesOf 𝓤 H 𝓜 (tables 𝓤 H 𝓜 𝓡 code.env))
-    (cited 𝓤 H (ReadPreamble 𝓤 H (𝓖 .A) (𝓜 .mem) (𝓡 .run)) 𝓜 𝓡 code.env #read-preamble read-preamble-def.routine code.calls-decoding·preamble·read-preamble
+    (cited 𝓤 H (ReadPreamble 𝓤 H (𝓖 .A) (𝓜 .mem) (𝓡 .run)) 𝓜 𝓡 code.env #read-preamble read-preamble-def.routine code.calls-decoding·first-pass·read-preamble
     (read-preamble-thm.met 𝓤 H 𝓜 𝓖 𝓡))
     (cited 𝓤 H (StartOf 𝓤 H (𝓖 .A) (𝓜 .mem) (𝓡 .run)) 𝓜 𝓡 code.env #start-of start-of-def.routine code.calls-encoding·counts·start-of
     (start-of-thm.met 𝓤 H 𝓜 𝓖 𝓡))
@@ -557,7 +557,7 @@ check-spec 𝓤 H 𝓜 𝓖 𝓡 =
     (length-of-thm.met 𝓤 H 𝓜 𝓖 𝓡))
     (cited 𝓤 H (Past 𝓤 H (𝓖 .A) (𝓜 .mem) (𝓡 .run)) 𝓜 𝓡 code.env #past past-def.routine code.calls-bitfields·past (past-thm.met 𝓤 H 𝓜 𝓖 𝓡))
     (cited 𝓤 H (CheckTransitions 𝓤 H (𝓖 .A) (𝓜 .mem) (𝓡 .run)) 𝓜 𝓡 code.env #check-transitions check-transitions-def.routine
-    code.calls-decoding·transitions·check-transitions (check-transitions-thm.met 𝓤 H 𝓜 𝓖 𝓡))
+    code.calls-decoding·first-pass·check-transitions (check-transitions-thm.met 𝓤 H 𝓜 𝓖 𝓡))
     (cited 𝓤 H (CheckEnding 𝓤 H (𝓖 .A) (𝓜 .mem) (𝓡 .run)) 𝓜 𝓡 code.env #check-ending check-ending-def.routine code.calls-decoding·first-pass·check-ending
     (check-ending-thm.met 𝓤 H 𝓜 𝓖 𝓡))
     (cited 𝓤 H (CheckedFrom 𝓤 H (𝓖 .A) (𝓜 .mem) (𝓡 .run)) 𝓜 𝓡 code.env #checked-from checked-from-def.routine code.calls-encoding·ending·checked-from

@@ -1,5 +1,5 @@
--- `estimates::look_back::first_secret` meets its contract, in the order of `weak_verdict`: the steps from 0 upward, and at each step l that the loop takes up no
--- step below l is a leak (`NoLeakBelow`). What it visits is all of m(l), which was worked out before. Assumes nothing.
+-- `estimates::look_back::first_secret` meets its contract, in the order of `weak_verdict`: the steps from 0 upward, and at each step l that the loop takes up
+-- no step below l is a leak (`NoLeakBelow`). What it visits is all of m(l), which was worked out before. Assumes nothing.
 use mathlib.Core.Logic.{⊎-elim}
 use Prim.Native.Nat.{_+_, _-_, _≤_}
 use native.Mathlib.Omega.{arith}

@@ -20,7 +20,8 @@ use Rattle.opacity.specs.Secrets.{secretOf}
 use Rattle.opacity.specs.Verdicts.{stepsOf, Bounded}
 use Rattle.estimates.specs.StepsBack.{Looks}
 use Rattle.verifier.specs.Inner.{verdictAt}
-use Rattle.estimates.proofs.LookBack.{ForTraces, Searched, searched-step, searched-end, searched-bounded, Follows, follows-start, follows-step}
+use Rattle.estimates.proofs.LookBack.{ForTraces, Follows, follows-start, follows-step}
+use Rattle.verifier.proofs.Searching.{Searched, searched-step, searched-end, searched-bounded}
 use Rattle.estimates.proofs.LookBack.{remembers-inside, strong-sure, strong-clear}
 use Rattle.opacity.proofs.Exactness.{below-start}
 use Rattle.verifier.proofs.several.strong_verdicts.Statement.{statement}

@@ -21,7 +21,8 @@ module _ (notion : Notion) (p : Automaton) (secret n last : ℕ) (symbols entrie
   cut-past : (l : ℕ) → last < l → Found notion p (secretOf secret n) n symbols entries (Leak l) → Found notion p (secretOf secret last) n symbols entries NoLeak
   cut-past l past f = record { bounded = tt; exact = λ trace m i h r. clear-any notion p secret n last trace _ (f .exact trace m .least i (omega arith)) }
 
-  cut-leak : (l : ℕ) → l ≤ last → Found notion p (secretOf secret n) n symbols entries (Leak l) → Found notion p (secretOf secret last) n symbols entries (Leak l)
+  cut-leak : (l : ℕ) → l ≤ last → Found notion p (secretOf secret n) n symbols entries (Leak l)
+      → Found notion p (secretOf secret last) n symbols entries (Leak l)
   cut-leak l within f =
       record {
         bounded = within;

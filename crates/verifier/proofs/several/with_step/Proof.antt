@@ -1,6 +1,6 @@
 -- `verifier::several::with_step` meets its contract, by what was found before and by the test.
 use borrow.Author.Needs.{needs}
-use Rattle.estimates.specs.StepsBack.{stays, leaks, clears}
+use Rattle.verifier.specs.Inner.{stays, leaks, clears}
 use Rattle.verifier.proofs.several.with_step.Statement.{statement}
 use Rattle.verifier.proofs.several.with_step.Tie as tie
 

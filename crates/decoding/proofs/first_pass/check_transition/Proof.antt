@@ -1,4 +1,4 @@
--- `decoding::transitions::check_transition` meets its contract: a walk of its MIR, by hand. One reader goes from field to field.
+-- `decoding::first_pass::check_transition` meets its contract: a walk of its MIR, by hand. One reader goes from field to field.
 -- Assumes nothing.
 use mathlib.Core.Path.{_≡_, refl, _∙_}
 use Prim.Native.Nat.{ℕ, _+_, _≤_, _<_, _^_}
@@ -67,10 +67,10 @@ use Rattle.encoding.proofs.transitions.transition_from as transition-from
 use Rattle.encoding.proofs.transitions.transition_from.Symbol as transition-from-def
 use Rattle.encoding.proofs.transitions.transition_from.Symbol.{name as #transition-from}
 use Rattle.encoding.proofs.transitions.transition_from.Met as transition-from-thm
-use Rattle.decoding.proofs.transitions.check_transition.Key.{name as #own}
-use Rattle.decoding.proofs.transitions.check_transition as check-transition
-use Rattle.decoding.proofs.transitions.check_transition.Statement as stated
-use Rattle.decoding.proofs.transitions.check_transition.Code as code
+use Rattle.decoding.proofs.first_pass.check_transition.Key.{name as #own}
+use Rattle.decoding.proofs.first_pass.check_transition as check-transition
+use Rattle.decoding.proofs.first_pass.check_transition.Statement as stated
+use Rattle.decoding.proofs.first_pass.check_transition.Code as code
 
 -- the struct's type, over the signature's lifetimes
 abbrev B : Lfts 1 → RattleType

@@ -1,4 +1,4 @@
--- `decoding::preamble::read_fixed` meets its contract: a walk of its MIR, by hand. One reader goes from field to field.
+-- `decoding::first_pass::read_fixed` meets its contract: a walk of its MIR, by hand. One reader goes from field to field.
 -- Assumes nothing.
 use mathlib.Core.Path.{_≡_, refl, _∙_}
 use Prim.Native.Nat.{ℕ, _+_, _≤_}
@@ -66,10 +66,10 @@ use Rattle.encoding.proofs.preamble.fixed_from as fixed-from
 use Rattle.encoding.proofs.preamble.fixed_from.Symbol as fixed-from-def
 use Rattle.encoding.proofs.preamble.fixed_from.Symbol.{name as #fixed-from}
 use Rattle.encoding.proofs.preamble.fixed_from.Met as fixed-from-thm
-use Rattle.decoding.proofs.preamble.read_fixed.Key.{name as #own}
-use Rattle.decoding.proofs.preamble.read_fixed as read-fixed
-use Rattle.decoding.proofs.preamble.read_fixed.Statement as stated
-use Rattle.decoding.proofs.preamble.read_fixed.Code as code
+use Rattle.decoding.proofs.first_pass.read_fixed.Key.{name as #own}
+use Rattle.decoding.proofs.first_pass.read_fixed as read-fixed
+use Rattle.decoding.proofs.first_pass.read_fixed.Statement as stated
+use Rattle.decoding.proofs.first_pass.read_fixed.Code as code
 
 -- the struct's type, over the signature's lifetimes
 abbrev B : Lfts 1 → RattleType

@@ -1,4 +1,4 @@
--- `decoding::preamble::read_front` meets its contract: a walk of its MIR, by hand. The reader goes on behind the fixed fields, set by set.
+-- `decoding::first_pass::read_front` meets its contract: a walk of its MIR, by hand. The reader goes on behind the fixed fields, set by set.
 -- Assumes nothing.
 use mathlib.Core.Path.{_≡_, refl, _∙_}
 use Prim.Native.Nat.{ℕ, _+_, _≤_}
@@ -59,10 +59,10 @@ use Rattle.bitfields.proofs.Flags.Laws as Flagsˡ
 use Rattle.encoding.specs.declared.FrontAnswer.{FrontAnswer}
 use Rattle.encoding.proofs.FrontAnswer as FrontAnswerᵗ
 use Rattle.encoding.proofs.FrontAnswer.Laws as FrontAnswerˡ
-use Rattle.decoding.proofs.preamble.read_fixed as read-fixed
-use Rattle.decoding.proofs.preamble.read_fixed.Symbol as read-fixed-def
-use Rattle.decoding.proofs.preamble.read_fixed.Symbol.{name as #read-fixed}
-use Rattle.decoding.proofs.preamble.read_fixed.Met as read-fixed-thm
+use Rattle.decoding.proofs.first_pass.read_fixed as read-fixed
+use Rattle.decoding.proofs.first_pass.read_fixed.Symbol as read-fixed-def
+use Rattle.decoding.proofs.first_pass.read_fixed.Symbol.{name as #read-fixed}
+use Rattle.decoding.proofs.first_pass.read_fixed.Met as read-fixed-thm
 use Rattle.bitfields.proofs.past as past
 use Rattle.bitfields.proofs.past.Symbol as past-def
 use Rattle.bitfields.proofs.past.Symbol.{name as #past}
@@ -83,10 +83,10 @@ use Rattle.encoding.proofs.preamble.front_from as front-from
 use Rattle.encoding.proofs.preamble.front_from.Symbol as front-from-def
 use Rattle.encoding.proofs.preamble.front_from.Symbol.{name as #front-from}
 use Rattle.encoding.proofs.preamble.front_from.Met as front-from-thm
-use Rattle.decoding.proofs.preamble.read_front.Key.{name as #own}
-use Rattle.decoding.proofs.preamble.read_front as read-front
-use Rattle.decoding.proofs.preamble.read_front.Statement as stated
-use Rattle.decoding.proofs.preamble.read_front.Code as code
+use Rattle.decoding.proofs.first_pass.read_front.Key.{name as #own}
+use Rattle.decoding.proofs.first_pass.read_front as read-front
+use Rattle.decoding.proofs.first_pass.read_front.Statement as stated
+use Rattle.decoding.proofs.first_pass.read_front.Code as code
 
 -- the struct's type, over the signature's lifetimes
 abbrev B : Lfts 1 → RattleType
@@ -401,7 +401,7 @@ read-front-spec 𝓤 H 𝓜 𝓖 𝓡 =
     entered 𝓤 H (tripleOf 𝓤 H (𝓖 .A) read-front.signature (read-front.spec 𝓤 H (𝓖 .A) (𝓜 .mem) (𝓡 .run)))
     (tables 𝓤 H 𝓜 𝓡 code.env .C) (tables 𝓤 H 𝓜 𝓡 code.env .Λ) #own code.function (code.unfolded 𝓤 H 𝓜 𝓡)
     (meets 𝓤 H (𝓖 .A) (givenOf 𝓤 H 𝓜 𝓖) (𝓜 .mem) (𝓡 .run) (tablesOf 𝓤 H 𝓜 (tables 𝓤 H 𝓜 𝓡 code.env))
-    (cited 𝓤 H (ReadFixed 𝓤 H (𝓖 .A) (𝓜 .mem) (𝓡 .run)) 𝓜 𝓡 code.env #read-fixed read-fixed-def.routine code.calls-decoding·preamble·read-fixed
+    (cited 𝓤 H (ReadFixed 𝓤 H (𝓖 .A) (𝓜 .mem) (𝓡 .run)) 𝓜 𝓡 code.env #read-fixed read-fixed-def.routine code.calls-decoding·first-pass·read-fixed
     (read-fixed-thm.met 𝓤 H 𝓜 𝓖 𝓡))
     (cited 𝓤 H (Past 𝓤 H (𝓖 .A) (𝓜 .mem) (𝓡 .run)) 𝓜 𝓡 code.env #past past-def.routine code.calls-bitfields·past (past-thm.met 𝓤 H 𝓜 𝓖 𝓡))
     (cited 𝓤 H (StatesOf 𝓤 H (𝓖 .A) (𝓜 .mem) (𝓡 .run)) 𝓜 𝓡 code.env #states-of states-of-def.routine code.calls-encoding·counts·states-of

@@ -1,4 +1,4 @@
--- `decoding::preamble::read_preamble` meets its contract: a walk of its MIR, by hand. The reader goes on behind the front, to the symbols.
+-- `decoding::first_pass::read_preamble` meets its contract: a walk of its MIR, by hand. The reader goes on behind the front, to the symbols.
 -- Assumes nothing.
 use mathlib.Core.Path.{_≡_, refl}
 use Prim.Native.Nat.{ℕ, _+_, _*_, _≤_}
@@ -56,10 +56,10 @@ use Rattle.encoding.proofs.FrontAnswer.Laws as FrontAnswerˡ
 use Rattle.encoding.specs.declared.Checked.{Checked}
 use Rattle.encoding.proofs.Checked as Checkedᵗ
 use Rattle.encoding.proofs.Checked.Laws as Checkedˡ
-use Rattle.decoding.proofs.preamble.read_front as read-front
-use Rattle.decoding.proofs.preamble.read_front.Symbol as read-front-def
-use Rattle.decoding.proofs.preamble.read_front.Symbol.{name as #read-front}
-use Rattle.decoding.proofs.preamble.read_front.Met as read-front-thm
+use Rattle.decoding.proofs.first_pass.read_front as read-front
+use Rattle.decoding.proofs.first_pass.read_front.Symbol as read-front-def
+use Rattle.decoding.proofs.first_pass.read_front.Symbol.{name as #read-front}
+use Rattle.decoding.proofs.first_pass.read_front.Met as read-front-thm
 use Rattle.encoding.proofs.counts.end_of as end-of
 use Rattle.encoding.proofs.counts.end_of.Symbol as end-of-def
 use Rattle.encoding.proofs.counts.end_of.Symbol.{name as #end-of}
@@ -72,18 +72,18 @@ use Rattle.encoding.proofs.counts.symbols_of as symbols-of
 use Rattle.encoding.proofs.counts.symbols_of.Symbol as symbols-of-def
 use Rattle.encoding.proofs.counts.symbols_of.Symbol.{name as #symbols-of}
 use Rattle.encoding.proofs.counts.symbols_of.Met as symbols-of-thm
-use Rattle.decoding.proofs.preamble.check_symbols as check-symbols
-use Rattle.decoding.proofs.preamble.check_symbols.Symbol as check-symbols-def
-use Rattle.decoding.proofs.preamble.check_symbols.Symbol.{name as #check-symbols}
-use Rattle.decoding.proofs.preamble.check_symbols.Met as check-symbols-thm
+use Rattle.decoding.proofs.first_pass.check_symbols as check-symbols
+use Rattle.decoding.proofs.first_pass.check_symbols.Symbol as check-symbols-def
+use Rattle.decoding.proofs.first_pass.check_symbols.Symbol.{name as #check-symbols}
+use Rattle.decoding.proofs.first_pass.check_symbols.Met as check-symbols-thm
 use Rattle.encoding.proofs.preamble.preamble_from as preamble-from
 use Rattle.encoding.proofs.preamble.preamble_from.Symbol as preamble-from-def
 use Rattle.encoding.proofs.preamble.preamble_from.Symbol.{name as #preamble-from}
 use Rattle.encoding.proofs.preamble.preamble_from.Met as preamble-from-thm
-use Rattle.decoding.proofs.preamble.read_preamble.Key.{name as #own}
-use Rattle.decoding.proofs.preamble.read_preamble as read-preamble
-use Rattle.decoding.proofs.preamble.read_preamble.Statement as stated
-use Rattle.decoding.proofs.preamble.read_preamble.Code as code
+use Rattle.decoding.proofs.first_pass.read_preamble.Key.{name as #own}
+use Rattle.decoding.proofs.first_pass.read_preamble as read-preamble
+use Rattle.decoding.proofs.first_pass.read_preamble.Statement as stated
+use Rattle.decoding.proofs.first_pass.read_preamble.Code as code
 
 -- the struct's type, over the signature's lifetimes
 abbrev B : Lfts 1 → RattleType
@@ -370,13 +370,13 @@ read-preamble-spec 𝓤 H 𝓜 𝓖 𝓡 =
     entered 𝓤 H (tripleOf 𝓤 H (𝓖 .A) read-preamble.signature (read-preamble.spec 𝓤 H (𝓖 .A) (𝓜 .mem) (𝓡 .run)))
     (tables 𝓤 H 𝓜 𝓡 code.env .C) (tables 𝓤 H 𝓜 𝓡 code.env .Λ) #own code.function (code.unfolded 𝓤 H 𝓜 𝓡)
     (meets 𝓤 H (𝓖 .A) (givenOf 𝓤 H 𝓜 𝓖) (𝓜 .mem) (𝓡 .run) (tablesOf 𝓤 H 𝓜 (tables 𝓤 H 𝓜 𝓡 code.env))
-    (cited 𝓤 H (ReadFront 𝓤 H (𝓖 .A) (𝓜 .mem) (𝓡 .run)) 𝓜 𝓡 code.env #read-front read-front-def.routine code.calls-decoding·preamble·read-front
+    (cited 𝓤 H (ReadFront 𝓤 H (𝓖 .A) (𝓜 .mem) (𝓡 .run)) 𝓜 𝓡 code.env #read-front read-front-def.routine code.calls-decoding·first-pass·read-front
     (read-front-thm.met 𝓤 H 𝓜 𝓖 𝓡))
     (cited 𝓤 H (EndOf 𝓤 H (𝓖 .A) (𝓜 .mem) (𝓡 .run)) 𝓜 𝓡 code.env #end-of end-of-def.routine code.calls-encoding·counts·end-of (end-of-thm.met 𝓤 H 𝓜 𝓖 𝓡))
     (cited 𝓤 H (Past 𝓤 H (𝓖 .A) (𝓜 .mem) (𝓡 .run)) 𝓜 𝓡 code.env #past past-def.routine code.calls-bitfields·past (past-thm.met 𝓤 H 𝓜 𝓖 𝓡))
     (cited 𝓤 H (SymbolsOf 𝓤 H (𝓖 .A) (𝓜 .mem) (𝓡 .run)) 𝓜 𝓡 code.env #symbols-of symbols-of-def.routine code.calls-encoding·counts·symbols-of
     (symbols-of-thm.met 𝓤 H 𝓜 𝓖 𝓡))
-    (cited 𝓤 H (CheckSymbols 𝓤 H (𝓖 .A) (𝓜 .mem) (𝓡 .run)) 𝓜 𝓡 code.env #check-symbols check-symbols-def.routine code.calls-decoding·preamble·check-symbols
+    (cited 𝓤 H (CheckSymbols 𝓤 H (𝓖 .A) (𝓜 .mem) (𝓡 .run)) 𝓜 𝓡 code.env #check-symbols check-symbols-def.routine code.calls-decoding·first-pass·check-symbols
     (check-symbols-thm.met 𝓤 H 𝓜 𝓖 𝓡))
     (cited 𝓤 H (PreambleFrom 𝓤 H (𝓖 .A) (𝓜 .mem) (𝓡 .run)) 𝓜 𝓡 code.env #preamble-from preamble-from-def.routine code.calls-encoding·preamble·preamble-from
     (preamble-from-thm.met 𝓤 H 𝓜 𝓖 𝓡)))

@@ -1,4 +1,4 @@
--- `decoding::preamble::check_symbols` meets its contract: a walk of its MIR, by hand. The struct is taken apart, and `symbols_at` is called on the slice and
+-- `decoding::first_pass::check_symbols` meets its contract: a walk of its MIR, by hand. The struct is taken apart, and `symbols_at` is called on the slice and
 -- the numbers.
 -- Assumes nothing.
 use mathlib.Core.Path.{_≡_, refl}
@@ -60,10 +60,10 @@ use Rattle.encoding.proofs.preamble.symbols_at as symbols-at
 use Rattle.encoding.proofs.preamble.symbols_at.Symbol as symbols-at-def
 use Rattle.encoding.proofs.preamble.symbols_at.Symbol.{name as #symbols-at}
 use Rattle.encoding.proofs.preamble.symbols_at.Met as symbols-at-thm
-use Rattle.decoding.proofs.preamble.check_symbols.Key.{name as #own}
-use Rattle.decoding.proofs.preamble.check_symbols as check-symbols
-use Rattle.decoding.proofs.preamble.check_symbols.Statement as stated
-use Rattle.decoding.proofs.preamble.check_symbols.Code as code
+use Rattle.decoding.proofs.first_pass.check_symbols.Key.{name as #own}
+use Rattle.decoding.proofs.first_pass.check_symbols as check-symbols
+use Rattle.decoding.proofs.first_pass.check_symbols.Statement as stated
+use Rattle.decoding.proofs.first_pass.check_symbols.Code as code
 
 -- the struct's type, over the signature's lifetimes
 abbrev B : Lfts 1 → RattleType

@@ -1,4 +1,4 @@
--- `decoding::transitions::check_transitions` meets its contract: a walk of its MIR, by hand, with a loop. The reader is a local that goes from one transition
+-- `decoding::first_pass::check_transitions` meets its contract: a walk of its MIR, by hand, with a loop. The reader is a local that goes from one transition
 -- to the next.
 -- The invariant: the answer is that of the first i transitions, and the reader stands behind them.
 -- Assumes nothing.
@@ -60,23 +60,23 @@ use Rattle.encoding.specs.declared.Checked.{Checked}
 use Rattle.encoding.specs.declared.Checked.the-variants as checked
 use Rattle.encoding.proofs.Checked as Checkedᵗ
 use Rattle.encoding.proofs.Checked.Laws as Checkedˡ
-use Rattle.decoding.proofs.transitions.check_transition as check-transition
-use Rattle.decoding.proofs.transitions.check_transition.Symbol as check-transition-def
-use Rattle.decoding.proofs.transitions.check_transition.Symbol.{name as #check-transition}
-use Rattle.decoding.proofs.transitions.check_transition.Met as check-transition-thm
-use Rattle.decoding.proofs.transitions.check_repeat as check-repeat
-use Rattle.decoding.proofs.transitions.check_repeat.Symbol as check-repeat-def
-use Rattle.decoding.proofs.transitions.check_repeat.Symbol.{name as #check-repeat}
-use Rattle.decoding.proofs.transitions.check_repeat.Met as check-repeat-thm
+use Rattle.decoding.proofs.first_pass.check_transition as check-transition
+use Rattle.decoding.proofs.first_pass.check_transition.Symbol as check-transition-def
+use Rattle.decoding.proofs.first_pass.check_transition.Symbol.{name as #check-transition}
+use Rattle.decoding.proofs.first_pass.check_transition.Met as check-transition-thm
+use Rattle.decoding.proofs.first_pass.check_repeat as check-repeat
+use Rattle.decoding.proofs.first_pass.check_repeat.Symbol as check-repeat-def
+use Rattle.decoding.proofs.first_pass.check_repeat.Symbol.{name as #check-repeat}
+use Rattle.decoding.proofs.first_pass.check_repeat.Met as check-repeat-thm
 use Rattle.bitfields.proofs.past as past
 use Rattle.bitfields.proofs.past.Symbol as past-def
 use Rattle.bitfields.proofs.past.Symbol.{name as #past}
 use Rattle.bitfields.proofs.past.Met as past-thm
-use Rattle.decoding.proofs.transitions.check_transitions.Key.{name as #own}
-use Rattle.decoding.proofs.transitions.check_transitions as check-transitions
-use Rattle.decoding.proofs.transitions.check_transitions.Statement as stated
-use Rattle.decoding.proofs.transitions.check_transitions.Code as code
-use Rattle.decoding.proofs.transitions.check_transitions.Code.Mir as mir′
+use Rattle.decoding.proofs.first_pass.check_transitions.Key.{name as #own}
+use Rattle.decoding.proofs.first_pass.check_transitions as check-transitions
+use Rattle.decoding.proofs.first_pass.check_transitions.Statement as stated
+use Rattle.decoding.proofs.first_pass.check_transitions.Code as code
+use Rattle.decoding.proofs.first_pass.check_transitions.Code.Mir as mir′
 
 -- the struct's type, over the signature's lifetimes
 abbrev B : Lfts 1 → RattleType
@@ -484,7 +484,7 @@ check-transitions-spec 𝓤 H 𝓜 𝓖 𝓡 =
     (tables 𝓤 H 𝓜 𝓡 code.env .C) (tables 𝓤 H 𝓜 𝓡 code.env .Λ) #own code.function (code.unfolded 𝓤 H 𝓜 𝓡)
     (meets 𝓤 H (𝓖 .A) (givenOf 𝓤 H 𝓜 𝓖) (𝓜 .mem) (𝓡 .run) (tablesOf 𝓤 H 𝓜 (tables 𝓤 H 𝓜 𝓡 code.env))
     (cited 𝓤 H (CheckTransition 𝓤 H (𝓖 .A) (𝓜 .mem) (𝓡 .run)) 𝓜 𝓡 code.env #check-transition check-transition-def.routine
-    code.calls-decoding·transitions·check-transition (check-transition-thm.met 𝓤 H 𝓜 𝓖 𝓡))
-    (cited 𝓤 H (CheckRepeat 𝓤 H (𝓖 .A) (𝓜 .mem) (𝓡 .run)) 𝓜 𝓡 code.env #check-repeat check-repeat-def.routine code.calls-decoding·transitions·check-repeat
+    code.calls-decoding·first-pass·check-transition (check-transition-thm.met 𝓤 H 𝓜 𝓖 𝓡))
+    (cited 𝓤 H (CheckRepeat 𝓤 H (𝓖 .A) (𝓜 .mem) (𝓡 .run)) 𝓜 𝓡 code.env #check-repeat check-repeat-def.routine code.calls-decoding·first-pass·check-repeat
     (check-repeat-thm.met 𝓤 H 𝓜 𝓖 𝓡))
     (cited 𝓤 H (Past 𝓤 H (𝓖 .A) (𝓜 .mem) (𝓡 .run)) 𝓜 𝓡 code.env #past past-def.routine code.calls-bitfields·past (past-thm.met 𝓤 H 𝓜 𝓖 𝓡)))

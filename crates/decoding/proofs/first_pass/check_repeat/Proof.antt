@@ -1,4 +1,4 @@
--- `decoding::transitions::check_repeat` meets its contract: a walk of its MIR, by hand. The struct is taken apart, and `repeat_at` is called on the slice and
+-- `decoding::first_pass::check_repeat` meets its contract: a walk of its MIR, by hand. The struct is taken apart, and `repeat_at` is called on the slice and
 -- the numbers.
 -- Assumes nothing.
 use mathlib.Core.Path.{_≡_, refl}
@@ -59,10 +59,10 @@ use Rattle.encoding.proofs.transitions.repeat_at as repeat-at
 use Rattle.encoding.proofs.transitions.repeat_at.Symbol as repeat-at-def
 use Rattle.encoding.proofs.transitions.repeat_at.Symbol.{name as #repeat-at}
 use Rattle.encoding.proofs.transitions.repeat_at.Met as repeat-at-thm
-use Rattle.decoding.proofs.transitions.check_repeat.Key.{name as #own}
-use Rattle.decoding.proofs.transitions.check_repeat as check-repeat
-use Rattle.decoding.proofs.transitions.check_repeat.Statement as stated
-use Rattle.decoding.proofs.transitions.check_repeat.Code as code
+use Rattle.decoding.proofs.first_pass.check_repeat.Key.{name as #own}
+use Rattle.decoding.proofs.first_pass.check_repeat as check-repeat
+use Rattle.decoding.proofs.first_pass.check_repeat.Statement as stated
+use Rattle.decoding.proofs.first_pass.check_repeat.Code as code
 
 -- the struct's type, over the signature's lifetimes
 abbrev B : Lfts 1 → RattleType

@@ -148,7 +148,7 @@ fn check<'a>(reader: Reader<'a>) -> FrontAnswer
 }
 
 // The reader is made where the encoding begins.
-pub fn check_bytes(bytes: &[u8]) -> FrontAnswer
+pub(crate) fn check_bytes(bytes: &[u8]) -> FrontAnswer
     ensures { λ r. ⌜ encodingMeans (bitsOf (now (bytes .entry))) r ≡ encoding (bitsOf (now (bytes .entry))) 0 ⌝ }
 {
     let reader = bitfields::reader_at(bytes, 0);

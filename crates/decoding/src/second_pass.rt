@@ -53,7 +53,7 @@ fn fill<'a, 't>(reader: Reader<'a>, count: usize, table: &'t mut [u64])
 }
 
 // The reader is made where the symbols begin.
-pub fn read_bytes<'a, 't>(bytes: &'a [u8], front: Front, table: &'t mut [u64]) -> Header
+pub(crate) fn read_bytes<'a, 't>(bytes: &'a [u8], front: Front, table: &'t mut [u64]) -> Header
     requires { ⌜ FrontSmall front × (preambleEnd front + front .fixed .count * 17 ≤ length (bitsOf (now bytes))) × (now table ≡ replicate 2048 0) ⌝ }
     ensures { λ r. ⌜ (r ≡ headerOf front (givenSymbols (bitsOf (now (bytes .entry))) front))
         × (now (table .exit) ≡ tableOf (transitionsAt (bitsOf (now (bytes .entry))) (preambleEnd front) (front .fixed .count))) ⌝ }

@@ -38,7 +38,7 @@ fn nothing_told() -> Judgement
 }
 
 // What a refused log hands back: header, estimator and enforcer are outside their limits, and the monitor takes no byte.
-pub fn refused(refusal: Refusal) -> Opened
+pub(crate) fn refused(refusal: Refusal) -> Opened
     ensures { λ r. ⌜ (r .answer ≡ answer.Refused refusal) × NoMonitor (r .header) (r .monitor) ⌝ }
 {
     let further = opacity::no_further();
@@ -78,7 +78,7 @@ pub fn refused(refusal: Refusal) -> Opened
 }
 
 // A weak enforcer and a fresh verifier, both with no further secret, for events that start at a place.
-pub fn start(table: [u64; 2048], header: Header, events: usize) -> Opened
+pub(crate) fn start(table: [u64; 2048], header: Header, events: usize) -> Opened
     requires { ⌜ WellFormed table header ⌝ }
     ensures { λ r. ⌜ StartedOn table header events (opened (r .answer)) (r .table) (r .header) (r .monitor) ⌝ }
 {

@@ -31,7 +31,7 @@ fn place(line: Line, at: usize) -> usize
 
 impl Monitor {
     // There is room for a line, and the log may have one more event byte.
-    pub fn ready(self, out: &[u8], at: usize) -> bool
+    pub(crate) fn ready(self, out: &[u8], at: usize) -> bool
         ensures { λ r. ⌜ Decided r (Ready self (now (out .entry)) at) ⌝ }
     {
         if self.offered == u32::MAX {
@@ -130,7 +130,14 @@ impl Monitor {
     }
 
     // One event byte.
-    pub fn step(self, table: &[u64], header: Header, byte: u8, out: &mut [u8], at: usize) -> Entry
+    pub(crate) fn step(
+        self,
+        table: &[u64],
+        header: Header,
+        byte: u8,
+        out: &mut [u8],
+        at: usize,
+    ) -> Entry
         requires { ⌜ Within (now table) header self × Ready self (now out) at ⌝ }
         ensures { λ r. ⌜ Stepped (now (table .entry)) header self byte (now (out .entry)) at (r .monitor) (r .next) (now (out .exit)) ⌝ }
     {

@@ -93,16 +93,19 @@ pub found-last : {notion : Notion} {p : Automaton} {secret last m n : ℕ} {symb
     → Found notion p (secretOf secret last) n symbols entries v → Found notion p (secretOf secret m) n symbols entries v
 found-last {notion} {p} {secret} {last} {m} {n} {symbols} {entries} {v} e f = subst (λ (x : ℕ). Found notion p (secretOf secret x) n symbols entries v) e f
 
--- what was found of what an estimator remembers
+-- what is said of what an estimator remembers
+of-remembered : (P : (symbols entries : List ℕ) (count : ℕ) → Type 0) (s : Estimator) {r : Remembered} → r ≡ rememberedOf s
+    → P (r .symbols) (r .entries) (r .count) → P (s .symbols) (s .entries) (s .count)
+of-remembered P s e x = subst (λ (y : Remembered). P (y .symbols) (y .entries) (y .count)) e x
+
 pub found-of : {notion : Notion} {p : Automaton} {secret : ℕ} (s : Estimator) {r : Remembered} {v : Verdict} → r ≡ rememberedOf s
     → Found notion p (secretOf secret (r .count)) (r .count) (r .symbols) (r .entries) v
     → Found notion p (secretOf secret (s .count)) (s .count) (s .symbols) (s .entries) v
-found-of {notion} {p} {secret} s {r} {v} e f =
-    subst (λ (x : Remembered). Found notion p (secretOf secret (x .count)) (x .count) (x .symbols) (x .entries) v) e f
+found-of {notion} {p} {secret} s {r} {v} e f = of-remembered (λ symbols entries n. Found notion p (secretOf secret n) n symbols entries v) s e f
 
 pub delayed-of : {p : Automaton} (s : Estimator) {r : Remembered} {past : List ℕ} → r ≡ rememberedOf s
     → Delayed p (r .symbols) (r .entries) (r .count) past → Delayed p (s .symbols) (s .entries) (s .count) past
-delayed-of {p} s {r} {past} e d = subst (λ (x : Remembered). Delayed p (x .symbols) (x .entries) (x .count) past) e d
+delayed-of {p} s {r} {past} e d = of-remembered (λ symbols entries n. Delayed p symbols entries n past) s e d
 
 both : (a : Asked) → Asks Weak a → Asks Strong a → (notion : Notion) → Asks notion a
 both a weak strong Weak = weak

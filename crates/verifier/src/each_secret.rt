@@ -282,7 +282,7 @@ impl Estimator {
     }
 
     // What an accepted answer holds, from the estimate that was worked out last: the verdicts of a look back, and the number of its states.
-    pub fn assess(
+    pub(crate) fn assess(
         self,
         table: &[u64],
         header: Header,

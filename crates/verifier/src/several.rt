@@ -112,7 +112,7 @@ fn outside_secret(header: Header, further: Further, states: u64, i: u8) -> u64
 }
 
 // The strong verdicts of the secrets that are given, where they are asked for. What stands in the place of one that is not given says nothing.
-pub fn strong_each(
+pub(crate) fn strong_each(
     estimator: Estimator,
     table: &[u64],
     header: Header,
@@ -139,7 +139,7 @@ pub fn strong_each(
 }
 
 // The verdict over fewer steps.
-pub fn up_to(found: Verdict, last: u8) -> Verdict
+pub(crate) fn up_to(found: Verdict, last: u8) -> Verdict
     ensures { λ r. ⌜ (found ≡ verdict.NoLeak → r ≡ verdict.NoLeak)
         × ((notion : Notion) (p : Automaton) (secret n : ℕ) (symbols entries : List ℕ) → last ≤ n
         → Found notion p (secretOf secret n) n symbols entries found → Found notion p (secretOf secret last) n symbols entries r) ⌝ }

@@ -3,7 +3,7 @@
  *
  * Link with target/staticlib/libgateway.a, which `rt staticlib gateway` writes (x86-64). Nothing is allocated and nothing is kept between calls:
  * the caller lends all memory, and a header or a saved state is bytes of a fixed layout that may be stored, sent and copied. The contracts of the
- * five functions are `crates/gateway/specs/Interface.antt` (what each answers and leaves) and `Layout.antt` (the layouts); they are proved for
+ * six functions are `crates/gateway/specs/Interface.antt` (what each answers and leaves) and `Layout.antt` (the layouts); they are proved for
  * every content of the bytes and every length. Words of the requirements, where ours differ: docs/GLOSSARY.md.
  *
  * Slices. A slice passes as a pointer and the number of its elements. C asks three things, which no function can test:
@@ -32,6 +32,7 @@
  *                                      state is outside its limits                                   all
  *   10   OPACITY_OUTPUT_TOO_SMALL      the output has fewer than 17 bytes                            offer
  *   11   OPACITY_EMPTY_LOG             a log without events; no function here answers it
+ *   15   OPACITY_BUDGET_SPENT          there are more different configurations than the budget       explore
  *
  * Table: 2,048 words. Word 64 * event + state is the set of the states that the event may lead to; bit q, counted from the least significant, is
  * state q. Any 2,048 words are the transitions of an automaton of 64 states and 32 events.
@@ -70,6 +71,7 @@
 #define OPACITY_ENFORCER_BYTES 178
 #define OPACITY_VERDICTS_BYTES 2
 #define OPACITY_RELEASED_BYTES 1
+#define OPACITY_EXPLORATION_BYTES 4
 #define OPACITY_OUTPUT_BYTES 17           /* the least; more is taken */
 #define OPACITY_ENCODING_MAX_BYTES 2190   /* the longest encoding */
 
@@ -91,6 +93,7 @@
 #define OPACITY_MALFORMED 9
 #define OPACITY_OUTPUT_TOO_SMALL 10
 #define OPACITY_EMPTY_LOG 11
+#define OPACITY_BUDGET_SPENT 15
 
 #ifdef __cplusplus
 extern "C" {
@@ -169,6 +172,21 @@ uint8_t opacity_offer(const uint64_t *table, size_t table_length,
                       uint8_t *enforcer, size_t enforcer_length,
                       uint8_t *output, size_t output_length,
                       uint8_t *released, size_t released_length);
+
+/*
+ * Explores an automaton before it is used. A configuration is what a trace leaves for its future: its last events, K of them or all if fewer, and the
+ * sets of states in which runs can be right after each and right after the event before them.
+ * Takes:   table and header, the most configurations that are wanted (above 256 counts as 256), and 4 bytes for the result. It takes some 42 KB of stack.
+ * Answers: 0: bytes 0 and 1 are the number of different configurations, the lower byte first. Bytes 2 and 3 are the largest waits, weak and strong:
+ *             where an enforcer starts under the notion, no event that it accepts waits for more further ones, and unless it is 0, some event does
+ *             for as many.
+ *          9: a slice of a wrong length, K above 15 or an initial state above 63.
+ *          15: there are more different configurations than that.
+ */
+uint8_t opacity_explore(const uint64_t *table, size_t table_length,
+                        const uint8_t *header, size_t header_length,
+                        uint32_t budget,
+                        uint8_t *result, size_t result_length);
 
 #ifdef __cplusplus
 }

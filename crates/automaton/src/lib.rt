@@ -35,6 +35,7 @@ pub enum Refusal {
     Malformed,
     OutputTooSmall,
     EmptyLog,
+    BudgetSpent,
 }
 
 // The number of a refusal in 01's table.
@@ -53,6 +54,7 @@ pub fn number(refusal: Refusal) -> u8
         Refusal::Malformed => 9,
         Refusal::OutputTooSmall => 10,
         Refusal::EmptyLog => 11,
+        Refusal::BudgetSpent => 15,
     }
 }
 

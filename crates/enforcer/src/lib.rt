@@ -45,8 +45,8 @@ pub struct Given {
     pub answer: OfferAnswer,
 }
 
-// How many further events make a trace with this verdict safe.
-fn wait(k: u8, verdict: Verdict) -> u8
+// How many further events make a trace with this verdict safe. (Inner: for the crates above, which hold its condition.)
+pub fn wait(k: u8, verdict: Verdict) -> u8
     requires { ⌜ k ≤ 15 ⌝ }
     ensures { λ r. ⌜ r ≡ waitOf k (stepsOf verdict) ⌝ }
 {

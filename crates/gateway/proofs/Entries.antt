@@ -23,8 +23,12 @@ use Rattle.enforcer.specs.Offerings.{Starting, Offering}
 use Rattle.enforcer.specs.declared.Enforcer.{Enforcer}
 use Rattle.enforcer.specs.declared.StartAnswer as start
 use Rattle.enforcer.specs.declared.OfferAnswer as offer
-use Rattle.gateway.specs.Layout.{headerAt, headerBytes, estimatorAt, estimatorBytes, notionAt, enforcerAt, enforcerBytes, verdictByte}
-use Rattle.gateway.specs.Interface.{Decode, Fresh, Accept, Start, Offer, VerifierSizes, StartSizes, OfferSizes}
+use Rattle.explore.specs.Explorations as exploration
+use Rattle.explore.specs.Explorations.{Exploring}
+use Rattle.explore.specs.declared.Exploration.{Exploration}
+use Rattle.explore.specs.declared.ExploreAnswer as explore
+use Rattle.gateway.specs.Layout.{headerAt, headerBytes, estimatorAt, estimatorBytes, notionAt, enforcerAt, enforcerBytes, verdictByte, explorationBytes}
+use Rattle.gateway.specs.Interface.{Decode, Fresh, Accept, Start, Offer, Explore, VerifierSizes, StartSizes, OfferSizes, ExploreSizes}
 use Rattle.gateway.proofs.Saved.{whole}
 
 -- a refusal leaves the lent memory
@@ -126,3 +130,17 @@ module _ (t header : List ℕ) (event : ℕ) (saved output count out : List ℕ)
       let one : told ≡ f ∷ [] = says ∙ whole count (f ∷ []) (sym (sizes .released-size)) in
       subst (λ (x : List ℕ). Offer t header event saved output count 0 x out told) (sym wrote)
       (subst (λ (x : List ℕ). Offer t header event saved output count 0 (enforcerBytes after) out x) (sym one) (Offer.released sizes (said-offering (offer.the-variants.Released f) is)))
+
+module _ (t header : List ℕ) (budget : ℕ) (result : List ℕ) (h : Header) (answer : explore.ExploreAnswer) (sizes : ExploreSizes header result)
+    (is-header : h ≡ headerAt header) (did : Exploring t h budget (exploration.said answer)) where
+  said-exploring : (x : explore.ExploreAnswer) → answer ≡ x → Exploring t (headerAt header) budget (exploration.said x)
+  said-exploring x is =
+      subst (λ (y : explore.ExploreAnswer). Exploring t (headerAt header) budget (exploration.said y)) is (subst (λ (y : Header). Exploring t y budget (exploration.said answer)) is-header did)
+
+  pub explore-refused : (r : Refusal) (n : ℕ) → answer ≡ explore.the-variants.Refused r → n ≡ numberOf r → Explore t header budget result n result
+  explore-refused r n is number = rw number (Explore.refused sizes (said-exploring (explore.the-variants.Refused r) is))
+
+  pub explore-explored : (e : Exploration) (left : List ℕ) → answer ≡ explore.the-variants.Explored e → left ≡ explorationBytes (e .number) (e .weak) (e .strong)
+      → Explore t header budget result 0 left
+  explore-explored e left is wrote =
+      subst (λ (x : List ℕ). Explore t header budget result 0 x) (sym wrote) (Explore.explored sizes (said-exploring (explore.the-variants.Explored e) is))

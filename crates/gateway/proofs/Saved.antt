@@ -27,6 +27,10 @@ behind d xs ys at next e = rw (← e) (sets-append xs ys d at)
 pub wrote-two : (d d₁ d₂ : List ℕ) (a b : ℕ) → length d ≡ 2 → d₁ ≡ set d 0 a → d₂ ≡ set d₁ 1 b → d₂ ≡ a ∷ b ∷ []
 wrote-two d d₁ d₂ a b size x y = y ∙ ap (λ (l : List ℕ). set l 1 b) x ∙ whole d (a ∷ b ∷ []) (sym size)
 
+pub wrote-four : (d d₁ d₂ d₃ d₄ : List ℕ) (a b c e : ℕ) → length d ≡ 4 → d₁ ≡ set d 0 a → d₂ ≡ set d₁ 1 b → d₃ ≡ set d₂ 2 c → d₄ ≡ set d₃ 3 e → d₄ ≡ a ∷ b ∷ c ∷ e ∷ []
+wrote-four d d₁ d₂ d₃ d₄ a b c e size w x y z =
+    z ∙ ap (λ (l : List ℕ). set l 3 e) y ∙ ap (λ (l : List ℕ). set (set l 2 c) 3 e) x ∙ ap (λ (l : List ℕ). set (set (set l 1 b) 2 c) 3 e) w ∙ whole d (a ∷ b ∷ c ∷ e ∷ []) (sym size)
+
 pub wrote-header : (d d₁ d₂ d₃ d₄ : List ℕ) (initial k secret observable : ℕ) → length d ≡ 14 → d₁ ≡ set d 0 initial → d₂ ≡ set d₁ 1 k
     → d₃ ≡ sets d₂ 2 (bytesOf 8 secret) → d₄ ≡ sets d₃ 10 (bytesOf 4 observable) → d₄ ≡ initial ∷ k ∷ bytesOf 8 secret ++ bytesOf 4 observable
 wrote-header d d₁ d₂ d₃ d₄ initial k secret observable size a b c e =

@@ -13,7 +13,9 @@ use Rattle.verifier.specs.Replies.{Opening, Accepting}
 use Rattle.enforcer.specs.Offerings as offering
 use Rattle.enforcer.specs.Offerings.{Starting, Offering}
 use Rattle.enforcer.specs.declared.Enforcer.{Enforcer}
-use Rattle.gateway.specs.Layout.{headerAt, headerBytes, estimatorAt, estimatorBytes, notionAt, enforcerAt, enforcerBytes, verdictByte}
+use Rattle.explore.specs.Explorations as exploration
+use Rattle.explore.specs.Explorations.{Exploring}
+use Rattle.gateway.specs.Layout.{headerAt, headerBytes, estimatorAt, estimatorBytes, notionAt, enforcerAt, enforcerBytes, verdictByte, explorationBytes}
 
 -- decode: the answer, the table after and the header's bytes after
 pub data Decode (encoding table header : List ℕ) : ℕ → List ℕ → List ℕ → Type 0 where
@@ -72,3 +74,14 @@ pub data Offer (t header : List ℕ) (event : ℕ) (enforcer output released : L
   released : OfferSizes header enforcer released → {f : ℕ} {s : Enforcer} {left : List ℕ}
       → Offering t (headerAt header) (enforcerAt enforcer) event output (offering.released f) s left
       → Offer t header event enforcer output released 0 (enforcerBytes s) left (f ∷ [])
+
+-- explore: the answer and the result's bytes after
+pub record ExploreSizes (header result : List ℕ) : Type 0 where
+  pub header-size : length header ≡ 14
+  pub result-size : length result ≡ 4
+
+pub data Explore (t header : List ℕ) (budget : ℕ) (result : List ℕ) : ℕ → List ℕ → Type 0 where
+  size : (ExploreSizes header result → ⊥) → Explore t header budget result 9 result
+  refused : ExploreSizes header result → {n : ℕ} → Exploring t (headerAt header) budget (exploration.refused n) → Explore t header budget result n result
+  explored : ExploreSizes header result → {number weak strong : ℕ} → Exploring t (headerAt header) budget (exploration.explored number weak strong)
+      → Explore t header budget result 0 (explorationBytes number weak strong)

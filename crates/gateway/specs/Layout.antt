@@ -73,3 +73,7 @@ verdictAt byte = cond (eqb byte 255) none (leak byte)
 abbrev pub verdictByte : Steps → ℕ
 verdictByte none = 255
 verdictByte (leak l) = l
+
+-- an exploration: the number of configurations, the lower byte first, and the largest waits, the weak one first
+abbrev pub explorationBytes : (number weak strong : ℕ) → List ℕ
+explorationBytes number weak strong = number % 256 ∷ number / 256 % 256 ∷ weak ∷ strong ∷ []

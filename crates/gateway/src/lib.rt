@@ -5,6 +5,8 @@ use encoding::Answer as Decoded;
 use enforcer::Enforcer;
 use enforcer::OfferAnswer;
 use enforcer::StartAnswer;
+use explore::Exploration;
+use explore::ExploreAnswer;
 use verifier::Answer;
 use verifier::Estimator;
 use verifier::Notion;
@@ -16,8 +18,8 @@ ghost use Prim.Native.Nat.{ℕ, _+_, _*_, _≤_, _<_};
 ghost use lib.ListN.{length, set};
 ghost use lib.Seq.{sets};
 ghost use Rattle.verifier.specs.Verdicts.{stepsOf};
-ghost use Rattle.gateway.specs.Interface.{Decode, Fresh, Accept, Start, Offer};
-ghost use Rattle.gateway.specs.Layout.{numberAt, bytesOf, wordsAt, wordsBytes, bytesAt, headerAt, headerBytes, estimatorAt, estimatorBytes, notionAt, notionByte, enforcerAt, enforcerBytes, verdictByte};
+ghost use Rattle.gateway.specs.Interface.{Decode, Fresh, Accept, Start, Offer, Explore};
+ghost use Rattle.gateway.specs.Layout.{numberAt, bytesOf, wordsAt, wordsBytes, bytesAt, headerAt, headerBytes, estimatorAt, estimatorBytes, notionAt, notionByte, enforcerAt, enforcerBytes, verdictByte, explorationBytes};
 
 fn wide(x: u8) -> u64
     ensures { λ r. ⌜ r ≡ x ⌝ }
@@ -199,6 +201,17 @@ fn write_verdicts(bytes: &mut [u8], verdicts: Verdicts)
     let strong = verdicts.strong;
     put(bytes, 0, verdict_byte(weak));
     put(bytes, 1, verdict_byte(strong));
+}
+
+fn write_exploration(bytes: &mut [u8], exploration: Exploration)
+    requires { ⌜ length (now bytes) ≡ 4 ⌝ }
+    ensures { λ _. ⌜ now (bytes .exit) ≡ explorationBytes (exploration .number) (exploration .weak) (exploration .strong) ⌝ }
+{
+    let number = exploration.number;
+    put(bytes, 0, (number % 256) as u8);
+    put(bytes, 1, (number / 256 % 256) as u8);
+    put(bytes, 2, exploration.weak);
+    put(bytes, 3, exploration.strong);
 }
 
 fn notion_of(byte: u8) -> Notion
@@ -395,6 +408,32 @@ pub extern "C" fn opacity_offer(
             let after = given.enforcer;
             write_enforcer(enforcer, after);
             put(released, 0, count);
+            0
+        }
+    }
+}
+
+// Explores the automaton: the number of different configurations, and for each notion the largest wait.
+#[no_mangle]
+pub extern "C" fn opacity_explore(
+    table: &[u64],
+    header: &[u8],
+    budget: u32,
+    result: &mut [u8],
+) -> u8
+    ensures { λ r. ⌜ Explore (now (table .entry)) (now (header .entry)) budget (now (result .entry)) r (now (result .exit)) ⌝ }
+{
+    if header.len() != 14 {
+        return 9;
+    }
+    if result.len() != 4 {
+        return 9;
+    }
+    let answer = explore::explore(table, read_header(header), budget);
+    match answer {
+        ExploreAnswer::Refused(refusal) => automaton::number(refusal),
+        ExploreAnswer::Explored(exploration) => {
+            write_exploration(result, exploration);
             0
         }
     }

@@ -125,7 +125,7 @@ impl Automaton {
     }
 
     /// Where unobservable transitions lead from a set.
-    fn silent(&self, set: u64) -> u64 {
+    pub fn silent(&self, set: u64) -> u64 {
         let mut reached = set;
         loop {
             let before = reached;
@@ -138,7 +138,8 @@ impl Automaton {
         }
     }
 
-    fn image(&self, event: usize, set: u64) -> u64 {
+    /// Where an event leads from a set.
+    pub fn image(&self, event: usize, set: u64) -> u64 {
         (0..64).filter(|q| set >> q & 1 == 1).fold(0, |to, q| to | self.table[64 * event + q])
     }
 
@@ -242,4 +243,69 @@ pub fn dense() -> Automaton {
     let mut automaton = Automaton::new(64, 32, 15, 0xffff_ffff_0000_0000, 1 << 31, &[]);
     automaton.table.fill(!0);
     automaton
+}
+
+/// An automaton to explore: 64 states, and so many observable events, which are the first ones; the one behind them is unobservable.
+fn to_explore(k: u8, symbols: usize, secret: u64, transitions: &[(usize, usize, usize)]) -> Automaton {
+    Automaton::new(64, symbols + 1, k, secret, ((1u64 << symbols) - 1) as u32, transitions)
+}
+
+/// The rings of `rings` and of `waves`: how many states each has. In both a run is where it was after 240 events, and not before.
+pub const TWO: [usize; 2] = [16, 15];
+pub const THREE: [usize; 3] = [16, 5, 3];
+
+/// A chain of states, and rings behind it, one after the other; event 0 leads along the chain, from its end into every ring, and around.
+fn chain_and_rings(chain: usize, rings: &[usize]) -> Vec<(usize, usize, usize)> {
+    let mut transitions: Vec<_> = (1..chain).map(|i| (i - 1, 0, i)).collect();
+    let mut first = chain;
+    for length in rings {
+        transitions.push((chain - 1, 0, first));
+        transitions.extend((0..*length).map(|i| (first + i, 0, first + (i + 1) % length)));
+        first += length;
+    }
+    transitions
+}
+
+/// The states of the rings in which runs are when so many symbols have followed the chain and its last event.
+pub fn phase(chain: usize, rings: &[usize], after: usize) -> u64 {
+    let mut first = chain;
+    rings.iter().fold(0, |set, length| {
+        first += length;
+        set | 1 << (first - length + after % length)
+    })
+}
+
+/// There is one trace of each length, and there are K + chain + 240 configurations, K being 15. The first states have one of the tail beside them each,
+/// which a run may go to unobserved and does not leave.
+pub fn rings(chain: usize, symbols: usize) -> Automaton {
+    let mut transitions = chain_and_rings(chain, &TWO);
+    let tail = chain + 31;
+    transitions.extend((tail..64).map(|to| (to - tail, symbols, to)));
+    to_explore(15, symbols, phase(chain, &TWO, 7), &transitions)
+}
+
+/// As many configurations. Every state leads unobserved into a tail that is crossed state by state, and begun again by event 0 from its end: as on
+/// `chain` a closure goes through the states one by one, at each step back.
+pub fn waves(chain: usize, symbols: usize) -> Automaton {
+    let mut transitions = chain_and_rings(chain, &THREE);
+    let tail = chain + 24;
+    transitions.extend((0..tail).map(|from| (from, symbols, tail)));
+    transitions.extend((tail..63).map(|from| (from, symbols, from + 1)));
+    transitions.push((63, 0, tail));
+    to_explore(15, symbols, phase(chain, &THREE, 7), &transitions)
+}
+
+/// Eight states behind a chain, each of which 31 events leave for one of the eight, with K 1: in nearly every one of the 1 + chain + 248 configurations
+/// every symbol is accepted. From the eight a tail as in `waves` is crossed, which all events begin again.
+pub fn hops(chain: usize) -> Automaton {
+    let (symbols, tail) = (31, chain + 8);
+    let mut transitions: Vec<_> = (0..chain).map(|i| (i, 0, i + 1)).collect();
+    for i in 0..8 {
+        transitions.extend((0..symbols).map(|event| (chain + i, event, chain + (i + event) % 8)));
+        transitions.push((chain + i, symbols, tail));
+    }
+    transitions.extend((tail..63).map(|from| (from, symbols, from + 1)));
+    transitions.extend((0..symbols).map(|event| (63, event, tail)));
+    transitions.push((chain - 1, 0, tail));
+    to_explore(1, symbols, 1 << (chain + 5), &transitions)
 }

@@ -63,3 +63,67 @@ pub fn small() -> Vec<Case> {
         })
         .collect()
 }
+
+/// What is explored with a budget of 256: an automaton with 256 configurations, or with more.
+pub struct ToExplore {
+    pub name: &'static str,
+    pub automaton: Automaton,
+    /// With the K of its own, so that there are as many configurations.
+    pub further: Vec<Secret>,
+    pub spent: bool,
+}
+
+impl ToExplore {
+    fn new(name: &'static str, automaton: Automaton, further: [u64; 3], spent: bool) -> Self {
+        let further = further.map(|states| Secret { states, k: automaton.k }).to_vec();
+        ToExplore { name, automaton, further, spent }
+    }
+
+    /// Some secrets leak, and some do not: with these every look back goes all the way.
+    fn rings(name: &'static str, chain: usize, symbols: usize) -> Self {
+        let tail = !0 << (chain + 31);
+        let further = [automata::phase(chain, &automata::TWO, 100), automata::phase(chain, &automata::TWO, 200), tail];
+        ToExplore::new(name, automata::rings(chain, symbols), further, 1 < chain)
+    }
+
+    fn waves(name: &'static str, chain: usize, symbols: usize) -> Self {
+        let tail = !0 << (chain + 24);
+        let further = [automata::phase(chain, &automata::THREE, 100), automata::phase(chain, &automata::THREE, 200) | tail, 1 << 50];
+        ToExplore::new(name, automata::waves(chain, symbols), further, 1 < chain)
+    }
+
+    fn hops(name: &'static str, chain: usize) -> Self {
+        let tail = !0 << (chain + 8);
+        ToExplore::new(name, automata::hops(chain), [1 << chain | tail, 3 << (chain + 1), 1 << 50], 7 < chain)
+    }
+}
+
+pub fn to_explore() -> Vec<ToExplore> {
+    let large = automata::large(64);
+    let further = large.further(1).map(|secret| secret.states);
+    vec![
+        ToExplore::rings("rings, 1 symbol", 1, 1),
+        ToExplore::rings("rings", 1, 31),
+        ToExplore::waves("waves", 1, 31),
+        ToExplore::hops("hops", 7),
+        // One configuration more, which the first two come upon last; and many more.
+        ToExplore::rings("rings, 257", 2, 31),
+        ToExplore::waves("waves, 257", 2, 31),
+        ToExplore::hops("hops, 257", 8),
+        ToExplore::new("large", large, further, true),
+    ]
+}
+
+/// Small ones, with K 0 to 4 for all secrets of most of them: with larger ones fewer are explored wholly. Of every third one the initial state is in the
+/// own secret, and of every third in the further ones: the opening may leak.
+pub fn small_to_explore() -> Vec<Case> {
+    let all = small().into_iter().take(800).enumerate();
+    all.map(|(number, case)| {
+        let k = |k: u8| if number % 8 == 0 { k } else { k % 5 };
+        let with = |secret: &Secret, initial: bool| Secret { states: secret.states | initial as u64, k: k(secret.k) };
+        let own = Secret { states: case.automaton.secret, k: case.automaton.k };
+        let further = case.further.iter().map(|secret| with(secret, number % 3 == 2)).collect();
+        Case { automaton: case.automaton.with_secret(with(&own, number % 3 == 1)), further, ..case }
+    })
+    .collect()
+}

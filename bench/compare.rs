@@ -4,6 +4,7 @@
 use crate::automata::{Automaton, Secret};
 use crate::cases::Case;
 use crate::excuses::Excused;
+use crate::exploration::{self, Exploration, BUDGET_SPENT, MOST};
 use crate::library::{self, Library};
 use crate::native::Estimator;
 use crate::plain::{self, Enforcer, Judgement, Queue, Release, Verifier, NONE};
@@ -315,5 +316,39 @@ pub fn compare_textbook(case: &Case, compared: &mut Compared) {
         }
         compare_trajectories(case, i, a.accept(event), a.offer(event).map(|(_, size)| size), &c, &c_weak);
         compared.textbook += 1;
+    }
+}
+
+/// How many explorations were compared: whole ones, with the sum of their configurations, those of which some secret waits, and those that spent the
+/// largest budget.
+#[derive(Default)]
+pub struct ComparedExplorations {
+    pub whole: usize,
+    pub configurations: usize,
+    pub waiting: usize,
+    pub spent: usize,
+}
+
+/// Compares explorations of (a) with plain ones, with the further secrets and without: with the largest budget, larger ones, none, and those around the
+/// number of configurations.
+pub fn compare_explorations(name: &str, automaton: &Automaton, further: &[Secret], compared: &mut ComparedExplorations) {
+    for given in [&[], further] {
+        let mut a = Library::with(automaton, given);
+        let expected = exploration::explore(automaton, given, MOST);
+        let number = expected.map_or(MOST, |(number, _, _)| number as u32);
+        let within = |budget: u32| if budget < number { Err(BUDGET_SPENT) } else { expected };
+        for budget in [MOST, MOST + 1, 65_536, u32::MAX, 0, 1, number - 1, number] {
+            let got: Exploration = a.explore(budget);
+            if got != within(budget) {
+                println!("MISMATCH on {name}, budget {budget}, {} further secrets: (a) {got:?}, plain {:?}", given.len(), within(budget));
+                std::process::exit(1);
+            }
+        }
+        // The plain one counts for itself too, and not by what it found with the largest budget.
+        assert_eq!(exploration::explore(automaton, given, number - 1), within(number - 1));
+        compared.whole += expected.is_ok() as usize;
+        compared.configurations += expected.map_or(0, |(number, _, _)| number);
+        compared.waiting += expected.is_ok_and(|(_, weak, strong)| 0 < weak.max(strong)) as usize;
+        compared.spent += expected.is_err() as usize;
     }
 }

@@ -1,6 +1,7 @@
 //! (a) The proved library through its C interface (include/opacity.h).
 
 use crate::automata::{Automaton, Secret};
+use crate::exploration::Exploration;
 use crate::plain::{Judgement, Release};
 
 type Decode = unsafe extern "C" fn(*const u8, usize, *mut u64, usize, *mut u8, usize) -> u8;
@@ -8,6 +9,7 @@ type Fresh = unsafe extern "C" fn(*const u64, usize, *const u8, usize, *const u8
 type Accept = unsafe extern "C" fn(*const u64, usize, *const u8, usize, u8, *mut u8, usize, *mut u8, usize) -> u8;
 type Start = unsafe extern "C" fn(*const u64, usize, *const u8, usize, u8, *const u8, usize, *mut u8, usize) -> u8;
 type Offer = unsafe extern "C" fn(*const u64, usize, *const u8, usize, u8, *mut u8, usize, *mut u8, usize, *mut u8, usize) -> u8;
+type Explore = unsafe extern "C" fn(*const u64, usize, *const u8, usize, *const u8, usize, u32, *mut u8, usize) -> u8;
 
 extern "C" {
     fn opacity_decode(encoding: *const u8, _: usize, table: *mut u64, _: usize, header: *mut u8, _: usize) -> u8;
@@ -25,9 +27,12 @@ extern "C" {
         table: *const u64, _: usize, header: *const u8, _: usize, symbol: u8, enforcer: *mut u8, _: usize, output: *mut u8, _: usize,
         release: *mut u8, _: usize,
     ) -> u8;
+    fn opacity_explore(
+        table: *const u64, _: usize, header: *const u8, _: usize, further: *const u8, _: usize, budget: u32, exploration: *mut u8, _: usize,
+    ) -> u8;
 }
 
-/// The five functions, or stand-ins: the measuring of the stack compares the two.
+/// The six functions, or stand-ins: the measuring of the stack compares the two.
 #[derive(Clone, Copy)]
 pub struct Functions {
     decode: Decode,
@@ -35,10 +40,12 @@ pub struct Functions {
     accept: Accept,
     start: Start,
     offer: Offer,
+    explore: Explore,
 }
 
-pub const PROVED: Functions =
-    Functions { decode: opacity_decode, fresh: opacity_fresh, accept: opacity_accept, start: opacity_start, offer: opacity_offer };
+pub const PROVED: Functions = Functions {
+    decode: opacity_decode, fresh: opacity_fresh, accept: opacity_accept, start: opacity_start, offer: opacity_offer, explore: opacity_explore,
+};
 
 unsafe extern "C" fn no_decode(_: *const u8, _: usize, _: *mut u64, _: usize, _: *mut u8, _: usize) -> u8 {
     0
@@ -59,9 +66,13 @@ unsafe extern "C" fn no_offer(
 ) -> u8 {
     0
 }
+unsafe extern "C" fn no_explore(_: *const u64, _: usize, _: *const u8, _: usize, _: *const u8, _: usize, _: u32, _: *mut u8, _: usize) -> u8 {
+    0
+}
 
 /// Functions that do nothing.
-pub const NOTHING: Functions = Functions { decode: no_decode, fresh: no_fresh, accept: no_accept, start: no_start, offer: no_offer };
+pub const NOTHING: Functions =
+    Functions { decode: no_decode, fresh: no_fresh, accept: no_accept, start: no_start, offer: no_offer, explore: no_explore };
 
 pub const WEAK: u8 = 0;
 pub const STRONG: u8 = 1;
@@ -76,6 +87,7 @@ pub struct Library {
     enforcer: [u8; 206],
     output: [u8; 17],
     release: [u8; 2],
+    exploration: [u8; 4],
 }
 
 impl Library {
@@ -88,7 +100,7 @@ impl Library {
     pub fn with(automaton: &Automaton, further: &[Secret]) -> Self {
         let mut made = Library {
             table: vec![0; 2048], header: [0; 46], further: [0; 28], estimator: [0; 172], judgement: [0; 9], enforcer: [0; 206], output: [0; 17],
-            release: [0; 2],
+            release: [0; 2], exploration: [0; 4],
         };
         made.further[0] = further.len() as u8;
         for (place, secret) in made.further[1..].chunks_exact_mut(9).zip(further) {
@@ -165,6 +177,17 @@ impl Library {
         }
     }
 
+    #[inline(always)]
+    pub fn call_explore(&mut self, functions: &Functions, budget: u32) -> u8 {
+        let (table, header, further, exploration) = (&self.table, &self.header, &self.further, &mut self.exploration);
+        unsafe {
+            (functions.explore)(
+                table.as_ptr(), table.len(), header.as_ptr(), header.len(), further.as_ptr(), further.len(), budget, exploration.as_mut_ptr(),
+                exploration.len(),
+            )
+        }
+    }
+
     /// What was told last of the secret with a number: its two verdicts, and the estimate size.
     pub fn told(&self, number: usize) -> Judgement {
         [self.judgement[2 * number], self.judgement[2 * number + 1], self.judgement[8]]
@@ -192,6 +215,21 @@ impl Library {
         match self.call_offer(&PROVED, symbol) {
             0 => Ok((&self.output[..self.release[0] as usize], self.release[1])),
             refusal => Err(refusal),
+        }
+    }
+
+    /// A refused one leaves its bytes, which is tested here.
+    pub fn explore(&mut self, budget: u32) -> Exploration {
+        const BEFORE: [u8; 4] = [0xa5; 4];
+        self.exploration = BEFORE;
+        let answer = self.call_explore(&PROVED, budget);
+        let [low, high, weak, strong] = self.exploration;
+        match answer {
+            0 => Ok((u16::from_le_bytes([low, high]) as usize, weak, strong)),
+            refusal => {
+                assert_eq!(self.exploration, BEFORE, "refused, and written");
+                Err(refusal)
+            }
         }
     }
 }

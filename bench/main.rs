@@ -1,13 +1,15 @@
 //! Measures four implementations of two jobs side by side: (a) the proved library, (b) plain Rust written for speed, (c) the textbook's trajectory
 //! estimator, (d) plain Rust that carries excuses forward. The jobs: `accept`, both verdicts and the estimate size for each event, and `offer`, the
 //! events that a weak enforcer releases and the estimate size. Each is done with one secret, and by (a) once more with three further ones. Every
-//! verdict, release and estimate size is compared first, event by event. A difference or a missed goal ends the run with status 1.
+//! verdict, release and estimate size is compared first, event by event. Explorations of (a) are compared with plain ones, and measured. A
+//! difference or a missed goal ends the run with status 1.
 
 mod automata;
 mod cases;
 mod clock;
 mod compare;
 mod excuses;
+mod exploration;
 mod library;
 mod measure;
 mod native;
@@ -17,8 +19,9 @@ mod rows;
 mod stack;
 mod trajectories;
 
-use cases::{Case, EVENTS};
-use compare::Compared;
+use automata::{Automaton, Secret};
+use cases::{Case, ToExplore, EVENTS};
+use compare::{Compared, ComparedExplorations};
 use library::Library;
 use measure::{Job, Least, Long, Times};
 use rows::BLOCKS;
@@ -33,10 +36,12 @@ const TIMES_TEXTBOOK: f64 = 20.0;
 const TIMES_SEVERAL: f64 = 3.0;
 /// An event of the longest trace takes at most so many times as long as one of the shortest: no growth, but for the clock.
 const TIMES_LONG: f64 = 1.2;
-/// Bytes of stack.
+/// Bytes of stack of each function that runs in a gateway: all but `opacity_explore`.
 const STACK: usize = 8 * 1024;
 /// Milliseconds in which the longest encoding is decoded: it lists 1,023 transitions, and each is compared with all before it.
 const DECODING: f64 = 20.0;
+/// Milliseconds in which an automaton is explored with the largest budget, whether it is spent or not.
+const EXPLORING: f64 = 100.0;
 
 const JOBS: [Job; 2] = [Job::Accept, Job::Offer];
 
@@ -62,6 +67,22 @@ fn compare_all(cases: &[Case]) {
     Compared::print_head();
     cases.chunks(1).for_each(|case| compare_some(case[0].name, case, 1));
     compare_some("4000 small", &cases::small(), 400);
+}
+
+fn compare_explorations(cases: &[Case]) {
+    println!("\nExplorations of (a) and plain ones compared, each with and without further secrets, and with eight budgets:");
+    let explored = cases::to_explore();
+    compare_explored("those measured", explored.iter().map(|case| (case.name, &case.automaton, &case.further[..])));
+    compare_explored("those above", cases.iter().map(|case| (case.name, &case.automaton, &case.further[..])));
+    let small = cases::small_to_explore();
+    compare_explored("800 small", small.iter().map(|case| (case.name, &case.automaton, &case.further[..])));
+}
+
+fn compare_explored<'a>(name: &str, cases: impl Iterator<Item = (&'a str, &'a Automaton, &'a [Secret])>) {
+    let mut compared = ComparedExplorations::default();
+    cases.for_each(|(name, automaton, further)| compare::compare_explorations(name, automaton, further, &mut compared));
+    let ComparedExplorations { whole, configurations, waiting, spent } = compared;
+    println!("  {name:<14} {whole:>5} whole, with {configurations:>6} configurations, {waiting:>5} with waits; {spent:>5} beyond the largest budget");
 }
 
 /// All that is measured in rounds.
@@ -183,6 +204,8 @@ fn print_stack(cases: &[Case], missed: &mut Missed) {
             }
         }
     }
+    println!("and of opacity_explore, which is not for a gateway and has no goal:");
+    println!("  {}", cases::to_explore().iter().map(|case| format!("{} {}", case.name, stack::exploring(case))).collect::<Vec<_>>().join("; "));
 }
 
 fn print_decoding(missed: &mut Missed) {
@@ -200,8 +223,35 @@ fn print_decoding(missed: &mut Missed) {
     }
 }
 
+fn print_explorations(missed: &mut Missed) {
+    let passes = measure::ROUNDS * measure::REPETITIONS;
+    println!("\nExploring with the largest budget, milliseconds, best of {passes} passes: the own secret alone, and three further ones");
+    println!("{:<16} {:>3} {:>8} {:>16} {:>8} {:>16} {:>8}", "automaton", "K", "symbols", "found, alone", "alone", "found, three", "three");
+    for case in cases::to_explore() {
+        let mut row = format!("{:<16} {:>3} {:>8}", case.name, case.automaton.k, case.automaton.observable.count_ones());
+        for given in [&[], &case.further[..]] {
+            row += &explored_row(&case, given, missed);
+        }
+        println!("{row}");
+    }
+}
+
+/// What is found, the number of configurations and the largest waits, or the refusal; and the milliseconds.
+fn explored_row(case: &ToExplore, given: &[Secret], missed: &mut Missed) -> String {
+    let mut library = Library::with(&case.automaton, given);
+    let found = library.explore(exploration::MOST);
+    assert_eq!(found.is_err(), case.spent, "{}: the budget", case.name);
+    assert!(found.map_or(true, |(number, _, _)| number == 256), "{}: the number", case.name);
+    let milliseconds = measure::measure_exploration(&mut library).0 / 1e6;
+    if EXPLORING <= milliseconds {
+        missed.push(format!("exploring {} with {} further secrets: {milliseconds:.1} milliseconds", case.name, given.len()));
+    }
+    let said = found.map_or_else(|refusal| format!("refused {refusal}"), |(number, weak, strong)| format!("{number} {weak} {strong}"));
+    format!(" {said:>16} {milliseconds:>8.2}")
+}
+
 /// (a) alone for some seconds, for a profiler.
-fn only(job: &str, case: &Case, further: &[automata::Secret]) {
+fn only(job: &str, case: &Case, further: &[Secret]) {
     let mut library = Library::with(&case.automaton, further);
     let begun = Instant::now();
     while begun.elapsed() < Duration::from_secs(4) {
@@ -232,6 +282,7 @@ fn everything(cases: &[Case]) {
     let begun = Instant::now();
     let mut missed = Missed::new();
     compare_all(cases);
+    compare_explorations(cases);
     let measured = measure_all(cases);
     print_times(cases, &measured, &mut missed);
     print_several(cases, &measured, &mut missed);
@@ -239,10 +290,12 @@ fn everything(cases: &[Case]) {
     print_growth(&measured, &mut missed);
     print_stack(cases, &mut missed);
     print_decoding(&mut missed);
+    print_explorations(&mut missed);
     println!("\n{:.0} s in all", begun.elapsed().as_secs_f64());
     let goals = format!(
         "(a) at most {TIMES_NATIVE} times (b) with its best block, on each; (c) at least {TIMES_TEXTBOOK} times (a) on large, chain and dense; with \
-         three further secrets below {TIMES_SEVERAL} times; no growth with the trace (at most {TIMES_LONG} times); stack below {STACK} bytes; the longest encoding decoded in less than {DECODING} milliseconds."
+         three further secrets below {TIMES_SEVERAL} times; no growth with the trace (at most {TIMES_LONG} times); stack below {STACK} bytes, but of \
+         opacity_explore; the longest encoding decoded in less than {DECODING} milliseconds; an exploration in less than {EXPLORING} milliseconds."
     );
     conclude(&goals, missed);
 }
@@ -255,17 +308,23 @@ fn main() {
         ["stack"] => {
             let mut missed = Missed::new();
             print_stack(&cases, &mut missed);
-            conclude(&format!("stack below {STACK} bytes."), missed);
+            conclude(&format!("stack below {STACK} bytes, but of opacity_explore."), missed);
         }
         ["decoding"] => {
             let mut missed = Missed::new();
             print_decoding(&mut missed);
             conclude(&format!("the longest encoding in less than {DECODING} milliseconds."), missed);
         }
+        ["exploring"] => {
+            let mut missed = Missed::new();
+            compare_explorations(&cases);
+            print_explorations(&mut missed);
+            conclude(&format!("an exploration in less than {EXPLORING} milliseconds."), missed);
+        }
         ["only", job, name, several @ ..] if several.is_empty() || *several == ["several"] => {
             let case = cases.iter().find(|case| case.name == *name).expect("no such automaton");
             only(job, case, if several.is_empty() { &[] } else { &case.further });
         }
-        _ => panic!("usage: bench/run [stack | decoding | only JOB AUTOMATON [several]]"),
+        _ => panic!("usage: bench/run [stack | decoding | exploring | only JOB AUTOMATON [several]]"),
     }
 }

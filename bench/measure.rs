@@ -5,6 +5,7 @@ use crate::cases::{Case, EVENTS};
 use crate::clock;
 use crate::compare::{CAP, TIME};
 use crate::excuses::Excused;
+use crate::exploration::MOST;
 use crate::library::{self, Library};
 use crate::native::{self, Estimator, Silent};
 use crate::plain::{Enforcer, Queue, Verifier};
@@ -190,6 +191,17 @@ pub fn measure_decoding(automaton: &Automaton, encoding: &[u8]) -> Least {
     let mut least = Least::NEW;
     for _ in 0..ROUNDS * REPETITIONS {
         least.time(1, || assert_eq!(black_box(&mut library).call_decode(&library::PROVED, black_box(encoding)), 0, "decode"));
+    }
+    least
+}
+
+/// Nanoseconds in which (a) explores an automaton with the largest budget.
+pub fn measure_exploration(library: &mut Library) -> Least {
+    let mut least = Least::NEW;
+    for _ in 0..ROUNDS * REPETITIONS {
+        least.time(1, || {
+            let _ = black_box(black_box(&mut *library).explore(black_box(MOST)));
+        });
     }
     least
 }

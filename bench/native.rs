@@ -130,6 +130,7 @@ fn preimages(words: &[u64; 64], among: u64, weak: u64, strong: u64) -> (u64, u64
 }
 
 /// The last events and estimates, in rings.
+#[derive(Clone)]
 pub struct Estimator<const STRONG: bool, const BLOCK: usize> {
     count: usize,
     newest: usize,

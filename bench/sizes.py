@@ -2,8 +2,10 @@
 """Sizes of the static library: text and data, what it needs from outside, the saved states, and the deepest stack of each exported function from the
 disassembly. A missed goal ends the script with status 1.
 
-A function's frame is what its prologue pushes and takes from rsp; a path adds 8 bytes for each return address. The code has no recursion and takes no
-other stack (the script stops if it finds a call through a pointer, a cycle or an aligned rsp). `bench/run stack` measures the same by painting.
+A function's frame is what its prologue pushes and takes from rsp; a path adds 8 bytes for each return address. A frame of many pages is taken page by
+page, in a loop down to r11, which is set to their end before: there all pages are counted, and not the one in the loop. The code has no recursion
+and takes no other stack (the script stops if it finds a call through a pointer, a cycle, an aligned rsp or another loop over rsp). `bench/run stack`
+measures the same by painting.
 """
 
 import re
@@ -15,8 +17,9 @@ ROOT = Path(__file__).resolve().parent.parent
 LIBRARY = ROOT / "target/staticlib/libgateway.a"
 HEADER = ROOT / "include/opacity.h"
 
-# The goals: each is below so many bytes.
+# The goals: each is below so many bytes. That of the stack binds the functions that run in a gateway.
 TEXT, STACK, SAVED = 32 * 1024, 8 * 1024, 256
+BEFORE_DELIVERY = "opacity_explore"
 
 
 def output(*command):
@@ -25,7 +28,7 @@ def output(*command):
 
 def functions():
     """For each function its frame in bytes and whom it calls."""
-    frames, calls, name, called = {}, {}, None, False
+    frames, calls, name, called, paged, before = {}, {}, None, False, False, None
     for line in output("objdump", "-dr", "-M", "intel", "--no-show-raw-insn", str(LIBRARY)).splitlines():
         if start := re.match(r"[0-9a-f]+ <(.+)>:", line):
             name = start[1]
@@ -39,10 +42,17 @@ def functions():
             called = operation in ("call", "jmp")
             if operation == "push":
                 frames[name] += 8
+            elif operation == "sub" and before == ("mov", "r11,rsp") and (pages := re.match(r"r11,(0x[0-9a-f]+)", operands)):
+                frames[name] += int(pages[1], 16)
+                paged = True
             elif operation == "sub" and (taken := re.match(r"rsp,(0x[0-9a-f]+)", operands)):
-                frames[name] += int(taken[1], 16)
+                frames[name] += 0 if paged else int(taken[1], 16)
+                paged = False
             elif operation == "and" and operands.startswith("rsp") or operation == "call" and not re.match(r"[0-9a-f]+ ", operands):
                 sys.exit(f"{name}: not understood: {line.strip()}")
+            elif operation == "cmp" and operands.startswith("rsp") and operands != "rsp,r11":
+                sys.exit(f"{name}: not understood: {line.strip()}")
+            before = operation, operands
     return frames, calls
 
 
@@ -87,10 +97,10 @@ def saved_sizes():
 
 def main():
     sizes = [("text", text_size(), TEXT)]
-    sizes += [(f"stack of {name}", depth, STACK) for name, depth in stack_depths().items()]
+    sizes += [(f"stack of {name}", depth, STACK) for name, depth in stack_depths().items() if name != BEFORE_DELIVERY]
     sizes += [(f"saved {name}", size, SAVED) for name, size in saved_sizes().items()]
     missed = [(name, size) for name, size, goal in sizes if goal <= size]
-    print(f"Goals: text below {TEXT} bytes, stack below {STACK}, saved states below {SAVED}.")
+    print(f"Goals: text below {TEXT} bytes, stack below {STACK} but of {BEFORE_DELIVERY}, saved states below {SAVED}.")
     for name, size in missed:
         print(f"  missed: {name} has {size} bytes")
     if missed:

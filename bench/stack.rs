@@ -1,7 +1,8 @@
 //! How deep each function of the interface goes: it is called on a painted stack, and the deepest byte that lost its paint is looked for. The depth of
 //! the same call of a function that does nothing is taken off, so that what is left is the function's own: below its return address.
 
-use crate::cases::Case;
+use crate::cases::{Case, ToExplore};
+use crate::exploration::{BUDGET_SPENT, MOST};
 use crate::library::{self, Library};
 use std::arch::asm;
 
@@ -40,6 +41,10 @@ extern "C" fn offer(call: &mut Call) {
     call.answer = call.library.call_offer(&call.functions, call.event);
 }
 
+extern "C" fn explore(call: &mut Call) {
+    call.answer = call.library.call_explore(&call.functions, MOST);
+}
+
 /// The bytes that lost their paint.
 fn depth(stack: &mut Stack, job: extern "C" fn(&mut Call), call: &mut Call) -> usize {
     stack.0.fill(PAINT);
@@ -60,19 +65,33 @@ fn depth(stack: &mut Stack, job: extern "C" fn(&mut Call), call: &mut Call) -> u
     SIZE - stack.0.iter().position(|&byte| byte != PAINT).unwrap_or(SIZE)
 }
 
-/// The deepest of all calls on an automaton and its trace, with the further secrets, for each function.
+/// The depth of one call, and its answer.
+fn measure(stack: &mut Stack, library: &mut Library, job: extern "C" fn(&mut Call), encoding: &[u8], event: u8) -> (usize, u8) {
+    let mut call = Call { library, functions: library::NOTHING, encoding, event, answer: 0 };
+    let caller = depth(stack, job, &mut call);
+    call.functions = library::PROVED;
+    let all = depth(stack, job, &mut call);
+    (all - caller, call.answer)
+}
+
+/// The depth of an exploration with the largest budget, with the further secrets.
+pub fn exploring(case: &ToExplore) -> usize {
+    let mut stack = Box::new(Stack([0; SIZE]));
+    let (bytes, answer) = measure(&mut stack, &mut Library::with(&case.automaton, &case.further), explore, &[], 0);
+    assert_eq!(answer, if case.spent { BUDGET_SPENT } else { 0 }, "the answer");
+    bytes
+}
+
+/// The deepest of all calls on an automaton and its trace, with the further secrets, for each function but `opacity_explore`.
 pub fn depths(case: &Case) -> [(&'static str, Option<usize>); 5] {
     let (automaton, trace) = (&case.automaton, &case.trace);
     let mut stack = Box::new(Stack([0; SIZE]));
     let mut library = Library::with(automaton, &case.further);
     let encoding = automaton.encode().unwrap_or_default();
     let mut measure = |library: &mut Library, job: extern "C" fn(&mut Call), event: u8| {
-        let mut call = Call { library, functions: library::NOTHING, encoding: &encoding, event, answer: 0 };
-        let caller = depth(&mut stack, job, &mut call);
-        call.functions = library::PROVED;
-        let all = depth(&mut stack, job, &mut call);
-        assert_eq!(call.answer, 0, "refused");
-        all - caller
+        let (bytes, answer) = measure(&mut stack, library, job, &encoding, event);
+        assert_eq!(answer, 0, "refused");
+        bytes
     };
     // An automaton that no encoding can list is not decoded.
     let decoding = if encoding.is_empty() { None } else { Some(measure(&mut library, decode, 0)) };

@@ -1,7 +1,8 @@
 /* The worked example of the requirements through the C interface: decodes automaton P, runs the verifier and a weak enforcer over the trace 1 2 1 1,
    and prints a line for each event: its place, its symbol, the weak and the strong verdict, the estimate size, the released symbols. (P lists no
    symbols: each observable event has its own number.) Then the same with a further secret, whose verdicts follow those of P's own: it keeps back the
-   last event. c/run compares the lines. */
+   last event. At last explorations of P, with other K and further secrets: how many configurations there are and the largest waits, weak and strong, or
+   that the budget is spent. c/run compares the lines. */
 #include <stdio.h>
 
 #include "opacity.h"
@@ -15,6 +16,21 @@ static const uint8_t none[OPACITY_FURTHER_BYTES];
 static const uint8_t one[OPACITY_FURTHER_BYTES] = {
     [OPACITY_FURTHER_COUNT] = 1, [OPACITY_FURTHER_STATES(1)] = 1 << 3, [OPACITY_FURTHER_K(1)] = 1};
 
+/* Another one: state 0, with K 1. Every run passes it at first, and may leave it unobserved: a leak under strong alone. */
+static const uint8_t passed[OPACITY_FURTHER_BYTES] = {
+    [OPACITY_FURTHER_COUNT] = 1, [OPACITY_FURTHER_STATES(1)] = 1 << 0, [OPACITY_FURTHER_K(1)] = 1};
+
+/* What is explored: P with this K in place of its own, these further secrets, and this budget. */
+static const struct {
+    uint8_t k;
+    const uint8_t *further;
+    uint32_t budget;
+} explorations[] = {
+    {2, none, OPACITY_BUDGET_MAX}, {2, none, 7},   {2, none, 6},
+    {2, one, OPACITY_BUDGET_MAX},  {0, none, 300}, {0, passed, OPACITY_BUDGET_MAX},
+    {15, none, 82},                {15, none, 81}, {2, one, 0},
+};
+
 /* All the memory that the library works in besides its stack. */
 static uint64_t table[OPACITY_TABLE_WORDS];
 static uint8_t header[OPACITY_HEADER_BYTES];
@@ -23,6 +39,7 @@ static uint8_t enforcer[OPACITY_ENFORCER_BYTES];
 static uint8_t judgement[OPACITY_JUDGEMENT_BYTES];
 static uint8_t output[OPACITY_OUTPUT_BYTES];
 static uint8_t release[OPACITY_RELEASE_BYTES];
+static uint8_t exploration[OPACITY_EXPLORATION_BYTES];
 
 static int refused(uint8_t number)
 {
@@ -81,10 +98,34 @@ static int run(const uint8_t *further)
     return 0;
 }
 
+/* The explorations, on the decoded automaton. */
+static void explore_all(void)
+{
+    for (size_t i = 0; i < sizeof explorations / sizeof explorations[0]; i++) {
+        const uint8_t *further = explorations[i].further;
+        uint8_t answer;
+
+        header[OPACITY_HEADER_K] = explorations[i].k;
+        answer = opacity_explore(table, OPACITY_TABLE_WORDS, header, sizeof header, further, OPACITY_FURTHER_BYTES, explorations[i].budget,
+                                 exploration, sizeof exploration);
+        printf("K %d, %d further, budget %lu: ", explorations[i].k, further[OPACITY_FURTHER_COUNT], (unsigned long)explorations[i].budget);
+        if (answer != OPACITY_OK) {
+            refused(answer);
+            continue;
+        }
+        printf("%d configurations, waits %d %d\n",
+               exploration[OPACITY_EXPLORATION_NUMBER] + 256 * exploration[OPACITY_EXPLORATION_NUMBER + 1],
+               exploration[OPACITY_EXPLORATION_WEAK], exploration[OPACITY_EXPLORATION_STRONG]);
+    }
+}
+
 int main(void)
 {
     uint8_t answer = opacity_decode(encoding, sizeof encoding, table, OPACITY_TABLE_WORDS, header, sizeof header);
     if (answer != OPACITY_OK)
         return refused(answer);
-    return run(none) || run(one);
+    if (run(none) || run(one))
+        return 1;
+    explore_all();
+    return 0;
 }

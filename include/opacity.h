@@ -3,7 +3,7 @@
  *
  * Link with target/staticlib/libgateway.a, which `rt staticlib gateway` writes (x86-64). Nothing is allocated and nothing is kept between calls:
  * the caller lends all memory, and a header or a saved state is bytes of a fixed layout that may be stored, sent and copied. The contracts of the
- * five functions are `crates/gateway/specs/Interface.antt` (what each answers and leaves) and `crates/layout/specs` (the layouts); they are proved for
+ * six functions are `crates/gateway/specs/Interface.antt` (what each answers and leaves) and `crates/layout/specs` (the layouts); they are proved for
  * every content of the bytes and every length. Words of the requirements, where ours differ: docs/GLOSSARY.md.
  *
  * Slices. A slice passes as a pointer and the number of its elements. C asks three things, which no function can test:
@@ -16,10 +16,14 @@
  * does not tell these apart. What is offered, remembered, pending and released is a symbol. Where an encoding lists none, each observable event's
  * symbol is its own number.
  *
- * Secrets. The automaton's own secret states and its K are secret number 0. A fresh estimator or a started enforcer may be given up to three further
- * secrets (02: recipes), numbered 1 to 3 as they stand, each a set of states with its own K. They are kept in the saved state: no later call is passed
- * any, and every accepted symbol leaves them as they are. Each secret has its own verdicts, by its own K. "The largest K" is that of all secrets that
- * are given, the automaton's own among them: it says how many symbols are remembered, and how long one may be pending.
+ * Secrets. The automaton's own secret states and its K are secret number 0. A fresh estimator, a started enforcer or an exploration may be given up
+ * to three further secrets (02: recipes), numbered 1 to 3 as they stand, each a set of states with its own K. They are kept in the saved state: no
+ * later call is passed any, and every accepted symbol leaves them as they are. Each secret has its own verdicts, by its own K. "The largest K" is
+ * that of all secrets that are given, the automaton's own among them: it says how many symbols are remembered, and how long one may be pending.
+ *
+ * Before delivery. `opacity_explore` visits every configuration that an accepted list leads to, within a budget, and says how long an event can ever
+ * wait. It is for an engineer's machine: it needs 42 KB of stack (below). The other five are for the gateway and need at most 4,140 bytes
+ * (docs/FIGURES.md); none of them calls it, and a program that does not call it and is linked with `-Wl,--gc-sections` does not contain it.
  *
  * Answers. Each function answers 0, or the number of a refusal, and after a refusal every slice is as it was before the call. Of several
  * refusals whose conditions hold, the answer is the one that the function's comment lists first. A slice of another length than its layout has gets
@@ -42,8 +46,9 @@
  *                                      state is outside its limits                                   all
  *   10   OPACITY_OUTPUT_TOO_SMALL      the output has fewer than 17 bytes                            offer
  *   12   OPACITY_REPEATED_TRANSITION   a transition is listed a second time                          decode
- *   13   OPACITY_TOO_MANY_SECRETS      more than three further secrets                               fresh, start
- *   14   OPACITY_LOOK_BACK_TOO_LARGE   the K of a further secret that is given is above 15           fresh, start
+ *   13   OPACITY_TOO_MANY_SECRETS      more than three further secrets                               fresh, start, explore
+ *   14   OPACITY_LOOK_BACK_TOO_LARGE   the K of a further secret that is given is above 15           fresh, start, explore
+ *   15   OPACITY_BUDGET_SPENT          there are more different configurations than the budget       explore
  *
  * Table: 2,048 words. Word 64 * event + state is the set of the states that the event may lead to; bit q, counted from the least significant, is
  * state q. Any 2,048 words are the transitions of an automaton of 64 states and 32 events.
@@ -99,6 +104,18 @@
  *            the view would be of one who had them all
  *
  * Output: at least 17 bytes. The released symbols stand at its front; what stands behind keeps its bytes.
+ *
+ * Configuration (02: situation): what a trace leads to. The last symbols, as many as the largest K or all if fewer; the sets of states in which runs
+ * can be right after each of them, judged by the symbols up to it, before any further unobservable transition; and that set for the symbol before them
+ * (with K 0: for the last symbol), or the initial state alone if there is none. It is what an estimator remembers, its bytes 0 to 143, and all on
+ * which later verdicts depend.
+ *
+ * Wait: of a trace, by one secret, the secret's own K + 1 less the steps of a leak, and 0 for none.
+ *
+ * Exploration: 4 bytes.
+ *   0, 1     the number of different configurations, 1 to 256, the least significant byte first
+ *   2        the largest weak wait, 0 to the largest K + 1
+ *   3        the largest strong wait, the same
  */
 #ifndef OPACITY_H
 #define OPACITY_H
@@ -114,7 +131,10 @@
 #define OPACITY_JUDGEMENT_BYTES 9
 #define OPACITY_RELEASE_BYTES 2
 #define OPACITY_OUTPUT_BYTES 17           /* the least; more is taken */
+#define OPACITY_EXPLORATION_BYTES 4
 #define OPACITY_ENCODING_MAX_BYTES 2210   /* the longest encoding */
+
+#define OPACITY_HEADER_K 1                /* the place of K in a header */
 
 #define OPACITY_FURTHER_MAX 3             /* the most further secrets */
 #define OPACITY_FURTHER_COUNT 0           /* the places in further secrets, by the number of a secret, 1 to 3 */
@@ -129,6 +149,12 @@
 
 #define OPACITY_RELEASE_COUNT 0           /* the places in a release */
 #define OPACITY_RELEASE_SIZE 1
+
+#define OPACITY_EXPLORATION_NUMBER 0      /* the places in an exploration; the number has 2 bytes */
+#define OPACITY_EXPLORATION_WEAK 2
+#define OPACITY_EXPLORATION_STRONG 3
+
+#define OPACITY_BUDGET_MAX 256            /* the largest budget; a larger one counts as this one */
 
 #define OPACITY_WEAK 0
 #define OPACITY_STRONG 1
@@ -147,6 +173,7 @@
 #define OPACITY_REPEATED_TRANSITION 12
 #define OPACITY_TOO_MANY_SECRETS 13
 #define OPACITY_LOOK_BACK_TOO_LARGE 14
+#define OPACITY_BUDGET_SPENT 15
 
 #ifdef __cplusplus
 extern "C" {
@@ -241,6 +268,30 @@ uint8_t opacity_offer(const uint64_t *table, size_t table_length,
                       uint8_t *enforcer, size_t enforcer_length,
                       uint8_t *output, size_t output_length,
                       uint8_t *release, size_t release_length);
+
+/*
+ * Explores an automaton before it is delivered (02: survey): how many different configurations it has, and how long it can make events wait.
+ * Takes:   table and header of an automaton, the 28 bytes of the further secrets, the budget, and 4 bytes for the exploration, whatever they hold. The
+ *          budget is how many different configurations there may be, 0 to 256; a larger one counts as 256.
+ * Answers: 0: the exploration: the number of different configurations that some accepted list of symbols leads to, the empty one too, and for each
+ *             notion the largest wait, over all of them and all secrets that are given. Where an enforcer starts under the notion with the same
+ *             secrets, no event that it accepts waits for more further ones than that, and, unless it is 0, the last event of some accepted list is
+ *             still held (pending) after any smaller number of further ones.
+ *          9: a slice of a wrong length, the header's K above 15, an initial state above 63, or an observable event's symbol above 31.
+ *          13: more than three further secrets.
+ *          14: the K of one that is given is above 15.
+ *          15: there are more different configurations than the budget. So a budget of 0 always gets it, after the others.
+ * A leak of the opening, 8 of `opacity_start`, is not tested: where no enforcer starts the answer is the same, and the waits are those of the verdicts
+ * alone.
+ * Stack: 41,708 bytes below its return address, measured, for what it finds is kept there; even a refused call takes 38,488 of them. It is to be run
+ * before delivery on an engineer's machine, and takes some milliseconds there (docs/FIGURES.md); on a controller with less stack it must not be called.
+ * The stack of the other functions is what it was without it.
+ */
+uint8_t opacity_explore(const uint64_t *table, size_t table_length,
+                        const uint8_t *header, size_t header_length,
+                        const uint8_t *further, size_t further_length,
+                        uint32_t budget,
+                        uint8_t *exploration, size_t exploration_length);
 
 #ifdef __cplusplus
 }

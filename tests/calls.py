@@ -6,27 +6,26 @@ whose answer 01 leaves open are written by `open`. Past the count of its further
 and a call hands them back.
 """
 
-import copy
-
+from explorations import MOST, explored
 from logs import INCOMPATIBLE, INITIAL_LEAK, NOT_OBSERVABLE, Refused, decoded
 from runs import Listing
 from saved import (
-    ENFORCER_BYTES, ESTIMATOR_BYTES, FURTHER, FURTHER_BYTES, HEADER_BYTES, JUDGEMENT_BYTES, NOTION, PENDING, RELEASE_BYTES, SECRETS, SYMBOLS, WORDS,
-    automaton_of, cleared, given_of, grown_enforcer, grown_estimator, header_of, judgement_bytes, observable_of, safe_of, symbol_at, table_of,
-    with_past,
+    ENFORCER_BYTES, ESTIMATOR_BYTES, EXPLORATION_BYTES, FURTHER, FURTHER_BYTES, HEADER_BYTES, JUDGEMENT_BYTES, NOTION, PENDING, RELEASE_BYTES,
+    SECRETS, SYMBOLS, WORDS, automaton_of, cleared, exploration_bytes, given_of, grown_enforcer, grown_estimator, header_of, judgement_bytes,
+    observable_of, safe_of, symbol_at, table_of, with_past,
 )
 
 MALFORMED, OUTPUT_TOO_SMALL = 9, 10
-TOO_MANY_SECRETS, LOOK_BACK_TOO_LARGE = 13, 14
+TOO_MANY_SECRETS, LOOK_BACK_TOO_LARGE, BUDGET_SPENT = 13, 14, 15
 # of the slices that have one size
 SIZES = {
     "header": HEADER_BYTES, "further": FURTHER_BYTES, "estimator": ESTIMATOR_BYTES, "judgement": JUDGEMENT_BYTES, "enforcer": ENFORCER_BYTES,
-    "release": RELEASE_BYTES,
+    "release": RELEASE_BYTES, "exploration": EXPLORATION_BYTES,
 }
 # what each function but decode is lent of them, beside the header
 LENT = {
     "fresh": ("further", "estimator", "judgement"), "accept": ("estimator", "judgement"), "start": ("further", "enforcer"),
-    "offer": ("enforcer", "release"),
+    "offer": ("enforcer", "release"), "explore": ("further", "exploration"),
 }
 
 
@@ -50,22 +49,17 @@ def elements(data):
     return text
 
 
-def extended(listing, symbol):
-    """A listing by one symbol longer, or None where no run is compatible with it."""
-    longer = copy.copy(listing)
-    longer.trace, longer.entered, longer.compatible = list(listing.trace), list(listing.entered), dict(listing.compatible)
-    return longer if longer.accept(symbol) else None
-
-
 class Calls:
     """The slices as the program keeps them, its lines so far and its output so far."""
 
     def __init__(self):
         self.lines, self.printed = [], []
         self.table = ()
-        self.slices = {name: b"" for name in ("encoding", "header", "further", "estimator", "judgement", "enforcer", "output", "release")}
+        names = "encoding", "header", "further", "estimator", "judgement", "enforcer", "output", "release", "exploration"
+        self.slices = {name: b"" for name in names}
         self.grown = {}  # an automaton and the bytes of a state, its further secrets among them, 0 past their count: the listing of its trace
         self.openings = {}  # an automaton and the further secrets that are given: the listing of the empty trace
+        self.explorations = {}  # the same: what an exploration finds with the largest budget, or None
 
     # lines that print nothing, or themselves
 
@@ -141,7 +135,7 @@ class Calls:
             return MALFORMED
         if byte not in self.symbols():
             return NOT_OBSERVABLE
-        longer = extended(self.listing("estimator"), byte)
+        longer = self.listing("estimator").longer(byte)
         return INCOMPATIBLE if longer is None else self.told(longer, self.slices["estimator"])
 
     def told(self, listing, before):
@@ -180,7 +174,7 @@ class Calls:
         if byte not in self.symbols():
             return NOT_OBSERVABLE
         before, notion = self.listing("enforcer"), self.slices["enforcer"][NOTION]
-        longer = extended(before, byte)
+        longer = before.longer(byte)
         if longer is None:
             return INCOMPATIBLE
         released = longer.trace[before.longest(safe_of(before, notion)) : longer.longest(safe_of(longer, notion))]
@@ -188,6 +182,23 @@ class Calls:
         self.slices["output"] = bytes(released) + self.slices["output"][len(released) :]
         # the size is that of all accepted symbols, pending ones among them
         self.slices["release"] = bytes([len(released), longer.size()])
+        return 0
+
+    def explore(self, budget):
+        """Explores the configurations, up to a budget of them."""
+        return self.call(f"explore {budget}", self.exploring(budget), "exploration")
+
+    def exploring(self, budget):
+        """The answer of explore."""
+        if not self.sound("explore"):
+            return MALFORMED
+        fault = secrets_fault(self.slices["further"])
+        if fault:
+            return fault
+        found = self.found()
+        if found is None or min(budget, MOST) < found.count:
+            return BUDGET_SPENT
+        self.slices["exploration"] = exploration_bytes(found)
         return 0
 
     def open(self, function, symbol):
@@ -239,6 +250,14 @@ class Calls:
         if (automaton, given) not in self.openings:
             self.openings[automaton, given] = Listing(automaton_of(*automaton), given)
         return self.openings[automaton, given]
+
+    def found(self):
+        """What an exploration with the further secrets that are given finds, or None where there are more configurations than the largest budget. A
+        smaller budget changes nothing but whether it is spent."""
+        key = self.automaton(), tuple(given_of(self.slices["further"]))
+        if key not in self.explorations:
+            self.explorations[key] = explored(self.opened())
+        return self.explorations[key]
 
     def keep(self, name, data, listing, before):
         """Writes a state, with what stood before past the count of its further secrets, and remembers by which trace it grew."""

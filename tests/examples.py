@@ -1,6 +1,6 @@
 """The automata P, Q, T and U of 01, with the answers that it gives, and automata with symbols (S-2), with answers worked out by hand. In each line of
 an accepted event or of the opening the fifth field is the estimate size (S-5): for P's trace 2, 2, 2, 1 as S-5 has it, elsewhere counted by hand.
-And further secrets (S-6), with verdicts and releases worked out by hand."""
+And further secrets (S-6), with verdicts and releases worked out by hand; and explorations (S-7), with what they find worked out by hand."""
 
 from runs import Automaton, Secret
 
@@ -115,4 +115,85 @@ SEVERAL = (
     (P, (secret(0, 1), secret(1, 1, 3)), (1, 2, 1, 1), ("-- -- --", "-- -- 00", "11 -- 11", "22 -- 00", "-- -- 00"), ((0, 0), (0, 0), (1, 1), (2, 2))),
     (U, (secret(2, 1), secret(15)), (1, 1, 1, 1), ("-- -- --", "00 00 --", "-- 11 --", "00 00 --", "-- 11 --"), ((0, 0), (0, 0), (0, 0), (2, 2))),
     (T, (secret(0, 1), secret(3, 0, 1)), (), ("-0 -- 00",), ()),
+)
+
+
+# an initial state that is secret, and left by the first symbol for good
+OPENING = Automaton(1, 0, 0, 0, {0}, {0}, [(0, 0, 1), (1, 0, 1)])
+
+# nothing is secret but by further secrets: an event to a state, and on to one that is left no more
+PASSING = Automaton(2, 0, 0, 0, (), {0}, [(0, 0, 1), (1, 0, 2), (2, 0, 2)])
+
+# two states that lead to each other unobserved: event 1 leads to one of them, event 2 to the other, and then runs may be in both
+EITHER = Automaton(1, 2, 0, 0, {1}, {1, 2}, [(0, 0, 1), (1, 0, 0), (0, 1, 0), (0, 2, 1)])
+
+
+def rings(chain, k, *phases):
+    """A chain of states, from the last of which the one event leads into two rings, of 16 states and 15. There is one trace of each length. After one
+    that is at least as long as the chain, runs are in two states, and again in the same 240 symbols later: a configuration is one that was before as
+    soon as the symbol before its last K ones is 240 behind one at which runs were in the rings. That is K + chain + 240 configurations. A secret has
+    two states, in which runs are together when so many symbols have followed the chain, and again 240 later."""
+    around = [(chain + i, 0, chain + (i + 1) % 16) for i in range(16)] + [(chain + 16 + i, 0, chain + 16 + (i + 1) % 15) for i in range(15)]
+    transitions = [(i, 0, i + 1) for i in range(chain)] + [(chain - 1, 0, chain + 16)] + around
+    secret = {chain + phase % 16 for phase in phases} | {chain + 16 + phase % 15 for phase in phases}
+    return Automaton(chain + 30, 0, k, 0, secret, {0}, transitions)
+
+
+def subsets(chain, k=0, secret=()):
+    """Eight states and a chain before them, or one of the eight as the initial state: event 0 leads along the chain and from its end to all eight,
+    event 1 from each to the next, and event 2 leaves no run in the first and the others where they are. So runs can be in any of the 255 sets of the
+    eight that are not empty, and in each state of the chain."""
+    last = 8 + chain - 1 if chain else 0
+    transitions = [(last, 0, i) for i in range(8)] + [(i, 1, (i + 1) % 8) for i in range(8)] + [(i, 2, i) for i in range(1, 8)]
+    transitions += [(i, 0, i + 1) for i in range(8, last)]
+    return Automaton(7 + chain, 2, k, 8 if chain else 0, secret, {0, 1, 2}, transitions)
+
+
+def hops(missing, k=1, secret=()):
+    """Eight states, which each of 32 events leaves for one state, but for so many transitions that are missing. With K 1 a configuration that is not
+    that of the opening is a state and an event: 257 configurations, but for those missing."""
+    transitions = [(i, event, (i + event) % 8) for i in range(8) for event in range(32)]
+    return Automaton(7, 31, k, 0, secret, set(range(32)), transitions[: len(transitions) - missing], range(31, -1, -1))
+
+
+# an automaton, its K, further secrets; how many configurations there are, and the largest weak wait and the largest strong one. By `A 1 B` is meant:
+# where runs are right after a symbol, A, the next symbol, 1, and where they are right after it. A configuration of n symbols, fewer than K, is a way
+# of n symbols from the initial state; one of K symbols is a way of K symbols that starts anywhere.
+#   P: A = {0}, B = {1, 3} and C = {3}, with A 1 B, B 2 A, B 1 C and C 1 C. K 0: these three. K 1: the opening and the four ways. K 2: the opening,
+#     A 1 B, and of two symbols 2 ways from A, 2 from B, 1 from C. Of n symbols there are n // 2 + 1 from A, (n + 1) // 2 + 1 from B, 1 from C: for K
+#     15 these are 2 (1 + 2 + .. + 7) + 8 of fewer than 15 symbols, and 8 + 9 + 1. At the end of B 2 A runs were in 1 one symbol ago: a leak 1.
+#   Q, T and ONE: one symbol at most. T's opening, and Q right after its symbol, leaks under strong alone.
+#   U: {0} and {1} in turn. There is one trace of each length, and those of K + 2 symbols and more lead to what one two shorter leads to. {1} leaks 0.
+#   STRONG_ONLY: {0}, {1}, {2}, each with two symbols: 1 + 2 + .. of fewer than K, and 3 times 2 ** K. Right after {0} 1 {1} a strong leak 0.
+#   LATER: A = {0}, B = {1, 2}, C = {3}, D = {0, 3}, E = all, with A 7 B, B 3 C, C 7 D, D 7 E, E 7 E and E 3 C; what ends with a 3 is a leak 1.
+#   EITHER: {0} and {1}, each with two symbols, though runs may soon be in both. Right after {1} was entered every run has been in 1: a strong leak.
+#   OPENING: the traces of 0 to K + 1 symbols; the opening leaks 0, and the others that leak more. PASSING: those of 0 to K + 2 symbols.
+# With further secrets the configurations are those by the largest K, and each secret waits by its own.
+EXPLORATIONS = (
+    *((P, k, (), *found) for k, found in ((0, (3, 0, 0)), (1, (5, 1, 1)), (2, (7, 2, 2)), (15, (82, 15, 15)))),
+    *((Q, k, (), 2, 0, k + 1) for k in (0, 1, 15)),
+    *((T, k, (), 1, 0, k + 1) for k in (0, 1, 15)),
+    *((ONE, k, (), 1, k + 1, k + 1) for k in (0, 1, 15)),
+    *((U, k, (), k + 2, k + 1, k + 1) for k in (0, 1, 2, 15)),
+    *((STRONG_ONLY, k, (), count, 0, k + 1) for k, count in ((0, 3), (1, 7), (2, 15), (3, 31))),
+    *((EITHER, k, (), count, 0, k + 1) for k, count in ((0, 2), (1, 5), (2, 11))),
+    *((OPENING, k, (), k + 2, k + 1, k + 1) for k in (0, 1, 15)),
+    # two events with their own numbers: {0} 0 {1}, {0} 1 {2}, and back; with one symbol {0} 7 {1, 2}, and back, and nothing leaks
+    (OWN_NUMBERS, 1, (), 5, 2, 2),
+    (ONE_SYMBOL, 1, (), 3, 0, 0),
+    *((LATER, k, (), *found) for k, found in ((0, (5, 0, 0)), (1, (7, 1, 1)), (2, (10, 2, 2)))),
+    # the largest K is that of a secret that never leaks
+    (U, 0, (secret(2, 1), secret(15)), 17, 3, 3),
+    (P, 2, P_SECRETS, 82, 15, 15),
+    # runs in C, all in 3: the last secret alone waits so long
+    (P, 2, (secret(0), secret(0), secret(4, 3)), 13, 5, 5),
+    # in A some are in 0 and some have left it unobserved: under strong alone, of the further secret alone
+    (P, 0, (secret(1, 0),), 5, 0, 2),
+    (PASSING, 0, (secret(3, 1), secret(0, 2)), 6, 4, 4),
+    # 255, 256 and 257 configurations, and None for more; of `rings` the last one found alone is a leak, where K is 0 and the phase 239
+    *((rings(chain, 15), 15, (), *found) for chain, found in ((1, (256, 0, 0)), (2, (None,)))),
+    *((rings(chain, 14, 7), 14, (), *found) for chain, found in ((1, (255, 15, 15)), (2, (256, 15, 15)), (3, (None,)))),
+    *((rings(chain, 0, 239), 0, (), *found) for chain, found in ((15, (255, 1, 1)), (16, (256, 1, 1)), (17, (None,)))),
+    *((subsets(chain, 0, {3}), 0, (), *found) for chain, found in ((0, (255, 1, 1)), (1, (256, 1, 1)), (2, (None,)))),
+    *((hops(missing), 1, (secret(0, 5),), *found) for missing, found in ((0, (None,)), (1, (256, 1, 1)), (2, (255, 1, 1)))),
 )

@@ -10,9 +10,10 @@ import sys
 
 from calls import SIZES, Calls
 from examples import (
-    ALL_SECRET, CLOSING, CORNERS, LATER, NONE_SECRET, ONE, ONE_SYMBOL, OWN_NUMBERS, P, P0, P1, P_ENCODING, P_SECRETS, P_SYMBOLS, Q, Q_ENCODING,
-    STRONG_ONLY, T, U, WIDENING, secret,
+    ALL_SECRET, CLOSING, CORNERS, EXPLORATIONS, LATER, NONE_SECRET, ONE, ONE_SYMBOL, OPENING, OWN_NUMBERS, P, P0, P1, P_ENCODING, P_SECRETS,
+    P_SYMBOLS, PASSING, Q, Q_ENCODING, STRONG_ONLY, T, U, WIDENING, hops, rings, secret, subsets,
 )
+from explorations import Exploration, configuration, explored, reached, waits_of
 from generate import (
     any_bytes, cut_symbols, flipped_bits, further_bytes, many_transitions, out_of_range, padding_bits, random_automaton, random_offers, random_secrets,
     repeated, repeated_and_damaged, short_encoding, symbol_bit, with_repeat, with_symbols, with_transitions, wrong_count,
@@ -20,18 +21,18 @@ from generate import (
 from logs import encoded
 from runs import Automaton, Listing, Secret, TooManyRuns
 from saved import (
-    ENFORCER_BYTES, ESTIMATOR_BYTES, FURTHER_BYTES, HEADER_BYTES, JUDGEMENT_BYTES, NOTION, PENDING, RELEASE_BYTES, SECRETS, SYMBOLS, WORDS, bits,
-    estimator_bytes, header_of, secrets_bytes, table_of,
+    ENFORCER_BYTES, ESTIMATOR_BYTES, EXPLORATION_BYTES, FURTHER_BYTES, HEADER_BYTES, JUDGEMENT_BYTES, NOTION, PENDING, RELEASE_BYTES, SECRETS,
+    SYMBOLS, WORDS, bits, estimator_bytes, header_of, secrets_bytes, table_of,
 )
 from stored import store
 
-RANDOM, SEVERAL, DAMAGED, OPEN = 150, 48, 80, 40
+RANDOM, SEVERAL, DAMAGED, OPEN, EXPLORED = 150, 48, 80, 40, 40
 SEED = 5
 FOLDER = pathlib.Path(__file__).resolve().parent.parent / "crates" / "gateway_calls"
 
 # what is lent to be written over: bytes that no function writes, and for an output a different one in each place
-HEADER, ESTIMATOR, JUDGEMENT, ENFORCER, RELEASE = (
-    b"\xee" * size for size in (HEADER_BYTES, ESTIMATOR_BYTES, JUDGEMENT_BYTES, ENFORCER_BYTES, RELEASE_BYTES)
+HEADER, ESTIMATOR, JUDGEMENT, ENFORCER, RELEASE, EXPLORATION = (
+    b"\xee" * size for size in (HEADER_BYTES, ESTIMATOR_BYTES, JUDGEMENT_BYTES, ENFORCER_BYTES, RELEASE_BYTES, EXPLORATION_BYTES)
 )
 OUTPUT = bytes(range(0xA0, 0xB1))
 # the longest encoding there is: symbols, and 1,023 different transitions, the last with every bit 1
@@ -59,7 +60,7 @@ def give(calls, secrets):
 def lend_all(calls):
     """Slices of the right sizes, and no further secret."""
     give(calls, ())
-    calls.put(estimator=ESTIMATOR, judgement=JUDGEMENT, enforcer=ENFORCER, output=OUTPUT, release=RELEASE)
+    calls.put(estimator=ESTIMATOR, judgement=JUDGEMENT, enforcer=ENFORCER, output=OUTPUT, release=RELEASE, exploration=EXPLORATION)
 
 
 # decoding
@@ -380,6 +381,7 @@ FUNCTIONS = (
     ("accept", (1,), ("header", "estimator", "judgement")),
     ("start", (0,), ("header", "further", "enforcer")),
     ("offer", (1,), ("header", "enforcer", "release")),
+    ("explore", (256,), ("header", "further", "exploration")),
 )
 
 
@@ -547,10 +549,6 @@ def damaged_states(calls):
 # several secrets
 
 
-# nothing is secret but by further secrets: an event to a state, and on to one that is left no more
-PASSING = Automaton(2, 0, 0, 0, (), {0}, [(0, 0, 1), (1, 0, 2), (2, 0, 2)])
-
-
 def judge_all(calls, automaton, secrets, offered):
     """The verifier, and the enforcer under either notion, with these further secrets."""
     calls.lend(automaton)
@@ -617,15 +615,18 @@ def with_backs(count, *backs):
     return secrets_bytes([secret(k, 3) for k in backs], count)
 
 
+# more than three further secrets; a K above 15, in a place that is given; both
+FAULTS = [with_backs(count, 0, 15, 0) for count in (4, 255)]
+FAULTS += [with_backs(3, *(k if at == place else 15 for at in range(3))) for place in range(3) for k in (16, 255)]
+FAULTS += [with_backs(1, 16), with_backs(2, 1, 16), with_backs(4, 16, 16, 16), b"\xff" * FURTHER_BYTES]
+
+
 def secret_refusals(calls):
     """13 and 14, what comes before them and behind, and what is left past the count."""
     calls.say("further secrets: more than three; a K above 15, in a place that is given; both")
     calls.lend(P)
     lend_all(calls)
-    faults = [with_backs(count, 0, 15, 0) for count in (4, 255)]
-    faults += [with_backs(3, *(k if at == place else 15 for at in range(3))) for place in range(3) for k in (16, 255)]
-    faults += [with_backs(1, 16), with_backs(2, 1, 16), with_backs(4, 16, 16, 16), b"\xff" * FURTHER_BYTES]
-    for data in faults:
+    for data in FAULTS:
         calls.put(further=data)
         calls.fresh()
         for notion in (0, 1):
@@ -756,6 +757,169 @@ def secret_limits(calls):
             assert calls.offer(200) == (6 if count == most else 9)
         calls.put(enforcer=changed(state, 0, most) + bytes([1, most + 2] + [1] * 16 + [9] * 16))
         assert calls.offer(200) == 9
+
+
+# explorations
+
+
+def explore(calls, *budgets):
+    """Explorations with each budget, each over what no function writes."""
+    for budget in budgets:
+        if calls.slices["exploration"] != EXPLORATION:
+            calls.put(exploration=EXPLORATION)
+        calls.explore(budget)
+
+
+def explore_around(calls, automaton, secrets, everywhere=False):
+    """Explorations with budgets around the number of configurations, or with many everywhere."""
+    calls.lend(automaton)
+    give(calls, secrets)
+    found = calls.found()
+    n = 257 if found is None else found.count
+    many = {0, 1, n - 1, n, n + 1, 255, 256, 257, 512, 65535, 65536, 65536 + n, 4294967295}
+    explore(calls, *sorted(many if everywhere else {n - 1, n, 256}))
+
+
+def explorations(calls):
+    """Explorations by hand, and of some more automata with small K and large. Those with 1, 2, 255 or 256 configurations, and with more, get budgets
+    from 0 to the largest number that can be passed."""
+    calls.put(exploration=EXPLORATION)
+    calls.say("explore: automata worked out by hand")
+    for automaton, k, secrets, count, *_ in EXPLORATIONS:
+        explore_around(calls, with_symbols(automaton, automaton.symbols, k), secrets, count in (1, 2, 255, 256, None))
+    calls.say("explore: 64 states, event 31 and K 15; and some events with one symbol")
+    for automaton in (CORNERS, CLOSING, WIDENING, OWN_NUMBERS, ONE_SYMBOL, LATER, STRONG_ONLY, P_SYMBOLS):
+        for k in (0, 1, 2, 15):
+            explore_around(calls, with_symbols(automaton, automaton.symbols, k), ())
+    calls.say("explore: the waits of 256 configurations, by secrets in different places, with different K")
+    for secrets in ((secret(0, 1), secret(3, 3)), (secret(15),), (secret(0, 40, 41), secret(0), secret(7, 17, 33)), (secret(0, 0), secret(14))):
+        for automaton in (rings(1, 15, 200), rings(1, 0, 3, 100), rings(2, 14), rings(16, 0)):
+            explore_around(calls, automaton, secrets)
+    for secrets in ((secret(0, 8),), (secret(0), secret(0), secret(0, 1, 2)), (secret(0, *range(8)),), (secret(0, 9),)):
+        explore_around(calls, subsets(1), secrets)
+    calls.say("explore: the same events with one symbol for all, with two, and with one for each")
+    for symbols in ([5] * 32, [5, 6] * 16, range(32)):
+        for k in (0, 1, 2):
+            explore_around(calls, with_symbols(hops(200), symbols, k), (secret(1, 0, 2, 4, 6),))
+    calls.say("explore: 8 is not tested, and the opening waits longest")
+    for automaton, secrets in ((OPENING, ()), (ONE, (secret(3, 0),)), (T, (secret(15, 0, 1),)), (P, (secret(1, 0, 2),)), (PASSING, (secret(0, 0),))):
+        calls.lend(automaton)
+        give(calls, secrets)
+        for notion in (0, 1):
+            calls.start(notion)
+        explore(calls, 256)
+    calls.say("explore: after a trace as before it, and the next symbol as if nothing was explored")
+    calls.lend(P)
+    observe(calls, (1, 2))
+    explore(calls, 256, 6)
+    calls.accept(1)
+    calls.explore(7)
+    calls.explore(6)
+    calls.explore(300)
+
+
+def exploration_refusals(calls):
+    """9, 13, 14 and 15, each before the next, and what is left past the count of further secrets."""
+    calls.say("explore: K 16 and 255, initial state 64 and 255, symbols above 31 of observable events")
+    calls.lend(P)
+    lend_all(calls)
+    for at, byte in ((1, 16), (1, 255), (0, 64), (0, 255), (SYMBOLS + 1, 32), (SYMBOLS + 2, 255)):
+        calls.put(header=changed(header_of(P), at, byte))
+        explore(calls, 0, 256)
+    calls.say("explore: symbols above 31 of events that are not observable, and stray ones that are symbols of others")
+    for symbol in (32, 255, 1):
+        calls.put(header=changed(header_of(P), SYMBOLS, symbol))
+        explore(calls, 6, 7)
+    calls.say("explore: 13, and 14, before 15")
+    calls.lend(P)
+    for data in FAULTS:
+        calls.put(further=data)
+        explore(calls, 0, 256)
+    calls.say("explore: past the count a K counts for nothing, above 15 or not, and a set neither")
+    for data in (with_backs(2, 1, 2, 16), with_backs(1, 0, 16, 255), with_backs(0, 16, 255, 16), with_backs(2, 0, 1, 15), with_backs(0, 15, 15, 15)):
+        calls.put(further=data)
+        explore(calls, 6, 7, 256)
+    calls.say("explore: 9 before 13, 14 and 15")
+    for data in (with_backs(4, 16), with_backs(2, 0, 16), with_backs(0)):
+        calls.lend(P)
+        for size in (0, 1, 10, 27, 29):
+            calls.put(further=resized(data, size))
+            explore(calls, 0)
+        calls.put(further=data)
+        for size in (0, 2, 3, 5, 8):
+            calls.put(exploration=resized(EXPLORATION, size))
+            calls.explore(0)
+        for size in (0, 45, 47):
+            calls.put(header=resized(header_of(P), size))
+            explore(calls, 0)
+        for at, byte in ((0, 64), (1, 16), (SYMBOLS + 1, 32)):
+            calls.put(header=changed(header_of(P), at, byte))
+            explore(calls, 0)
+        calls.lend(P)
+        for words in (calls.table[:2047], calls.table + (0,), ()):
+            calls.put_table(words)
+            explore(calls, 0)
+
+
+def without_opening(opening):
+    """What an exploration finds that does not judge the opening."""
+    listings = reached(opening)
+    waits = listings and [(0, 0)] + [waits_of(listing) for listing in listings[1:]]
+    return listings and Exploration(len(listings), max(weak for weak, _ in waits), max(strong for _, strong in waits))
+
+
+def sets_alone(listing):
+    """A configuration without its symbols."""
+    return configuration(listing)[1]
+
+
+def without_oldest(listing):
+    """A configuration without the set for the symbol before its symbols."""
+    return configuration(listing)[0], configuration(listing)[1][:-1]
+
+
+def possible(listing):
+    """A configuration with the unobservable transitions that follow each symbol."""
+    count = len(configuration(listing)[1])
+    ends = ({end for end, _ in listing.compatible[len(listing.trace) - back]} for back in range(count))
+    return configuration(listing)[0], tuple(map(frozenset, ends))
+
+
+def mistaken_exploration(kind, automaton, secrets):
+    """What a mistaken program would find: one that judges other secrets, or by events and not by symbols, that takes one notion for the other, leaves
+    out the opening, or takes different configurations for one."""
+    opening = Listing(automaton, secrets, 300)
+    if kind < 3:
+        return explored(Listing(*mistaken(automaton, secrets)[kind], 300))
+    if kind == 3:
+        return explored(Listing(with_symbols(automaton, None), secrets, 300))
+    if kind == 4:
+        found = explored(opening)
+        return found._replace(weak=found.strong, strong=found.weak)
+    return without_opening(opening) if kind == 5 else explored(opening, key=(sets_alone, without_oldest, possible)[kind - 6])
+
+
+def exploration_case(i):
+    """An automaton and further secrets. Nine of ten tell a mistaken program by what is found; the tenth may have any number of configurations."""
+    rng = random.Random(f"explorations {SEED} {i}")
+    while True:
+        automaton = random_automaton(rng)
+        secrets = rng.choice((random_secrets(rng, automaton), ()))
+        try:
+            found = explored(Listing(automaton, secrets, 300))
+            if i % 10 == 9 or found and 4 < found.count and found != mistaken_exploration(i % 10, automaton, secrets):
+                return rng, automaton, secrets
+        except TooManyRuns:
+            continue
+
+
+def random_explorations(calls):
+    """Random automata, some with further secrets, with budgets around the number of configurations and any."""
+    calls.say("explore: random automata")
+    for i in range(EXPLORED):
+        rng, automaton, secrets = exploration_case(i)
+        explore_around(calls, automaton, secrets)
+        explore(calls, rng.randrange(300), rng.randrange(2 ** 32))
 
 
 # answers that are left open
@@ -919,6 +1083,19 @@ def misread(calls):
         "open open",
         "open accept",
         "open header 1",
+        "open decode",
+        "open fresh",
+        "open start 0",
+        "open explore 1",
+        "explore",
+        "explore x",
+        "explore -1",
+        "explore 1 2",
+        "explore 4294967296",
+        "explore 18446744073709551617",
+        "explored 1",
+        "exploration",
+        "exploration 4 0:100",
         "header",
         "header x",
         "header 4097",
@@ -964,12 +1141,15 @@ def stored():
         several,
         secret_refusals,
         secret_limits,
+        explorations,
+        exploration_refusals,
         open_states,
         misread,
         random_decodings,
         random_open,
         random_chains,
         random_several,
+        random_explorations,
     ):
         part(calls)
     return {"stdin": "".join(line + "\n" for line in calls.lines).encode(), "stdout": "".join(line + "\n" for line in calls.printed).encode()}

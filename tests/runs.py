@@ -31,6 +31,7 @@ are listed once, by one with the fewest unobservable transitions since the last 
 K, is asked for any more, neither by a verdict (n - l with l <= K) nor by a safe prefix (n - j <= K), and n only grows: such positions are left out.
 """
 
+import copy
 from collections import namedtuple
 
 Secret = namedtuple("Secret", "states k")
@@ -119,6 +120,12 @@ class Listing:
         self.compatible[n] = self.continued(runs, n)
         self.compatible.pop(oldest - 1, None)
         return True
+
+    def longer(self, symbol):
+        """A listing by one symbol longer, or None where no run is compatible with it; this one stays as it is."""
+        other = copy.copy(self)
+        other.trace, other.entered, other.compatible = list(self.trace), list(self.entered), dict(self.compatible)
+        return other if other.accept(symbol) else None
 
     def positions(self, prefix, number):
         """The positions of each run that is compatible with the first symbols of the trace: count, and whether it is in the secret of this number."""

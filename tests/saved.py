@@ -3,7 +3,7 @@
 from runs import Automaton, Secret
 
 WORDS = 2048
-HEADER_BYTES, FURTHER_BYTES, ESTIMATOR_BYTES, JUDGEMENT_BYTES, ENFORCER_BYTES, RELEASE_BYTES = 46, 28, 172, 9, 206, 2
+HEADER_BYTES, FURTHER_BYTES, ESTIMATOR_BYTES, JUDGEMENT_BYTES, ENFORCER_BYTES, RELEASE_BYTES, EXPLORATION_BYTES = 46, 28, 172, 9, 206, 2, 4
 SYMBOLS = 14  # where a header has the symbols
 SECRETS = 144  # where an estimator has its further secrets
 NOTION, PENDING = 172, 173  # where an enforcer has its notion, and the number of its pending symbols, which follow it
@@ -108,6 +108,11 @@ def judgement_bytes(listing):
     """The weak verdict and the strong one of each secret, none in the places that are not given, and the estimate size."""
     told = [steps for number in range(len(listing.secrets)) for steps in (listing.weak(number), listing.strong(number))]
     return bytes(NONE if steps is None else steps for steps in told).ljust(2 * (1 + FURTHER), bytes([NONE])) + bytes([listing.size()])
+
+
+def exploration_bytes(found):
+    """How many configurations an exploration found, lower byte first, and the largest weak wait and the largest strong one."""
+    return found.count.to_bytes(2, "little") + bytes((found.weak, found.strong))
 
 
 def safe_of(listing, notion):

@@ -2,7 +2,8 @@
 
 01's examples with its answers, and others worked out by hand; the merged listing of `runs` against one in which nothing is merged or left out: each
 run as its list of transitions; automata with symbols against automata without, whose events are the symbols; and further secrets (S-6) against
-answers worked out by hand, against runs that are listed one by one as their states, and against automata whose own secret they are.
+answers worked out by hand, against runs that are listed one by one as their states, and against automata whose own secret they are; explorations
+(S-7) against what was worked out by hand, against every trace up to a length, and against how long the last symbols of traces are held.
 """
 
 import pathlib
@@ -10,13 +11,19 @@ import random
 import sys
 
 from calls import elements
-from examples import ENCODINGS, ESTIMATES, EXAMPLES, OPENINGS, P, P_ENCODING, P_SECRETS, P_SYMBOLS, Q, Q_ENCODING, SEVERAL, T, secret
+from examples import (
+    ENCODINGS, ESTIMATES, EXAMPLES, EXPLORATIONS, OPENINGS, P, P_ENCODING, P_SECRETS, P_SYMBOLS, Q, Q_ENCODING, SEVERAL, T, hops, rings, secret,
+    subsets,
+)
+from explorations import Exploration, explored, reached, waits_of
 from generate import (
     many_transitions, random_automaton, random_offers, random_secrets, random_trace, with_length, with_repeat, with_symbols, with_transitions,
 )
 from logs import Refused, decoded, encoded, output, steps
 from runs import Automaton, Listing, TooManyRuns
-from saved import automaton_of, given_of, grown_enforcer, grown_estimator, header_of, judgement_bytes, secrets_bytes, table_of
+from saved import (
+    automaton_of, exploration_bytes, given_of, grown_enforcer, grown_estimator, header_of, judgement_bytes, safe_of, secrets_bytes, table_of, wait,
+)
 
 
 def test_examples():
@@ -57,9 +64,23 @@ def several_lines(automaton, further, trace):
     return "".join(lines) + f"end {accepted} {released} {accepted - released}\n"
 
 
+def explored_line(k, further, budget):
+    """The line of an exploration of P, with this K in place of its own."""
+    found = explored(Listing(with_symbols(P, None, k), further), budget)
+    said = "refused 15" if found is None else f"{found.count} configurations, waits {found.weak} {found.strong}"
+    return f"K {k}, {len(further)} further, budget {budget}: {said}\n"
+
+
+def explored_lines():
+    """Those of the example in C: budgets that are enough, one too small, larger than the largest, and 0."""
+    one, passed = (secret(1, 3),), (secret(1, 0),)
+    asked = (2, (), 256), (2, (), 7), (2, (), 6), (2, one, 256), (0, (), 300), (0, passed, 256), (15, (), 82), (15, (), 81), (2, one, 0)
+    return "".join(explored_line(*call) for call in asked)
+
+
 def test_programs():
     """The stored runs of the log program, 01's listing and 02's idle log with S-5's column: the lister gives them, and they are among the answers
-    that were written by hand. The documents and the example in C have the same, and the example goes on with a further secret."""
+    that were written by hand. The documents and the example in C have the same, and the example goes on with a further secret and explorations."""
     top = pathlib.Path(__file__).resolve().parent.parent
     stored = {}
     for name in ("opacity_log", "idle_log"):
@@ -68,7 +89,8 @@ def test_programs():
         assert output((folder / "stdin").read_bytes()) == stored[name], name
     assert stored["opacity_log"] == EXAMPLES[0][2]
     assert [stored["idle_log"]] == [expected for automaton, offered, expected in EXAMPLES if automaton is T and not offered]
-    assert (top / "c" / "listing.txt").read_text("ascii") == stored["opacity_log"] + several_lines(P, (secret(1, 3),), (1, 2, 1, 1))
+    several = several_lines(P, (secret(1, 3),), (1, 2, 1, 1))
+    assert (top / "c" / "listing.txt").read_text("ascii") == stored["opacity_log"] + several + explored_lines()
     further = next(line for line in (top / "docs/FORMATS.md").read_text("utf-8").splitlines() if line.startswith("    02  02 00"))
     assert bytes.fromhex(further) == secrets_bytes([secret(2, 1, 63), secret(15)])
     for name in ("README.md", "docs/FORMATS.md"):
@@ -379,6 +401,87 @@ def test_apart(count, seed):
     return compared
 
 
+def test_explorations():
+    """S-7, by hand: what explorations find, with budgets around it; and the bytes of one."""
+    for automaton, k, further, *found in EXPLORATIONS:
+        opening = Listing(with_symbols(automaton, automaton.symbols, k), further)
+        expected = None if found == [None] else Exploration(*found)
+        budgets = (256, 257, 65535, 4294967295) + (() if expected is None else (found[0], found[0] + 1))
+        assert [explored(opening, budget) for budget in budgets] == [expected] * len(budgets), (automaton.transitions, k, found)
+        spent = (0, 255) if expected is None else (0, found[0] - 1)
+        assert [explored(opening, budget) for budget in spent] == [None, None], (automaton.transitions, k, found)
+    for automaton, count in ((rings(2, 15), 257), (rings(3, 14), 257), (rings(17, 0), 257), (subsets(2), 257), (hops(0), 257)):
+        assert len(reached(Listing(automaton), 1000)) == count
+    assert exploration_bytes(Exploration(256, 16, 2)) == bytes((0, 1, 16, 2)) and exploration_bytes(Exploration(255, 0, 1)) == bytes((255, 0, 0, 1))
+
+
+def all_traces(opening, most):
+    """A listing for every trace up to a length such that there are at most so many, and that length. No trace is left out for what it leads to."""
+    symbols = sorted(set(opening.automaton.symbol_of.values()))
+    listings, latest, length = [opening], [opening], 0
+    while latest and length < 40:
+        latest = list(filter(None, (listing.longer(symbol) for listing in latest for symbol in symbols)))
+        if most < len(listings) + len(latest):
+            break
+        listings, length = listings + latest, length + 1
+    return listings, length
+
+
+def said(listing):
+    """What the trace of a listing leads to, and the largest waits after it: S-7's words once more."""
+    trace, n = listing.trace, len(listing.trace)
+    first = max(0, n - max(secret.k for secret in listing.secrets))
+    sets = [sorted(listing.entered[j]) for j in range(first, n + 1)]
+    verdicts = [(secret.k, listing.weak(i), listing.strong(i)) for i, secret in enumerate(listing.secrets)]
+    waits = [max([0] + [k + 1 - pair[notion] for k, *pair in verdicts if pair[notion] is not None]) for notion in (0, 1)]
+    return (str(trace[first:]), str(sets)), waits
+
+
+def test_configurations(count, seed):
+    """Explorations against every trace up to a length: the same number of configurations and the same waits, where some of the traces are longer than
+    those by which all were found; elsewhere no more of them. Where the budget is spent, and the traces are enough, more than the budget."""
+    compared = [0, 0, 0]
+    for i, rng, automaton, further in with_further(f"configurations {seed}", count):
+        few = with_symbols(automaton, automaton.symbols, rng.choice((0, 1, 2, 3)))
+        opening = Listing(few, rng.choice(((), further, tuple(given._replace(k=min(given.k, 2)) for given in further))), 100)
+        budget = rng.choice((5, 20, 256))
+        try:
+            listings = reached(opening, budget)
+            traces, length = all_traces(opening, 600)
+        except TooManyRuns:
+            continue
+        found = [said(listing) for listing in traces]
+        different = {key for key, _ in found}
+        if listings is None:
+            compared[2] += budget < len(different)
+        elif len(listings[-1].trace) < length:
+            largest = [max(waits[notion] for _, waits in found) for notion in (0, 1)]
+            assert explored(opening, budget) == (len(different), *largest), (seed, i)
+            compared[0] += 1
+            compared[1] += largest != [0, 0]
+        else:
+            assert len(different) <= len(listings), (seed, i)
+    return compared
+
+
+def test_waits(count, seed):
+    """S-7's sentence: where an enforcer starts, the largest wait is the most further symbols for which the last symbol of some trace is held, so that
+    none is held for more, and that one still after any smaller number; for one trace of each configuration."""
+    compared = 0
+    for i, _, automaton, further in with_further(f"waits {seed}", count):
+        opening = Listing(automaton, further, 200)
+        try:
+            listings = reached(opening, 100)
+        except TooManyRuns:
+            continue
+        for notion in (0, 1):
+            if listings is not None and safe_of(opening, notion)(0):
+                held = [wait(safe_of(listing, notion), len(listing.trace)) for listing in listings]
+                assert max(held) == max(waits_of(listing)[notion] for listing in listings), (seed, i)
+                compared += 0 < max(held)
+    return compared
+
+
 if __name__ == "__main__":
     test_examples()
     test_sizes()
@@ -387,8 +490,12 @@ if __name__ == "__main__":
     test_symbols()
     test_saved()
     test_several()
+    test_explorations()
     compared = test_merging(400, 1)
     separate, shared = test_meaning(600, 1)
     print(f"examples as expected, {compared} listings compared run by run; as without symbols: {separate} symbols of one event each, {shared} others")
     print(f"several secrets: {test_secrets(800, 1)} listings compared run by run; {test_apart(200, 1)} symbols as with one secret each")
+    whole, leaking, spent = test_configurations(300, 1)
+    waits = test_waits(300, 1)
+    print(f"explorations: {whole} compared with every trace, {leaking} of them with waits; {spent} beyond the budget; {waits} waits of enforcers")
     sys.exit(0)

@@ -22,7 +22,8 @@ use Rattle.opacity.proofs.Numbering.{largest-bounds, same-secrets, how-many-mos
 use Rattle.opacity.proofs.EveryVerdict.{every-verdict}
 use Rattle.enforcer.specs.SafePrefix.{Safe, SafeForAll, SafeForAllByRuns, UnsafeForSome}
 use Rattle.enforcer.specs.Queues.{Laws, Longest}
-use Rattle.enforcer.specs.Inner.{waitOf, WaitAt, LargestWait}
+use Rattle.enforcer.specs.Waits.{waitOf, LargestWait}
+use Rattle.enforcer.specs.Inner.{WaitAt}
 use Rattle.enforcer.proofs.SafeLaws.{safe-laws, unsafe-not-safe, safe-wait, wait-safe, wait-unsafe, safe-by-runs}
 
 -- a state that keeps what was given has the secrets that were given
@@ -94,6 +95,20 @@ largest-of-four cs vs a b c d w four A B C D e m = (to, from)
     from low (suc (suc zero)) g = omega (arith, e, C .given g)
     from low (suc (suc (suc zero))) g = omega (arith, e, D .given g)
     from low (suc (suc (suc (suc i)))) g = absurd (omega (arith, g, four))
+
+-- one of the secrets has it
+pub largest-reached : (cs : List Secret) (vs : List Steps) (w : ℕ) → 0 < length cs → LargestWait cs vs w
+    → (i : ℕ) × (i < length cs) × (waitOf (secretAt cs i .k) (getD vs i none) ≡ w)
+largest-reached cs vs w some most = go (all-or-some (λ i. waitOf (secretAt cs i .k) (getD vs i none)) (w - 1) (length cs))
+  where
+    low : (i : ℕ) → i < length cs → waitOf (secretAt cs i .k) (getD vs i none) ≤ w
+    low = most w .1 (omega arith)
+
+    go : ((i : ℕ) → i < length cs → waitOf (secretAt cs i .k) (getD vs i none) ≤ w - 1)
+        ⊎ ((i : ℕ) × (i < length cs) × (w - 1 < waitOf (secretAt cs i .k) (getD vs i none)))
+        → (i : ℕ) × (i < length cs) × (waitOf (secretAt cs i .k) (getD vs i none) ≡ w)
+    go (inl all) = (0, some, omega (arith, all 0 some, most (w - 1) .0 all))
+    go (inr x) = (x .0, x .1, omega (arith, x .2, low (x .0) (x .1)))
 
 -- only the verdicts of the secrets that are given count
 pub largest-given : (cs : List Secret) (vs : List Steps) (n w : ℕ) → length cs ≤ n → LargestWait cs vs w → LargestWait cs (take n vs) w

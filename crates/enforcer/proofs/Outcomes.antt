@@ -20,7 +20,8 @@ use Rattle.verifier.specs.Replies as verifier
 use Rattle.verifier.specs.Replies.{Accepting, Moved, TellsBy}
 use Rattle.enforcer.specs.Enforcers.{Limits, InLimits, Grown, secretsIn}
 use Rattle.enforcer.specs.Offerings.{refused, offerOutcome, Offering, not-observable, incompatible, accepted}
-use Rattle.enforcer.specs.Inner.{PendingWithin, LargestWait, Enqueues}
+use Rattle.enforcer.specs.Waits.{LargestWait}
+use Rattle.enforcer.specs.Inner.{PendingWithin, Enqueues}
 use Rattle.enforcer.specs.declared.Enforcer.{Enforcer}
 use Rattle.enforcer.specs.declared.OfferReply.{OfferReply}
 use Rattle.enforcer.specs.declared.OfferAnswer.{OfferAnswer}

@@ -23,7 +23,7 @@ use Rattle.verifier.proofs.PastCount.{past-count, past-secrets, past-allowed, p
 use Rattle.enforcer.specs.Enforcers.{Limits, InLimits, Padded, Grown, GrownOn}
 use Rattle.enforcer.specs.Queues.{Queue}
 use Rattle.enforcer.specs.Offerings.{StartOutcome, OfferOutcome, refused, not-started, started, Unusable, OpensAsLeak, Starting, Offering}
-use Rattle.enforcer.specs.Inner.{waitOf, LargestWait}
+use Rattle.enforcer.specs.Waits.{waitOf, LargestWait}
 use Rattle.enforcer.specs.declared.Enforcer.{Enforcer}
 use Rattle.enforcer.specs.SafePrefix.{SafeForAll}
 use Rattle.enforcer.proofs.SafeLaws.{safe-wait}

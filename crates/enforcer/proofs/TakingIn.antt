@@ -20,7 +20,8 @@ use Rattle.opacity.specs.Verdicts.{Steps, none, Tells}
 use Rattle.verifier.specs.Estimators as estimators
 use Rattle.enforcer.specs.SafePrefix.{SafeForAll}
 use Rattle.enforcer.specs.Enforcers.{Limits, InLimits, pendingOf, Padded, Grown}
-use Rattle.enforcer.specs.Inner.{PendingWithin, LargestWait, Ready, Enqueued}
+use Rattle.enforcer.specs.Waits.{LargestWait}
+use Rattle.enforcer.specs.Inner.{PendingWithin, Ready, Enqueued}
 use Rattle.enforcer.specs.declared.Enforcer.{Enforcer}
 use Rattle.enforcer.proofs.ForAll.{safe-for-all-laws, wait-for-all}
 use Rattle.enforcer.proofs.Queueing.{queue-next}

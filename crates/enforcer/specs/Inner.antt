@@ -1,13 +1,14 @@
 -- What the functions inside the crate promise one another.
 use mathlib.Core.Path.{_≡_}
 use mathlib.Core.List.{List, [], _∷_, _++_}
-use mathlib.Core.Logic.{_⊎_, _↔_}
+use mathlib.Core.Logic.{_⊎_}
 use Prim.Native.Nat.{ℕ, _+_, _-_, _≤_, _<_}
 use lib.ListN.{length, getD, take, drop}
 use Rattle.verifier.specs.declared.Estimator.{Estimator}
 use Rattle.opacity.specs.declared.Secret.{Secret}
-use Rattle.opacity.specs.Secrets.{secretAt, ForEach}
-use Rattle.opacity.specs.Verdicts.{Steps, none, leak}
+use Rattle.opacity.specs.Secrets.{secretAt}
+use Rattle.opacity.specs.Verdicts.{Steps}
+use Rattle.enforcer.specs.Waits.{waitOf}
 use Rattle.enforcer.specs.Enforcers.{pendingOf, Padded}
 use Rattle.enforcer.specs.declared.Enforcer.{Enforcer}
 use Rattle.enforcer.specs.declared.OfferAnswer.{OfferAnswer}
@@ -18,19 +19,10 @@ pub record PendingWithin (K : ℕ) (s : Enforcer) : Type 0 where
   pub few : s .count ≤ K + 1
   pub small : (i : ℕ) → i < s .count → getD (s .pending) i 0 ≤ 31
 
--- how many later symbols make a trace with this verdict safe
-abbrev pub waitOf : ℕ → Steps → ℕ
-waitOf K none = 0
-waitOf K (leak l) = K + 1 - l
-
 -- the wait of the secret with a number, by its own K: 0 where it is not given
 pub record WaitAt (cs : List Secret) (i : ℕ) (v : Steps) (w : ℕ) : Type 0 where
   pub given : i < length cs → w ≡ waitOf (secretAt cs i .k) v
   pub other : length cs ≤ i → w ≡ 0
-
--- the largest of the waits of all secrets that are given: a trace with these verdicts is safe for all of them once it is over
-abbrev pub LargestWait : List Secret → List Steps → ℕ → Type 0
-LargestWait cs vs w = (m : ℕ) → ForEach cs (λ i c. waitOf (c .k) (getD vs i none) ≤ m) ↔ (w ≤ m)
 
 -- how many of the symbols go, by the waits that are left. (An enforcer that is full, and whose first symbol still waits, did not grow from a fresh one)
 pub record Ready (K count : ℕ) (soon : List ℕ) (f : ℕ) : Type 0 where

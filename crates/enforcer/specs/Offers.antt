@@ -3,7 +3,7 @@ use mathlib.Core.Path.{_≡_}
 use mathlib.Core.List.{List, [], _∷_, _++_}
 use Prim.Native.Nat.{ℕ, suc, _+_, _≤_, _<_}
 use lib.ListN.{length, take}
-use Rattle.lists.specs.Calls.{Chain, joined, total, Each}
+use Rattle.lists.specs.Calls.{Chain, joined, offered, Every, total, Each}
 use Rattle.automaton.specs.Run.{automatonOf, Possible, Impossible, Observable}
 use Rattle.automaton.specs.declared.Header.{Header}
 use Rattle.opacity.specs.declared.Notion.{Notion}
@@ -39,6 +39,14 @@ takenOf o = takenBy (o .says) (o .byte)
 -- the bytes whose offers were not refused
 abbrev pub acceptedOf : List Offer → List ℕ
 acceptedOf os = joined takenOf os
+
+-- all bytes that were offered
+abbrev pub offeredOf : List Offer → List ℕ
+offeredOf os = offered (λ o. o .byte) os
+
+-- with outputs of 17 bytes at least
+abbrev pub Roomy : List Offer → Type 0
+Roomy os = Every (λ o. 17 ≤ length (o .output)) os
 
 abbrev pub countBy : OfferOutcome → ℕ
 countBy (refused n) = 0

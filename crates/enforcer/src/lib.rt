@@ -22,7 +22,8 @@ ghost use Rattle.verifier.specs.Replies.{stepsEach};
 ghost use Rattle.enforcer.specs.Enforcers.{InLimits, Padded};
 ghost use Rattle.enforcer.specs.declared.OfferAnswer.the-variants as answer;
 ghost use Rattle.enforcer.specs.Offerings.{startOutcome, offerOutcome, Starting, Offering};
-ghost use Rattle.enforcer.specs.Inner.{PendingWithin, waitOf, WaitAt, LargestWait, Ready, Enqueues};
+ghost use Rattle.enforcer.specs.Waits.{waitOf, LargestWait};
+ghost use Rattle.enforcer.specs.Inner.{PendingWithin, WaitAt, Ready, Enqueues};
 
 // The estimator, the notion, and the pending symbols, the oldest first, each with the number of later ones that it waits for (01: Holder).
 pub struct Enforcer {
@@ -86,8 +87,8 @@ fn wait_at(header: Header, further: Further, verdict: Verdict, i: u8) -> u8
     wait(secret.k, verdict)
 }
 
-// How many later symbols make a trace with these verdicts safe for all secrets.
-fn longest_wait(header: Header, further: Further, verdicts: VerdictsBy) -> u8
+// How many later symbols make a trace with these verdicts safe for all secrets. (Inner: for the crates above, which prove what it requires.)
+pub fn largest_wait(header: Header, further: Further, verdicts: VerdictsBy) -> u8
     requires { ⌜ (header .k ≤ 15) × Allowed further ⌝ }
     ensures { λ r. ⌜ LargestWait (secretsOf header further) (stepsEach further verdicts) r ⌝ }
 {
@@ -226,8 +227,8 @@ impl Enforcer {
             },
             Answer::Accepted(judgement) => {
                 let verdicts = verifier::choose_each(notion, judgement.verdicts);
-                let longest = longest_wait(header, further, verdicts);
-                if longest != 0 { // the wait of a leak 0 is not over, and the empty trace has no other leak
+                let largest = largest_wait(header, further, verdicts);
+                if largest != 0 { // the wait of a leak 0 is not over, and the empty trace has no other leak
                     return Start {
                         enforcer: none,
                         answer: StartAnswer::Refused(Refusal::InitialLeak),
@@ -349,7 +350,7 @@ impl Enforcer {
             AnswerBy::Accepted(judgement) => {
                 let next = reply.estimator;
                 let verdicts = judgement.verdicts;
-                let w = longest_wait(header, further, verdicts);
+                let w = largest_wait(header, further, verdicts);
                 self.take_in(k, next, w, judgement.size, byte, output)
             }
         }

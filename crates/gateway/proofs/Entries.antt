@@ -1,7 +1,8 @@
 -- What each function of the interface answers and leaves, from what the crates below promise and the bytes that were read and written. Assumes nothing.
-use Prim.Native.Nat.{ℕ}
+use Prim.Native.Nat.{ℕ, _<_, _^_}
 use mathlib.Core.Path.{_≡_, refl, sym, subst, _∙_}
 use mathlib.Core.List.{List, [], _∷_, _++_}
+use native.Mathlib.Omega.{arith}
 use lib.ListN.{length}
 use Rattle.refusal.specs.Refusals.{numberOf}
 use Rattle.automaton.specs.declared.Header.{Header}
@@ -23,13 +24,17 @@ use Rattle.enforcer.specs.declared.Enforcer.{Enforcer}
 use Rattle.enforcer.specs.declared.Release.{Release}
 use Rattle.enforcer.specs.declared.StartAnswer as start
 use Rattle.enforcer.specs.declared.OfferAnswer as offer
+use Rattle.explore.specs.Explorations as exploring
+use Rattle.explore.specs.Explorations.{Exploring, explored-all}
+use Rattle.explore.specs.declared.Exploration.{Exploration}
+use Rattle.explore.specs.declared.ExploreAnswer as explore
 use Rattle.layout.specs.Sizes.{headerSize}
 use Rattle.layout.specs.Layout.{Stored, headerAt, headerBytes, furtherAt, estimatorAt, estimatorBytes, EstimatorSized, notionAt, enforcerAt, enforcerBytes}
 use Rattle.layout.specs.Layout.{EnforcerSized}
-use Rattle.layout.specs.Layout.{toldBytes, allFindings, judgementBytes, releaseBytes}
-use Rattle.gateway.specs.Interface.{Decode, FreshSizes, Fresh, Accept, Start, Offer, VerifierSizes, StartSizes, OfferSizes}
+use Rattle.layout.specs.Layout.{toldBytes, allFindings, judgementBytes, releaseBytes, explorationBytes}
+use Rattle.gateway.specs.Interface.{Decode, FreshSizes, Fresh, Accept, Start, Offer, Explore, VerifierSizes, StartSizes, OfferSizes, ExploreSizes}
 use Rattle.layout.proofs.Stores.{whole}
-use Rattle.layout.proofs.Inverse.{estimator-length, estimator-saved, enforcer-saved}
+use Rattle.layout.proofs.Inverse.{estimator-length, estimator-saved, enforcer-saved, exploration-saved}
 
 -- a refusal leaves the lent memory
 kept-table : (encoding table : List ℕ) {h : Header} {n : ℕ} {after : List ℕ} → Decoding encoding table h (decoding.refuse n) after → after ≡ table
@@ -160,3 +165,27 @@ module _ (t header : List ℕ) (symbol : ℕ) (saved output release out : List �
       subst (λ (x : List ℕ). Offer t header symbol saved output release 0 x out told) (sym (wrote .1))
       (subst (λ (x : List ℕ). Offer t header symbol saved output release 0 (enforcerBytes after) out x) (sym says)
       (Offer.released sizes (said-offering (offer.the-variants.Released r) is) (enforcer-saved after (wrote .0))))
+
+module _ (t header further : List ℕ) (budget : ℕ) (lent : List ℕ) (h : Header) (f : Further) (answer : explore.ExploreAnswer)
+    (sizes : ExploreSizes header further lent) (is-header : h ≡ headerAt header) (is-further : f ≡ furtherAt further 0)
+    (did : Exploring t h f (exploring.limitOf budget) (exploring.said answer)) where
+  said-exploring : (x : explore.ExploreAnswer) → answer ≡ x → Exploring t (headerAt header) (furtherAt further 0) (exploring.limitOf budget) (exploring.said x)
+  said-exploring x is =
+      subst (λ (y : explore.ExploreAnswer). Exploring t (headerAt header) (furtherAt further 0) (exploring.limitOf budget) (exploring.said y)) is
+      (subst (λ (y : Further). Exploring t (headerAt header) y (exploring.limitOf budget) (exploring.said answer)) is-further
+      (subst (λ (y : Header). Exploring t y f (exploring.limitOf budget) (exploring.said answer)) is-header did))
+
+  pub explore-refused : (r : Refusal) (n : ℕ) → answer ≡ explore.the-variants.Refused r → n ≡ numberOf r → Explore t header further budget lent n lent
+  explore-refused r n is number = rw number (Explore.refused sizes (said-exploring (explore.the-variants.Refused r) is))
+
+  -- at most 256, which fits its two bytes
+  fits : (e : Exploration) → Exploring t (headerAt header) (furtherAt further 0) (exploring.limitOf budget)
+      (exploring.explored (e .number) (e .weak) (e .strong))
+      → e .number < 2 ^ 16
+  fits e (explored-all x) = omega (arith, x .few)
+
+  pub explore-explored : (e : Exploration) (left : List ℕ) → answer ≡ explore.the-variants.Explored e → left ≡ explorationBytes e
+      → Explore t header further budget lent 0 left
+  explore-explored e left is wrote =
+      let x = said-exploring (explore.the-variants.Explored e) is in
+      subst (λ (y : List ℕ). Explore t header further budget lent 0 y) (sym wrote) (Explore.explored sizes x (exploration-saved e (fits e x)))

@@ -5,9 +5,10 @@ use mathlib.Core.Logic.{_↔_}
 use Prim.Native.Nat.{ℕ}
 use Rattle.verifier.proofs.Corresponding.{same-opening, same-accepting}
 use Rattle.enforcer.proofs.Corresponding.{same-starting, same-offering}
+use Rattle.waiting.proofs.Agreed.{same-exploring}
 use Rattle.layout.specs.Layout.{headerAt}
 use Rattle.layout.proofs.HeaderBytes.{SameHeaders, same-k, same-secret, same-symbols, headers-back}
-use Rattle.gateway.specs.Interface.{VerifierSizes, FreshSizes, Fresh, Accept, StartSizes, Start, OfferSizes, Offer}
+use Rattle.gateway.specs.Interface.{VerifierSizes, FreshSizes, Fresh, Accept, StartSizes, Start, OfferSizes, Offer, ExploreSizes, Explore}
 
 module _ (a b : List ℕ) (x : SameHeaders a b) where
   verifier-sizes : (estimator judgement : List ℕ) → VerifierSizes a estimator judgement → VerifierSizes b estimator judgement
@@ -23,6 +24,9 @@ module _ (a b : List ℕ) (x : SameHeaders a b) where
   offer-sizes : (enforcer release : List ℕ) → OfferSizes a enforcer release → OfferSizes b enforcer release
   offer-sizes enforcer release s =
       record { header-size = x .other-size; enforcer-size = s .enforcer-size; notion-known = s .notion-known; release-size = s .release-size }
+
+  explore-sizes : (further lent : List ℕ) → ExploreSizes a further lent → ExploreSizes b further lent
+  explore-sizes further lent s = record { header-size = x .other-size; further-size = s .further-size; exploration-size = s .exploration-size }
 
 module _ (t a b : List ℕ) (x : SameHeaders a b) where
   fresh-to : (further estimator judgement : List ℕ) (n : ℕ) (after told : List ℕ) → Fresh t a further estimator judgement n after told
@@ -66,6 +70,16 @@ module _ (t a b : List ℕ) (x : SameHeaders a b) where
       Offer.released (offer-sizes a b x enforcer release s)
       (same-offering t (headerAt a) (headerAt b) (same-symbols a b x t) (same-secret a b x) (same-k a b x) _ symbol output _ _ _ .0 o) saved
 
+  explore-to : (further : List ℕ) (budget : ℕ) (lent : List ℕ) (n : ℕ) (out : List ℕ) → Explore t a further budget lent n out
+      → Explore t b further budget lent n out
+  explore-to further budget lent n out (Explore.size bad) = Explore.size (λ s. bad (explore-sizes b a (headers-back a b x) further lent s))
+  explore-to further budget lent n out (Explore.refused s o) =
+      Explore.refused (explore-sizes a b x further lent s)
+      (same-exploring t (headerAt a) (headerAt b) (same-symbols a b x t) (same-secret a b x) (same-k a b x) _ _ _ .0 o)
+  explore-to further budget lent n out (Explore.explored s o saved) =
+      Explore.explored (explore-sizes a b x further lent s)
+      (same-exploring t (headerAt a) (headerAt b) (same-symbols a b x t) (same-secret a b x) (same-k a b x) _ _ _ .0 o) saved
+
 module _ (t a b : List ℕ) (x : SameHeaders a b) where
   pub same-fresh : (further estimator judgement : List ℕ) (n : ℕ) (after told : List ℕ)
       → Fresh t a further estimator judgement n after told ↔ Fresh t b further estimator judgement n after told
@@ -88,3 +102,8 @@ module _ (t a b : List ℕ) (x : SameHeaders a b) where
     offer-to t a b x symbol enforcer output release n after out count,
     offer-to t b a (headers-back a b x) symbol enforcer output release n after out count,
   )
+
+  pub same-explore : (further : List ℕ) (budget : ℕ) (lent : List ℕ) (n : ℕ) (out : List ℕ)
+      → Explore t a further budget lent n out ↔ Explore t b further budget lent n out
+  same-explore further budget lent n out =
+      (explore-to t a b x further budget lent n out, explore-to t b a (headers-back a b x) further budget lent n out)

@@ -5,3 +5,4 @@ pub mod Numbered
 pub mod SavedSteps
 pub mod SavedPoints
 pub mod HeaderCalls
+pub mod SavedWaits

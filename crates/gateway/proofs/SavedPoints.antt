@@ -4,21 +4,19 @@ use mathlib.Core.Path.{_≡_, refl, ap, sym, subst, _∙_}
 use mathlib.Core.List.{List, []}
 use native.Mathlib.Omega.{arith}
 use lib.ListN.{length, getD}
-use Rattle.automaton.specs.Run.{Automaton, automatonOf, WellFormed}
+use Rattle.automaton.specs.Run.{automatonOf, WellFormed}
 use Rattle.automaton.specs.declared.Header.{Header}
 use Rattle.decoding.specs.Decoding.{Decoding, accept}
 use Rattle.decoding.proofs.Listing.{decoded-well-formed}
-use Rattle.opacity.specs.declared.Notion.{Notion}
-use Rattle.opacity.specs.declared.Secret.{Secret}
 use Rattle.opacity.specs.declared.Further.{Further}
 use Rattle.verifier.specs.declared.Estimator.{Estimator}
 use Rattle.opacity.specs.Secrets.{secretsOf, secretAt, clearedOf, Allowed}
-use Rattle.opacity.specs.Verdicts.{Steps, none, leak, Tells, Bounded}
 use Rattle.verifier.specs.Estimators as estimator
 use Rattle.verifier.specs.Replies as replies
 use Rattle.verifier.specs.Replies.{Findings, toldAt, Opening, Accepting}
 use Rattle.verifier.specs.Calls as verifier
 use Rattle.opacity.proofs.Numbering.{look-back-small, secret-back, how-many, allowed-not-large}
+use Rattle.opacity.proofs.Exactness.{tells-bounded}
 use Rattle.verifier.proofs.Judging.{bounded-up}
 use Rattle.verifier.proofs.SecondPoint.{second-point}
 use Rattle.verifier.proofs.PastCount.{past-opening}
@@ -44,11 +42,11 @@ saved-header encoding table before t header (Decode.accepted size {h = h} x) =
     subst (λ (y : Header). Decoding encoding table y accept t) (sym (decoded-header-back encoding table h t x)) x
 
 -- the header has its length, and with the table it is an automaton
-saved-length : (encoding table before t header : List ℕ) → Decode encoding table before 0 t header → length header ≡ headerSize
+pub saved-length : (encoding table before t header : List ℕ) → Decode encoding table before 0 t header → length header ≡ headerSize
 saved-length encoding table before t header (Decode.refused size x) = absurd (not-zero encoding table x refl)
 saved-length encoding table before t header (Decode.accepted size {h = h} x) = header-length h (header-sized encoding table h t x .symbols)
 
-saved-well-formed : (encoding table before t header : List ℕ) → Decode encoding table before 0 t header → WellFormed t (headerAt header)
+pub saved-well-formed : (encoding table before t header : List ℕ) → Decode encoding table before 0 t header → WellFormed t (headerAt header)
 saved-well-formed encoding table before t header x = decoded-well-formed encoding table (headerAt header) t (saved-header encoding table before t header x)
 
 -- so with slices of their lengths a fresh estimator is refused by 13 and 14 only
@@ -87,10 +85,6 @@ saved-start encoding table before t header notion further enforcer answer s x kn
 saved-start encoding table before t header notion further enforcer answer s x known f e
     (Start.started _ (Starting.ready so allowed tells same grown) saved) = ByStart.started allowed (never-opens (notionAt notion) _ _ tells)
 
-bounded : (notion : Notion) (p : Automaton) (secret : Secret) (trace : List ℕ) (v : Steps) → Tells notion p secret trace v → Bounded (secret .k) v
-bounded notion p secret trace none x = tt
-bounded notion p secret trace (leak l) x = x .within
-
 -- a promise about the verdicts that were written is one about those that are read
 told-promise : (t : List ℕ) (h : Header) (f : Further) (j : Findings) (told : List ℕ) (cs : List verifier.Call) (e : Estimator)
     → acceptSaid (f .count) 0 told ≡ replies.verdicts j → verifier.VerifierPromise t h f j cs e
@@ -116,7 +110,7 @@ saved-second-point t header further before lent s told cs e
     let given : i < length (secretsOf h f) = omega (arith, many) in
     let c = secretAt (secretsOf h f) i in
     bounded-up (c .k) 15 (toldAt notion (j .each) i) (omega (arith, secret-back h f i given, small))
-    (bounded notion (automatonOf t h) c [] (toldAt notion (j .each) i) (exact .tells notion i given))) in
+    (tells-bounded notion (automatonOf t h) c [] (toldAt notion (j .each) i) (exact .tells notion i given))) in
     let listed = accept-calls t header (sizes .verifier .header-size) (clearedOf f) s cs e (saved .size)
     (ap (λ (y : Estimator). y .further) (saved .back) ∙ same) calls in
     told-promise t h f j told (callsOf (f .count) cs) (estimatorAt e) reads

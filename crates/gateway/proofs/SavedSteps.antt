@@ -190,3 +190,12 @@ module _ (t header : List ℕ) (header-size : length header ≡ headerSize) wher
   offer-calls s cs e k done = done
   offer-calls s cs e k (next {m = m} {c = c} {cs = rest} a f) =
       first-offer s c m rest e k a (λ k′. offer-calls m rest e k′ f) (eqb (length (c .lent)) releaseSize) refl
+
+  -- the bytes after calls are such bytes
+  pub keeps-after : (s : List ℕ) (cs : List OfferCall) (e : List ℕ) → KeepsEnforcer s → OfferCalls t header s cs e → KeepsEnforcer e
+  keeps-after s cs e k done = k
+  keeps-after s cs e k (next {m = m} {c = c} {cs = rest} a f) = keeps-after m rest e (one (eqb (length (c .lent)) releaseSize) refl) f
+    where
+      one : (b : Bool) → eqb (length (c .lent)) releaseSize ≡ b → KeepsEnforcer m
+      one true is = one-offer s (c .symbol) (c .output) (c .lent) (c .answer) m (c .left) (c .release) k (eqb-true _ _ is) a .keeps
+      one false is = subst KeepsEnforcer (sym (unsized-offer s (c .symbol) (c .output) (c .lent) (c .answer) m (c .left) (c .release) (eqb-false _ _ is) a)) k

@@ -4,20 +4,25 @@ use Prim.Native.Nat.{ℕ, _≤_, _<_}
 use mathlib.Core.Path.{_≡_}
 use mathlib.Core.List.{List}
 use lib.ListN.{length, getD}
+use Rattle.automaton.specs.Run.{automatonOf}
 use Rattle.automaton.specs.declared.Header.{Header}
 use Rattle.decoding.specs.Decoding.{Decoding, accept, refuse}
 use Rattle.opacity.specs.declared.Further.{Further}
 use Rattle.verifier.specs.declared.Estimator.{Estimator}
-use Rattle.opacity.specs.Secrets.{Allowed, TooLarge}
+use Rattle.opacity.specs.Secrets.{lookBackOf, Allowed, TooLarge}
 use Rattle.verifier.specs.Replies as verifier
 use Rattle.verifier.specs.Replies.{Findings, Opening, Accepting}
 use Rattle.enforcer.specs.Offerings as offering
 use Rattle.enforcer.specs.Offerings.{Starting, Offering}
 use Rattle.enforcer.specs.declared.Enforcer.{Enforcer}
 use Rattle.enforcer.specs.declared.Release.{Release}
+use Rattle.explore.specs.Configurations.{Number, MoreThan}
+use Rattle.explore.specs.Explorations as exploring
+use Rattle.explore.specs.Explorations.{Exploring}
+use Rattle.explore.specs.declared.Exploration.{Exploration}
 use Rattle.layout.specs.Sizes as sizes
 use Rattle.layout.specs.Layout.{headerAt, headerBytes, furtherAt, estimatorAt, estimatorBytes, EstimatorSaved}
-use Rattle.layout.specs.Layout.{notionAt, enforcerAt, enforcerBytes, EnforcerSaved, judgementBytes, releaseBytes}
+use Rattle.layout.specs.Layout.{notionAt, enforcerAt, enforcerBytes, EnforcerSaved, judgementBytes, releaseBytes, explorationBytes, ExplorationSaved}
 
 -- decode: the answer, the table after and the header's bytes after
 pub data Decode (encoding table header : List ℕ) : ℕ → List ℕ → List ℕ → Type 0 where
@@ -89,6 +94,23 @@ pub data Offer (t header : List ℕ) (symbol : ℕ) (enforcer output release : L
       → Offering t (headerAt header) (enforcerAt enforcer) symbol output (offering.released r) s left → EnforcerSaved s
       → Offer t header symbol enforcer output release 0 (enforcerBytes s) left (releaseBytes r)
 
+-- the slices of an exploration have the lengths of their layouts
+pub record ExploreSizes (header further exploration : List ℕ) : Type 0 where
+  pub header-size : length header ≡ sizes.headerSize
+  pub further-size : length further ≡ sizes.furtherSize
+  pub exploration-size : length exploration ≡ sizes.explorationSize
+
+-- explore: the answer and the exploration's bytes after
+pub data Explore (t header further : List ℕ) (budget : ℕ) (exploration : List ℕ) : ℕ → List ℕ → Type 0 where
+  size : (ExploreSizes header further exploration → ⊥) → Explore t header further budget exploration 9 exploration
+  refused : ExploreSizes header further exploration → {n : ℕ}
+      → Exploring t (headerAt header) (furtherAt further 0) (exploring.limitOf budget) (exploring.refused n)
+      → Explore t header further budget exploration n exploration
+  explored : ExploreSizes header further exploration → {e : Exploration}
+      → Exploring t (headerAt header) (furtherAt further 0) (exploring.limitOf budget)
+      (exploring.explored (e .number) (e .weak) (e .strong)) → ExplorationSaved e
+      → Explore t header further budget exploration 0 (explorationBytes e)
+
 -- what a fresh call answers on a header that was decoded, with slices of their lengths: 0 where the further secrets may be given, and else 13 or 14, each
 -- on its condition
 pub data ByFurther (f : Further) : ℕ → Type 0 where
@@ -102,3 +124,10 @@ pub data ByStart (f : Further) (Leaks : Type 0) : ℕ → Type 0 where
   initial-leak : Allowed f → Leaks → ByStart f Leaks 8
   too-many : 3 < f .count → ByStart f Leaks 13
   too-large : f .count ≤ 3 → TooLarge f → ByStart f Leaks 14
+
+-- and an exploration: 15 in place of 0 exactly where there are more different configurations than the budget allows
+pub data ByExplore (t : List ℕ) (h : Header) (f : Further) (budget : ℕ) : ℕ → Type 0 where
+  explored : {n : ℕ} → Allowed f → n ≤ exploring.limitOf budget → Number (automatonOf t h) (lookBackOf h f) n → ByExplore t h f budget 0
+  spent : Allowed f → MoreThan (automatonOf t h) (lookBackOf h f) (exploring.limitOf budget) → ByExplore t h f budget 15
+  too-many : 3 < f .count → ByExplore t h f budget 13
+  too-large : f .count ≤ 3 → TooLarge f → ByExplore t h f budget 14

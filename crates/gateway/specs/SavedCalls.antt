@@ -1,8 +1,9 @@
 -- A gateway that keeps a table, a header and a state as bytes, and passes each call the state's bytes as the call before left them. The promises of the
--- verifier and the enforcer, of lists of calls on their own states, are kept for it: proofs/SavedPoints.
-use Prim.Native.Nat.{ℕ, zero, suc}
+-- verifier and the enforcer, of lists of calls on their own states, are kept for it: proofs/SavedPoints; what an exploration says of it: proofs/SavedWaits.
+use Prim.Native.Nat.{ℕ, zero, suc, _+_, _≤_, _<_}
 use mathlib.Core.Bool.{Bool, true, false}
-use mathlib.Core.List.{List, [], _∷_}
+use mathlib.Core.Path.{_≡_}
+use mathlib.Core.List.{List, [], _∷_, _++_}
 use lib.Dec.{eqb}
 use lib.ListN.{length}
 use Rattle.lists.specs.Calls.{Chain, joined}
@@ -74,3 +75,22 @@ offerOf c =
 
 abbrev pub offersOf : List OfferCall → List enforcer.Offer
 offersOf cs = joined offerOf cs
+
+-- the longest wait of an enforcer that a start has left in bytes (waiting/specs/LongestWaits), over calls on these bytes. Symbols that it accepts, of which the
+-- last one is still pending after every way to go on by fewer than w accepted ones:
+pub record SavedPending (t header s : List ℕ) (w : ℕ) : Type 0 where
+  pub trace : List ℕ
+  -- there are calls of which these are accepted,
+  pub calls : List OfferCall
+  pub end : List ℕ
+  pub called : OfferCalls t header s calls end
+  pub accepted : enforcer.acceptedOf (offersOf calls) ≡ trace
+  -- and after all such calls, whatever others follow, so long as fewer than w are accepted, the last one is not released
+  pub pending : (cs later : List OfferCall) (m e : List ℕ) → OfferCalls t header s cs m → enforcer.acceptedOf (offersOf cs) ≡ trace
+      → OfferCalls t header m later e
+      → length (enforcer.acceptedOf (offersOf later)) < w → enforcer.releasedCount (offersOf (cs ++ later)) < length trace
+
+pub record SavedLongestWait (t header s : List ℕ) (w : ℕ) : Type 0 where
+  pub in-time : (cs : List OfferCall) (e : List ℕ) → OfferCalls t header s cs e → (i : ℕ) → suc i + w ≤ length (enforcer.acceptedOf (offersOf cs))
+      → i < enforcer.releasedCount (offersOf cs)
+  pub reached : 0 < w → SavedPending t header s w

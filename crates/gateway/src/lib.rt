@@ -4,10 +4,11 @@ use decoding::Answer as Decoded;
 use enforcer::Enforcer;
 use enforcer::OfferAnswer;
 use enforcer::StartAnswer;
+use explore::ExploreAnswer;
 use layout::sizes;
 use verifier::Answer;
 use verifier::Estimator;
-ghost use Rattle.gateway.specs.Interface.{Decode, Fresh, Accept, Start, Offer};
+ghost use Rattle.gateway.specs.Interface.{Decode, Fresh, Accept, Start, Offer, Explore};
 
 // The refusal of a slice that has not the length of its layout, and of a notion that is none.
 const MALFORMED: u8 = 9;
@@ -183,6 +184,43 @@ pub extern "C" fn opacity_offer(
             let after = given.enforcer;
             layout::write_enforcer(enforcer, after);
             layout::write_release(release, told);
+            0
+        }
+    }
+}
+
+// Explores an automaton with further secrets before it is delivered: in the bytes of an exploration the number of its different configurations, and for each
+// notion the largest wait; or 15, where there are more than the budget allows: as many as it says, and 256 at most.
+#[no_mangle]
+pub extern "C" fn opacity_explore(
+    table: &[u64],
+    header: &[u8],
+    further: &[u8],
+    budget: u32,
+    exploration: &mut [u8],
+) -> u8
+    ensures { λ r. ⌜ Explore (now (table .entry)) (now (header .entry)) (now (further .entry)) budget (now (exploration .entry))
+        r (now (exploration .exit)) ⌝ }
+{
+    if header.len() != sizes::HEADER_SIZE {
+        return MALFORMED;
+    }
+    if further.len() != sizes::FURTHER_SIZE {
+        return MALFORMED;
+    }
+    if exploration.len() != sizes::EXPLORATION_SIZE {
+        return MALFORMED;
+    }
+    let answer = explore::explore(
+        table,
+        layout::read_header(header),
+        layout::read_further(further, 0),
+        budget,
+    );
+    match answer {
+        ExploreAnswer::Refused(refusal) => refusal::number(refusal),
+        ExploreAnswer::Explored(found) => {
+            layout::write_exploration(exploration, found);
             0
         }
     }

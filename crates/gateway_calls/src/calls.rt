@@ -1,5 +1,6 @@
 // The functions: what each is lent, and its call. One is added by its word, what it is lent in `slots_of`, and its call in `apply`.
 use super::store;
+ghost use Prim.Native.Nat.{_≤_};
 ghost use mathlib.Core.Path.{_≡_};
 ghost use lib.ListN.{length};
 
@@ -10,20 +11,22 @@ pub const DECODE: u64 = 0x6465636f6465;
 
 const FRESH: u64 = 0x6672657368;
 
-const ACCEPT: u64 = 0x616363657074;
+pub const ACCEPT: u64 = 0x616363657074;
 
 const START: u64 = 0x7374617274;
 
 pub const OFFER: u64 = 0x6f66666572;
 
-// What a function is lent: slots to read, those to write to, and whether it takes a byte.
+const EXPLORE: u64 = 0x6578706c6f7265;
+
+// What a function is lent: slots to read, those to write to, and whether it takes a number.
 pub struct Slots {
     pub input: usize,
     pub also: usize,
     pub first: usize,
     pub second: usize,
     pub third: usize,
-    pub byte: bool,
+    pub number: bool,
 }
 
 // What each function is lent, beside the table.
@@ -34,18 +37,18 @@ pub fn slots_of(call: u64) -> Slots {
         first: store::NONE,
         second: store::NONE,
         third: store::NONE,
-        byte: true,
+        number: true,
     };
     if call == DECODE {
         slots.input = store::ENCODING;
         slots.first = store::HEADER;
-        slots.byte = false;
+        slots.number = false;
     }
     if call == FRESH {
         slots.also = store::FURTHER;
         slots.first = store::ESTIMATOR;
         slots.second = store::JUDGEMENT;
-        slots.byte = false;
+        slots.number = false;
     }
     if call == ACCEPT {
         slots.first = store::ESTIMATOR;
@@ -60,13 +63,32 @@ pub fn slots_of(call: u64) -> Slots {
         slots.second = store::OUTPUT;
         slots.third = store::RELEASE;
     }
+    if call == EXPLORE {
+        slots.also = store::FURTHER;
+        slots.first = store::EXPLORATION;
+    }
     slots
+}
+
+// The largest number that a function takes: a budget, or else a byte.
+pub fn largest_of(call: u64) -> u64
+    ensures { λ r. ⌜ r ≤ 4294967295 ⌝ }
+{
+    if call == EXPLORE {
+        return 4294967295;
+    }
+    255
+}
+
+// The byte that a number is, where the function takes a byte.
+pub fn byte_of(number: u32) -> u8 {
+    (number % 256) as u8
 }
 
 // The functions, by how many slices they write to.
 fn apply1(
     call: u64,
-    byte: u8,
+    number: u32,
     table: &mut [u64],
     input: &[u8],
     also: &[u8],
@@ -75,12 +97,15 @@ fn apply1(
     if call == DECODE {
         return gateway::opacity_decode(input, table, first);
     }
-    gateway::opacity_start(table, input, byte, also, first)
+    if call == EXPLORE {
+        return gateway::opacity_explore(table, input, also, number, first);
+    }
+    gateway::opacity_start(table, input, byte_of(number), also, first)
 }
 
 fn apply2(
     call: u64,
-    byte: u8,
+    number: u32,
     table: &[u64],
     input: &[u8],
     also: &[u8],
@@ -90,13 +115,13 @@ fn apply2(
     if call == FRESH {
         return gateway::opacity_fresh(table, input, also, first, second);
     }
-    gateway::opacity_accept(table, input, byte, first, second)
+    gateway::opacity_accept(table, input, byte_of(number), first, second)
 }
 
 fn apply(
     slots: Slots,
     call: u64,
-    byte: u8,
+    number: u32,
     table: &mut [u64],
     input: &[u8],
     also: &[u8],
@@ -105,19 +130,19 @@ fn apply(
     third: &mut [u8],
 ) -> u8 {
     if slots.second == store::NONE {
-        return apply1(call, byte, table, input, also, first);
+        return apply1(call, number, table, input, also, first);
     }
     if slots.third == store::NONE {
-        return apply2(call, byte, table, input, also, first, second);
+        return apply2(call, number, table, input, also, first, second);
     }
-    gateway::opacity_offer(table, input, byte, first, second, third)
+    gateway::opacity_offer(table, input, byte_of(number), first, second, third)
 }
 
 // Lends the first elements of copies, by the sizes of their slots.
 fn lend(
     call: u64,
-    byte: u8,
-    sizes: &[usize; 10],
+    number: u32,
+    sizes: &[usize; 11],
     table: &mut [u64],
     input: &[u8],
     also: &[u8],
@@ -138,7 +163,7 @@ fn lend(
     apply(
         slots,
         call,
-        byte,
+        number,
         &mut table[0..words],
         &input[0..n],
         &also[0..m],
@@ -149,7 +174,7 @@ fn lend(
 }
 
 // A call: its answer, after which the memory is as the function left it.
-pub fn answer_of(call: u64, byte: u8, memory: &mut [u64; 40960], sizes: &[usize; 10]) -> u8 {
+pub fn answer_of(call: u64, number: u32, memory: &mut [u64; 45056], sizes: &[usize; 11]) -> u8 {
     let slots = slots_of(call);
     let mut table = store::table_of(memory);
     let input = store::copy_of(memory, slots.input);
@@ -159,7 +184,7 @@ pub fn answer_of(call: u64, byte: u8, memory: &mut [u64; 40960], sizes: &[usize;
     let mut third = store::copy_of(memory, slots.third);
     let answer = lend(
         call,
-        byte,
+        number,
         sizes,
         &mut table,
         &input,

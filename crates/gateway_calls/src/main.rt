@@ -14,7 +14,7 @@ mod store;
 
 // Sets an element so many times: the place behind them, or one behind the slot if they do not fit, or it is no byte.
 fn set_element(
-    memory: &mut [u64; 40960],
+    memory: &mut [u64; 45056],
     slot: usize,
     place: usize,
     word: u64,
@@ -37,7 +37,7 @@ fn set_element(
 }
 
 // Sets elements from a place of the line on.
-fn fill(memory: &mut [u64; 40960], slot: usize, line: &[u8], from: usize) -> bool {
+fn fill(memory: &mut [u64; 45056], slot: usize, line: &[u8], from: usize) -> bool {
     let mut at = from;
     let mut place: usize = 0;
     while at < line.len() {
@@ -57,8 +57,8 @@ fn fill(memory: &mut [u64; 40960], slot: usize, line: &[u8], from: usize) -> boo
 
 // A slot's size and elements: those that are not named are 0.
 fn set(
-    memory: &mut [u64; 40960],
-    sizes: &mut [usize; 10],
+    memory: &mut [u64; 45056],
+    sizes: &mut [usize; 11],
     slot: usize,
     line: &[u8],
     at: usize,
@@ -87,7 +87,7 @@ fn show_answer(line: &[u8], answer: u8) {
     io::write_all(1, b"\n");
 }
 
-fn show_call(line: &[u8], call: u64, answer: u8, memory: &[u64; 40960], sizes: &[usize; 10]) {
+fn show_call(line: &[u8], call: u64, answer: u8, memory: &[u64; 45056], sizes: &[usize; 11]) {
     let slots = calls::slots_of(call);
     show_answer(line, answer);
     if call == calls::DECODE {
@@ -102,48 +102,54 @@ fn make_call(
     line: &[u8],
     open: bool,
     call: u64,
-    byte: u8,
-    memory: &mut [u64; 40960],
-    sizes: &[usize; 10],
+    number: u32,
+    memory: &mut [u64; 45056],
+    sizes: &[usize; 11],
 ) {
     if open {
-        show_answer(line, open::open_answer_of(call, byte, memory, sizes));
+        show_answer(
+            line,
+            open::open_answer_of(call, calls::byte_of(number), memory, sizes),
+        );
         return;
     }
-    let answer = calls::answer_of(call, byte, memory, sizes);
+    let answer = calls::answer_of(call, number, memory, sizes);
     show_call(line, call, answer, memory, sizes);
 }
 
-// Whether the line has, from a place on, a call and the byte that it takes, if it takes one.
+// Whether the line has, from a place on, a call and the number that it takes, if it takes one.
 fn called(
     line: &[u8],
     at: usize,
     open: bool,
-    memory: &mut [u64; 40960],
-    sizes: &[usize; 10],
+    memory: &mut [u64; 45056],
+    sizes: &[usize; 11],
 ) -> bool {
     let word = parse::word_at(line, at);
     let call = word.value;
-    let byte = parse::number_after(line, word.next, b' ', 10);
+    let number = parse::number_after(line, word.next, b' ', 10);
     let slots = calls::slots_of(call);
     if slots.first == store::NONE {
         return false;
     }
-    if slots.byte != (word.next < byte.next) {
+    if slots.number != (word.next < number.next) {
         return false;
     }
-    if byte.next < line.len() {
+    if number.next < line.len() {
         return false;
     }
-    if 255 < byte.value {
+    if calls::largest_of(call) < number.value {
         return false;
     }
-    make_call(line, open, call, byte.value as u8, memory, sizes);
+    if open & !open::may_be_open(call) {
+        return false;
+    }
+    make_call(line, open, call, number.value as u32, memory, sizes);
     true
 }
 
 // Whether the line is understood.
-fn obeyed(line: &[u8], memory: &mut [u64; 40960], sizes: &mut [usize; 10]) -> bool {
+fn obeyed(line: &[u8], memory: &mut [u64; 45056], sizes: &mut [usize; 11]) -> bool {
     let word = parse::word_at(line, 0);
     let slot = parse::slot_of(word.value);
     let end = word.next;
@@ -166,7 +172,7 @@ fn comment(line: &[u8]) -> bool {
     line[0] == b'#'
 }
 
-fn run(line: &[u8], memory: &mut [u64; 40960], sizes: &mut [usize; 10]) {
+fn run(line: &[u8], memory: &mut [u64; 45056], sizes: &mut [usize; 11]) {
     if comment(line) {
         io::write_all(1, line);
         io::write_all(1, b"\n");
@@ -177,7 +183,7 @@ fn run(line: &[u8], memory: &mut [u64; 40960], sizes: &mut [usize; 10]) {
     }
 }
 
-fn all(input: &[u8], memory: &mut [u64; 40960], sizes: &mut [usize; 10]) {
+fn all(input: &[u8], memory: &mut [u64; 45056], sizes: &mut [usize; 11]) {
     let mut at: usize = 0;
     while at < input.len() {
         let end = parse::line_end(input, at);
@@ -195,8 +201,8 @@ fn room() -> [u8; 1048576]
 
 fn main() {
     let mut input = room();
-    let mut memory = [0u64; 40960];
-    let mut sizes = [0usize; 10];
+    let mut memory = [0u64; 45056];
+    let mut sizes = [0usize; 11];
     let n = io::read_full(0, &mut input);
     all(&input[0..n], &mut memory, &mut sizes);
 }

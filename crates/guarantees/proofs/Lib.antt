@@ -1,4 +1,5 @@
--- Answers: the first point, from the contracts. Frames: that of the functions on bytes. Shown: every guarantee, by its proof.
+-- Answers, Explorations: the first point, from the contracts. Frames: that of the functions on bytes. Shown: every guarantee, by its proof.
 pub mod Answers
+pub mod Explorations
 pub mod Frames
 pub mod Shown

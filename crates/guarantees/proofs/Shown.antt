@@ -4,6 +4,7 @@ use Rattle.guarantees.specs.SecondPoint as second
 use Rattle.guarantees.specs.ThirdPoint as third
 use Rattle.guarantees.specs.Published as published
 use Rattle.guarantees.specs.Symbols as symbols
+use Rattle.guarantees.specs.Exploration as exploration
 use Rattle.guarantees.specs.WholeLog as log
 use Rattle.guarantees.specs.SavedBytes as saved
 use Rattle.verifier.proofs.Growing as growing
@@ -19,11 +20,18 @@ use Rattle.published.proofs.Propositions as propositions
 use Rattle.published.proofs.WordLaws as word-laws
 use Rattle.published.proofs.SoundVerdicts as sound-verdicts
 use Rattle.published.proofs.SafeOutputs as safe-outputs
+use Rattle.explore.proofs.Configured as configured
+use Rattle.explore.proofs.Counting as counting
+use Rattle.waiting.proofs.Alike as same-verdicts
+use Rattle.waiting.proofs.Calling as calling
+use Rattle.waiting.proofs.Waiting as waiting
 use Rattle.monitor.proofs.LogOutput as log-output
 use Rattle.monitor.proofs.OneOutput as one-log-output
 use Rattle.monitor.proofs.Idle as idle
 use Rattle.gateway.proofs.SavedPoints as saved-points
+use Rattle.gateway.proofs.SavedWaits as saved-explorations
 use Rattle.guarantees.proofs.Answers.{decode-answers, fresh-answers, accept-answers, accept-by-answers, start-answers, offer-answers, advance-answers}
+use Rattle.guarantees.proofs.Explorations as explorations
 use Rattle.guarantees.proofs.Frames as frames
 
 -- the first point
@@ -44,6 +52,9 @@ every-start = start-answers
 
 pub every-offer : first.EveryOffer
 every-offer = offer-answers
+
+pub every-explore : first.EveryExplore
+every-explore t h f budget = explorations.explore-answers t h f _
 
 -- the second point
 pub second-point : second.SecondPoint
@@ -112,6 +123,31 @@ calls-spelled t h h′ x f = calls.distinct-calls t h h′ (x .distinct) (x .wit
 pub offers-spelled : symbols.OffersSpelled
 offers-spelled notion t h h′ x f = offers.distinct-offers notion t h h′ f (x .distinct) (x .without) (x .same) (x .secret) (x .k) (x .small)
 
+-- the exploration before delivery
+pub one-exploration : exploration.OneExploration
+one-exploration = explorations.one-exploration
+
+pub spent-exactly : exploration.SpentExactly
+spent-exactly = counting.more-than-number
+
+pub configurations-are : exploration.ConfigurationsAre
+configurations-are = configured.configurations-are
+
+pub verdicts-by-configuration : exploration.VerdictsByConfiguration
+verdicts-by-configuration = same-verdicts.same-verdict
+
+pub accepted-lists : exploration.AcceptedLists
+accepted-lists = calling.accepted-lists
+
+pub offered-is-accepted : exploration.OfferedIsAccepted
+offered-is-accepted = calling.calls-taken
+
+pub reached-by-calls : exploration.ReachedByCalls
+reached-by-calls = calling.reached-by-calls
+
+pub exploration-waits : exploration.ExplorationWaits
+exploration-waits = waiting.exploration-waits
+
 -- a whole log
 pub prints-exactly : log.PrintsExactly
 prints-exactly = log-output.prints-exactly
@@ -140,6 +176,21 @@ start-saved = frames.start-saved
 
 pub offer-saved : saved.OfferSaved
 offer-saved = frames.offer-saved
+
+pub explore-saved : saved.ExploreSaved
+explore-saved = frames.explore-saved
+
+pub explore-by-budget : saved.ExploreByBudget
+explore-by-budget = saved-explorations.saved-explore
+
+pub explored-bytes : saved.ExploredBytes
+explored-bytes = saved-explorations.explored-back
+
+pub saved-waits : saved.SavedWaits
+saved-waits = saved-explorations.saved-waits
+
+pub explore-past-count : saved.ExplorePastCount
+explore-past-count = saved-explorations.explore-past-count
 
 pub fresh-by-secrets : saved.FreshBySecrets
 fresh-by-secrets = saved-points.saved-fresh

@@ -20,7 +20,7 @@ use Rattle.automaton.specs.Reaching.{SizeWithin}
 use Rattle.automaton.specs.declared.Header.{Header}
 use Rattle.opacity.specs.declared.Notion.{Notion}
 use Rattle.opacity.specs.declared.Further.{Further}
-use Rattle.opacity.specs.Secrets.{secretsOf, ForEach, Allowed, TooLarge}
+use Rattle.opacity.specs.Secrets.{secretsOf, ForEach, lookBackOf, Allowed, TooLarge}
 use Rattle.verifier.specs.declared.Estimator.{Estimator}
 use Rattle.verifier.specs.Estimators as estimator
 use Rattle.verifier.specs.Replies as verifier
@@ -30,6 +30,9 @@ use Rattle.enforcer.specs.declared.Release.{Release}
 use Rattle.enforcer.specs.Enforcers as enforcer
 use Rattle.enforcer.specs.Offerings as offering
 use Rattle.enforcer.specs.Offerings.{OpensAsLeak, Starting, Offering}
+use Rattle.explore.specs.Configurations.{MoreThan}
+use Rattle.explore.specs.Explorations as exploring
+use Rattle.explore.specs.Explorations.{limitOf, ExploredAll, Exploring}
 
 -- `decoding::decode`, of an encoding (01: description): 9 exactly where the table has not 2,048 words; else what the layout says of the bytes: the refusal of
 -- its first field or check that fails, or the header and a table with exactly the transitions that are listed. A refusal leaves the table, and hands back no
@@ -144,3 +147,17 @@ pub record OfferAnswers (t : List ℕ) (h : Header) (self : Enforcer) (byte : �
 abbrev pub EveryOffer : Type 0
 EveryOffer = (t : List ℕ) (h : Header) (self : Enforcer) (byte : ℕ) (output : List ℕ) (says : offering.OfferOutcome) (after : Enforcer) (left : List ℕ)
     → Offering t h self byte output says after left → OfferAnswers t h self byte output says after left
+
+-- `explore::explore`, with further secrets and a budget (02, S-7): 9, 13, 14 as a fresh estimator; then 15 exactly where there are more different
+-- configurations than the budget allows, as many as it says and 256 at most; else exactly their number, and for each notion the largest wait
+pub record ExploreAnswers (t : List ℕ) (h : Header) (f : Further) (limit : ℕ) (says : exploring.Said) : Type 0 where
+  pub malformed : (says ≡ exploring.refused 9) ↔ (WellFormed t h → ⊥)
+  pub too-many-secrets : (says ≡ exploring.refused 13) ↔ (WellFormed t h × (3 < f .count))
+  pub look-back-too-large : (says ≡ exploring.refused 14) ↔ (WellFormed t h × (f .count ≤ 3) × TooLarge f)
+  pub budget-spent : (says ≡ exploring.refused 15) ↔ (WellFormed t h × Allowed f × MoreThan (automatonOf t h) (lookBackOf h f) limit)
+  pub explored : (number weak strong : ℕ) → (says ≡ exploring.explored number weak strong) ↔ ExploredAll t h f limit number weak strong
+  pub no-other : (n : ℕ) → says ≡ exploring.refused n → (n ≡ 9) ⊎ ((n ≡ 13) ⊎ ((n ≡ 14) ⊎ (n ≡ 15)))
+
+abbrev pub EveryExplore : Type 0
+EveryExplore = (t : List ℕ) (h : Header) (f : Further) (budget : ℕ) (says : exploring.Said) → Exploring t h f (limitOf budget) says
+    → ExploreAnswers t h f (limitOf budget) says

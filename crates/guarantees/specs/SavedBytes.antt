@@ -1,4 +1,4 @@
--- A gateway that keeps a table, a header and a state as bytes: the three points of the five C functions.
+-- A gateway that keeps a table, a header and a state as bytes: the three points of the C functions, and the exploration.
 use mathlib.Core.Path.{_≡_}
 use mathlib.Core.List.{List}
 use Prim.Native.Nat.{ℕ, _≤_}
@@ -18,12 +18,16 @@ use Rattle.enforcer.specs.Offerings as offering
 use Rattle.enforcer.specs.Offerings.{OpensAsLeak, Starting, Offering}
 use Rattle.enforcer.specs.Offers.{EnforcerPromise}
 use Rattle.published.specs.Source.{PublishedReleases}
-use Rattle.layout.specs.Sizes.{headerSize, furtherSize, estimatorSize, strongByte, notionPlace, enforcerSize, judgementSize}
-use Rattle.layout.specs.Layout.{headerAt, furtherAt, estimatorAt, notionAt, enforcerAt, judgementAt}
-use Rattle.gateway.specs.Interface.{Decode, FreshSizes, Fresh, VerifierSizes, Accept, StartSizes, Start, OfferSizes, Offer, ByFurther, ByStart}
-use Rattle.gateway.specs.SavedCalls.{AcceptCall, AcceptCalls, callsOf, OfferCall, OfferCalls, offersOf}
+use Rattle.explore.specs.Explorations as exploring
+use Rattle.explore.specs.Explorations.{ExploredAll, Exploring}
+use Rattle.waiting.specs.LongestWaits.{waitBy}
+use Rattle.layout.specs.Sizes.{headerSize, furtherSize, estimatorSize, strongByte, notionPlace, enforcerSize, judgementSize, explorationSize}
+use Rattle.layout.specs.Layout.{headerAt, furtherAt, estimatorAt, notionAt, enforcerAt, judgementAt, explorationAt}
+use Rattle.gateway.specs.Interface.{Decode, FreshSizes, Fresh, VerifierSizes, Accept, StartSizes, Start, OfferSizes, Offer, ExploreSizes, Explore}
+use Rattle.gateway.specs.Interface.{ByFurther, ByStart, ByExplore}
+use Rattle.gateway.specs.SavedCalls.{AcceptCall, AcceptCalls, callsOf, OfferCall, OfferCalls, offersOf, SavedLongestWait}
 
--- the first point, of each of the five functions: 9 where a slice has not its length or the notion is none; else the refusal of the entry below (FirstPoint);
+-- the first point, of each of the six functions: 9 where a slice has not its length or the notion is none; else the refusal of the entry below (FirstPoint);
 -- whatever is not 0 leaves every lent slice as it was
 abbrev pub DecodeSaved : Type 0
 DecodeSaved = (encoding table header : List ℕ) (answer : ℕ) (t after : List ℕ) → Decode encoding table header answer t after
@@ -56,7 +60,15 @@ OfferSaved = (t header : List ℕ) (symbol : ℕ) (enforcer output release : Lis
     × (OfferSizes header enforcer release → (answer ≡ 0 → ⊥)
     → (x : Enforcer) × Offering t (headerAt header) (enforcerAt enforcer) symbol output (offering.refused answer) x output)
 
--- after a decode that answered 0, with slices of their lengths: a fresh call is refused by 13 and 14 only, a start by these and by 8, each on its condition
+abbrev pub ExploreSaved : Type 0
+ExploreSaved = (t header further : List ℕ) (budget : ℕ) (exploration : List ℕ) (answer : ℕ) (out : List ℕ)
+    → Explore t header further budget exploration answer out
+    → ((ExploreSizes header further exploration → ⊥) → answer ≡ 9) × ((answer ≡ 0 → ⊥) → out ≡ exploration)
+    × (ExploreSizes header further exploration → (answer ≡ 0 → ⊥)
+    → Exploring t (headerAt header) (furtherAt further 0) (exploring.limitOf budget) (exploring.refused answer))
+
+-- after a decode that answered 0, with slices of their lengths: a fresh call is refused by 13 and 14 only, a start by these and by 8, an exploration by these
+-- two and by 15, each on its condition
 abbrev pub FreshBySecrets : Type 0
 FreshBySecrets = (encoding table before t header further estimator lent : List ℕ) (answer : ℕ) (s told : List ℕ) → Decode encoding table before 0 t header
     → length further ≡ furtherSize → length estimator ≡ estimatorSize → length lent ≡ judgementSize → Fresh t header further estimator lent answer s told
@@ -67,6 +79,11 @@ StartBySecrets = (encoding table before t header : List ℕ) (notion : ℕ) (fur
     → Decode encoding table before 0 t header → notion ≤ strongByte → length further ≡ furtherSize → length enforcer ≡ enforcerSize
     → Start t header notion further enforcer answer s
     → ByStart (furtherAt further 0) (OpensAsLeak (notionAt notion) (automatonOf t (headerAt header)) (secretsOf (headerAt header) (furtherAt further 0))) answer
+
+abbrev pub ExploreByBudget : Type 0
+ExploreByBudget = (encoding table before t header further : List ℕ) (budget : ℕ) (lent : List ℕ) (answer : ℕ) (out : List ℕ)
+    → Decode encoding table before 0 t header → length further ≡ furtherSize → length lent ≡ explorationSize
+    → Explore t header further budget lent answer out → ByExplore t (headerAt header) (furtherAt further 0) budget answer
 
 -- the second point, from the bytes of an encoding to the verdicts
 abbrev pub EncodedSecondPoint : Type 0
@@ -94,6 +111,18 @@ SavedThirdPointPublished = (t header : List ℕ) (notion : ℕ) (further before 
     → Start t header notion further before 0 s → OfferCalls t header s cs e
     → PublishedReleases (notionAt notion) t (headerAt header) (furtherAt further 0) (offersOf cs)
 
+-- the exploration: where it answered 0, its bytes hold the number of different configurations, and for each notion the largest wait
+abbrev pub ExploredBytes : Type 0
+ExploredBytes = (t header further : List ℕ) (budget : ℕ) (lent out : List ℕ) → Explore t header further budget lent 0 out
+    → ExploredAll t (headerAt header) (furtherAt further 0) (exploring.limitOf budget) (explorationAt out .number) (explorationAt out .weak)
+    (explorationAt out .strong)
+
+-- and where a start with the same secrets answered 0, that wait is the longest over any calls on the bytes that it left
+abbrev pub SavedWaits : Type 0
+SavedWaits = (t header a b : List ℕ) (budget : ℕ) (lent out : List ℕ) (notion : ℕ) (before s : List ℕ)
+    → clearedOf (furtherAt a 0) ≡ clearedOf (furtherAt b 0) → Explore t header a budget lent 0 out → Start t header notion b before 0 s
+    → SavedLongestWait t header s (waitBy (notionAt notion) (explorationAt out .weak) (explorationAt out .strong))
+
 -- what an accepted symbol leaves is within its limits as it reads back, whatever the state grew from, and keeps the further secrets
 abbrev pub AcceptWithin : Type 0
 AcceptWithin = (t header : List ℕ) (symbol : ℕ) (before lent after told : List ℕ) → Accept t header symbol before lent 0 after told
@@ -112,3 +141,7 @@ FreshPastCount = (t header a b estimator lent : List ℕ) (answer : ℕ) (s told
 abbrev pub StartPastCount : Type 0
 StartPastCount = (t header : List ℕ) (notion : ℕ) (a b enforcer : List ℕ) (answer : ℕ) (s : List ℕ) → length a ≡ furtherSize → length b ≡ furtherSize
     → clearedOf (furtherAt a 0) ≡ clearedOf (furtherAt b 0) → Start t header notion a enforcer answer s → Start t header notion b enforcer answer s
+
+abbrev pub ExplorePastCount : Type 0
+ExplorePastCount = (t header a b : List ℕ) (budget : ℕ) (lent : List ℕ) (answer : ℕ) (out : List ℕ) → length a ≡ furtherSize → length b ≡ furtherSize
+    → clearedOf (furtherAt a 0) ≡ clearedOf (furtherAt b 0) → Explore t header a budget lent answer out → Explore t header b budget lent answer out

@@ -1,5 +1,5 @@
--- What is saved reads back: a header, further secrets, an estimator and an enforcer whose numbers fit their bytes and whose arrays have their sizes, and a
--- verdict. Assumes nothing.
+-- What is saved reads back: a header, further secrets, an estimator, an enforcer and an exploration whose numbers fit their bytes and whose arrays have their
+-- sizes, and a verdict. Assumes nothing.
 use Prim.Native.Nat.{ℕ, zero, suc, _+_, _*_, _/_, _%_, _^_, _≤_, _<_}
 use mathlib.Core.Path.{_≡_, refl, ap, sym, _∙_}
 use mathlib.Core.List.{List, [], _∷_, _++_, append-assoc, append-nil}
@@ -17,10 +17,12 @@ use Rattle.verifier.specs.declared.Estimator.{Estimator}
 use Rattle.opacity.specs.Secrets.{placeOf}
 use Rattle.opacity.specs.Verdicts.{Steps, none, leak, Bounded}
 use Rattle.enforcer.specs.declared.Enforcer.{Enforcer}
+use Rattle.explore.specs.declared.Exploration.{Exploration}
 use Rattle.layout.specs.Sizes as sizes
 use Rattle.layout.specs.Layout.{littleEndianAt, littleEndianBytes, wordBytes, wordsAt, wordsBytes, bytesAt, headerAt, headerBytes, HeaderSized}
 use Rattle.layout.specs.Layout.{placeAt, placeBytes, furtherAt, furtherBytes, FurtherSized, estimatorAt, estimatorBytes, EstimatorSized, EstimatorSaved}
 use Rattle.layout.specs.Layout.{notionAt, notionByte, enforcerAt, enforcerBytes, EnforcerSized, EnforcerSaved, verdictAt, verdictByte}
+use Rattle.layout.specs.Layout.{explorationBytes, ExplorationSaved}
 use Rattle.layout.proofs.Bytes.{number-more, number-none, bytes-length, words-bytes-length}
 
 -- a text stands in the bytes from a place on, between others
@@ -240,9 +242,25 @@ estimator-saved s x = record { size = estimator-length s x; back = estimator-bac
 
 pub enforcer-saved : (s : Enforcer) → EnforcerSized s → EnforcerSaved s
 enforcer-saved s x =
-    record { size = enforcer-length s x; notion-known = rw (byte-back (from-notion s x)) (notion-small (s .notion)); back = enforcer-back s x }
+    record { sized = x; size = enforcer-length s x; notion-known = rw (byte-back (from-notion s x)) (notion-small (s .notion)); back = enforcer-back s x }
 
 -- a verdict with at most 15 steps
 pub verdict-back : (K : ℕ) (v : Steps) → K ≤ sizes.mostRemembered → Bounded K v → verdictAt (verdictByte v) ≡ v
 verdict-back K none h b = refl
 verdict-back K (leak l) h b = let other : l ≡ sizes.noLeakByte → ⊥ = λ e. absurd (omega arith) in rw (ne-eqb l sizes.noLeakByte other)
+
+-- an exploration
+pub exploration-length : (e : Exploration) → length (explorationBytes e) ≡ sizes.explorationSize
+exploration-length e =
+    length-append (littleEndianBytes sizes.exploredSize (e .number)) (e .weak ∷ e .strong ∷ []) ∙ omega (arith, bytes-length sizes.exploredSize (e .number))
+
+pub exploration-saved : (e : Exploration) → e .number < 2 ^ 16 → ExplorationSaved e
+exploration-saved e small =
+    let number = littleEndianBytes sizes.exploredSize (e .number) in
+    let all = stands-all (explorationBytes e) in
+    let from-weak = stands-second number (e .weak ∷ e .strong ∷ []) all sizes.weakWaitPlace (omega (arith, bytes-length sizes.exploredSize (e .number))) in
+    let from-strong = stands-second (e .weak ∷ []) (e .strong ∷ []) from-weak sizes.strongWaitPlace refl in
+    let n = number-back sizes.exploredSize (e .number) small (stands-first number (e .weak ∷ e .strong ∷ []) all) in
+    let w = byte-back from-weak in
+    let s = byte-back from-strong in
+    record { size = exploration-length e; back = λ i. record { number = n i; weak = w i; strong = s i } }

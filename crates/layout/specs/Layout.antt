@@ -1,5 +1,5 @@
--- The bytes of headers, further secrets, saved estimators, saved enforcers, judgements and releases: what is read from bytes (headerAt ..), and the bytes
--- that are written (headerBytes ..). A number of several bytes has the least significant first. Sizes has every place and size.
+-- The bytes of headers, further secrets, saved estimators, saved enforcers, judgements, releases and explorations: what is read from bytes (headerAt ..), and
+-- the bytes that are written (headerBytes ..). A number of several bytes has the least significant first. Sizes has every place and size.
 use Prim.Native.Nat.{ℕ, zero, suc, _+_, _*_, _/_, _%_, _≤_, _<_, _^_}
 use mathlib.Core.Path.{_≡_}
 use mathlib.Core.Bool.{cond}
@@ -19,6 +19,7 @@ use Rattle.opacity.specs.Verdicts.{Steps, none, leak}
 use Rattle.verifier.specs.Replies.{Told, toldOf, noneTold, numbered, Findings}
 use Rattle.enforcer.specs.declared.Enforcer.{Enforcer}
 use Rattle.enforcer.specs.declared.Release.{Release}
+use Rattle.explore.specs.declared.Exploration.{Exploration}
 use Rattle.layout.specs.Sizes as sizes
 
 -- a slice into which a text was stored from a place on; what stood elsewhere stays
@@ -158,8 +159,9 @@ pub record EnforcerSized (s : Enforcer) : Type 0 where
   pub pending : length (s .pending) ≡ sizes.mostPending
   pub waits : length (s .waits) ≡ sizes.mostPending
 
--- the bytes that a call leaves for an enforcer, likewise
+-- the bytes that a call leaves for an enforcer, likewise; and it is one as the code has it
 pub record EnforcerSaved (s : Enforcer) : Type 0 where
+  pub sized : EnforcerSized s
   pub size : length (enforcerBytes s) ≡ sizes.enforcerSize
   pub notion-known : getD (enforcerBytes s) sizes.notionPlace 0 ≤ sizes.strongByte
   pub back : enforcerAt (enforcerBytes s) ≡ s
@@ -210,3 +212,20 @@ releaseBytes r = r .count ∷ r .size ∷ []
 
 abbrev pub releaseAt : List ℕ → Release
 releaseAt bytes = record { count = getD bytes sizes.releasedPlace 0; size = getD bytes sizes.releasedPossiblePlace 0 }
+
+-- an exploration: the number of configurations, the largest weak wait, the largest strong one
+abbrev pub explorationBytes : Exploration → List ℕ
+explorationBytes e = littleEndianBytes sizes.exploredSize (e .number) ++ e .weak ∷ e .strong ∷ []
+
+abbrev pub explorationAt : List ℕ → Exploration
+explorationAt bytes =
+    record {
+      number = littleEndianAt bytes sizes.exploredPlace sizes.exploredSize;
+      weak = getD bytes sizes.weakWaitPlace 0;
+      strong = getD bytes sizes.strongWaitPlace 0;
+    }
+
+-- the bytes that a call leaves for an exploration: they have their length, and read back as it is
+pub record ExplorationSaved (e : Exploration) : Type 0 where
+  pub size : length (explorationBytes e) ≡ sizes.explorationSize
+  pub back : explorationAt (explorationBytes e) ≡ e

@@ -141,3 +141,19 @@ releasedPossiblePlace = 1
 
 abbrev pub releaseSize : ℕ
 releaseSize = releasedPossiblePlace + 1
+
+-- an exploration: the number of configurations, the largest weak wait, the largest strong one
+abbrev pub exploredPlace : ℕ
+exploredPlace = 0
+
+abbrev pub exploredSize : ℕ
+exploredSize = 2
+
+abbrev pub weakWaitPlace : ℕ
+weakWaitPlace = exploredPlace + exploredSize
+
+abbrev pub strongWaitPlace : ℕ
+strongWaitPlace = weakWaitPlace + 1
+
+abbrev pub explorationSize : ℕ
+explorationSize = strongWaitPlace + 1

@@ -1,8 +1,9 @@
-// The bytes of headers, further secrets, saved estimators, saved enforcers, judgements and releases, as specs/Layout has them, each read from its bytes and
-// written to them. What is required is that the bytes have room: who calls tests their length. Every place and size is a constant of `sizes`.
+// The bytes of headers, further secrets, saved estimators, saved enforcers, judgements, releases and explorations, as specs/Layout has them, each read from
+// its bytes and written to them. What is required is that the bytes have room: who calls tests their length. Every place and size is a constant of `sizes`.
 use automaton::Header;
 use enforcer::Enforcer;
 use enforcer::Release;
+use explore::Exploration;
 use opacity::Further;
 use opacity::Notion;
 use opacity::Secret;
@@ -20,7 +21,7 @@ ghost use Rattle.layout.specs.Sizes as sizes;
 ghost use Rattle.layout.specs.Layout.{Stored, littleEndianAt, littleEndianBytes, wordAt, wordsAt, wordsBytes, bytesAt};
 ghost use Rattle.layout.specs.Layout.{headerAt, headerBytes, placeAt, placeBytes, furtherAt, furtherBytes, FurtherSized};
 ghost use Rattle.layout.specs.Layout.{estimatorAt, estimatorBytes, EstimatorSized, notionAt, notionByte, enforcerAt, enforcerBytes, EnforcerSized};
-ghost use Rattle.layout.specs.Layout.{verdictByte, toldBytes, allFindings, judgementBytes, releaseBytes};
+ghost use Rattle.layout.specs.Layout.{verdictByte, toldBytes, allFindings, judgementBytes, releaseBytes, explorationBytes};
 
 pub mod sizes;
 
@@ -359,4 +360,18 @@ pub fn write_release(bytes: &mut [u8], release: Release)
 {
     put(bytes, sizes::RELEASED_PLACE, release.count);
     put(bytes, sizes::RELEASED_POSSIBLE_PLACE, release.size);
+}
+
+pub fn write_exploration(bytes: &mut [u8], exploration: Exploration)
+    requires { ⌜ length (now bytes) ≡ sizes.explorationSize ⌝ }
+    ensures { λ _. ⌜ now (bytes .exit) ≡ explorationBytes exploration ⌝ }
+{
+    store_number(
+        bytes,
+        sizes::EXPLORED_PLACE,
+        sizes::EXPLORED_SIZE,
+        exploration.number as u64,
+    );
+    put(bytes, sizes::WEAK_WAIT_PLACE, exploration.weak);
+    put(bytes, sizes::STRONG_WAIT_PLACE, exploration.strong);
 }

@@ -95,3 +95,14 @@ pub const RELEASED_PLACE: usize = 0;
 pub const RELEASED_POSSIBLE_PLACE: usize = 1;
 
 pub const RELEASE_SIZE: usize = RELEASED_POSSIBLE_PLACE + 1;
+
+// An exploration: the number of configurations, the largest weak wait, the largest strong one.
+pub const EXPLORED_PLACE: usize = 0;
+
+pub const EXPLORED_SIZE: usize = 2;
+
+pub const WEAK_WAIT_PLACE: usize = EXPLORED_PLACE + EXPLORED_SIZE;
+
+pub const STRONG_WAIT_PLACE: usize = WEAK_WAIT_PLACE + 1;
+
+pub const EXPLORATION_SIZE: usize = STRONG_WAIT_PLACE + 1;

@@ -12,6 +12,15 @@ abbrev pub joined : {Call A : Type 0} → (Call → List A) → List Call → Li
 joined part [] = []
 joined part (c ∷ cs) = part c ++ joined part cs
 
+-- what each call offers, whatever was answered
+abbrev pub offered : {Call A : Type 0} → (Call → A) → List Call → List A
+offered byte cs = joined (λ c. byte c ∷ []) cs
+
+-- so of each call of a list
+abbrev pub Every : {Call : Type 0} → (Call → Type 0) → List Call → Type 0
+Every P [] = Unit {0}
+Every P (c ∷ cs) = P c × Every P cs
+
 -- what each call counts, added up
 abbrev pub total : {Call : Type 0} → (Call → ℕ) → List Call → ℕ
 total count [] = 0

@@ -104,6 +104,15 @@ same-further f = cleared-places (f .count) (placeOf f 0) (placeOf f 1) (placeOf 
 pub same-secrets : (h : Header) (f : Further) → secretsOf h (clearedOf f) ≡ secretsOf h f
 same-secrets h f = ap (λ (cs : List Secret). own h ∷ cs) (same-further f)
 
+-- and what is kept of these is the same
+pub cleared-twice : (f : Further) → clearedOf (clearedOf f) ≡ clearedOf f
+cleared-twice f =
+    ap (λ (cs : List Secret). record {
+      states = secretAt cs 0 .states ∷ secretAt cs 1 .states ∷ secretAt cs 2 .states ∷ [];
+      k = secretAt cs 0 .k ∷ secretAt cs 1 .k ∷ secretAt cs 2 .k ∷ [];
+      count = f .count;
+    }) (same-further f)
+
 pub cleared-allowed : (f : Further) → Allowed f → Allowed (clearedOf f)
 cleared-allowed f a = record { few = a .few; back = subst (λ (cs : List Secret). ForEach cs (λ i c. c .k ≤ 15)) (sym (same-further f)) (a .back) }
 

@@ -9,16 +9,16 @@ use lib.Seq.{take-at, getD-append-seam}
 use Rattle.lists.specs.Calls.{more}
 use Rattle.automaton.specs.declared.Header.{Header}
 use Rattle.automaton.specs.Run.{Automaton, automatonOf, Possible, Observable}
-use Rattle.automaton.proofs.Traces.{trace-observable, prefix-possible}
+use Rattle.automaton.proofs.Traces.{front-possible, symbol-observable}
 use Rattle.opacity.specs.declared.Secret.{Secret}
 use Rattle.opacity.specs.declared.Notion.{Notion}
 use Rattle.opacity.specs.declared.Further.{Further}
 use Rattle.opacity.specs.Secrets.{secretsOf, secretAt}
 use Rattle.opacity.specs.Verdicts.{Steps}
 use Rattle.verifier.specs.Replies.{Findings, toldAt, Said, refused, verdicts}
-use Rattle.verifier.specs.Calls.{Call, takenBy, Right, Answered, AllAnswered}
+use Rattle.verifier.specs.Calls.{Call, takenBy, offeredOf, Right, Answered, AllAnswered}
 use Rattle.verifier.proofs.SecondPoint.{second-point}
-use Rattle.published.specs.Source.{Published, RightVerdict, RightVerdicts, SoundComplete, offered, lastSaid, SaysAfter}
+use Rattle.published.specs.Source.{Published, RightVerdict, RightVerdicts, SoundComplete, lastSaid, SaysAfter}
 use Rattle.published.proofs.SourceLaws.{published}
 
 -- the published verdict is the one of Definition 6
@@ -53,29 +53,20 @@ module _ (t : List ℕ) (h : Header) (f : Further) where
   answer-right trace byte (refused n) (inr x) seen possible = absurd (x .2 (possible .run) (possible .compatible))
   answer-right trace byte (verdicts j) x seen possible = (refl, right-after (trace ++ byte ∷ []) j possible (x .2))
 
-  event-seen : (trace : List ℕ) (byte : ℕ) (rest : List ℕ) → Possible (automatonOf t h) (trace ++ byte ∷ rest) → Observable h byte
-  event-seen trace byte rest x =
-      let long : length trace < length (trace ++ byte ∷ rest) = rw length-append (omega arith) in
-      rw (getD-append-seam trace byte rest 0) at (trace-observable (automatonOf t h) (trace ++ byte ∷ rest) x (length trace) long)
-
-  front-possible : (a b : List ℕ) → Possible (automatonOf t h) (a ++ b) → Possible (automatonOf t h) a
-  front-possible a b x =
-      rw (take-at a b (length a) refl) at (prefix-possible (automatonOf t h) (a ++ b) x (length a) (rw length-append (omega arith)))
-
   split : (trace : List ℕ) (c : Call) (cs : List Call) → AllAnswered t h f trace (c ∷ cs)
       → Answered t h f trace (c .byte) (c .says) × AllAnswered t h f (trace ++ takenBy (c .says) (c .byte)) cs
   split trace c cs (more x y) = (x, y)
 
   -- the last answer to the events of an observed trace, one after another
-  follow : (trace : List ℕ) (r : Said) (cs : List Call) → RightAfter trace r → AllAnswered t h f trace cs → Possible (automatonOf t h) (trace ++ offered cs)
-      → RightAfter (trace ++ offered cs) (lastSaid r cs)
+  follow : (trace : List ℕ) (r : Said) (cs : List Call) → RightAfter trace r → AllAnswered t h f trace cs → Possible (automatonOf t h) (trace ++ offeredOf cs)
+      → RightAfter (trace ++ offeredOf cs) (lastSaid r cs)
   follow trace r [] x all possible = rw (append-nil trace) x
   follow trace r (c ∷ cs) x all possible =
       let parts = split trace c cs all in
-      let here = append-assoc trace (c .byte ∷ []) (offered cs) in
-      let later : Possible (automatonOf t h) ((trace ++ c .byte ∷ []) ++ offered cs) = subst (Possible (automatonOf t h)) (sym here) possible in
-      let y = answer-right trace (c .byte) (c .says) (parts .0) (event-seen trace (c .byte) (offered cs) possible)
-      (front-possible (trace ++ c .byte ∷ []) (offered cs) later) in
+      let here = append-assoc trace (c .byte ∷ []) (offeredOf cs) in
+      let later : Possible (automatonOf t h) ((trace ++ c .byte ∷ []) ++ offeredOf cs) = subst (Possible (automatonOf t h)) (sym here) possible in
+      let y = answer-right trace (c .byte) (c .says) (parts .0) (symbol-observable (automatonOf t h) trace (c .byte) (offeredOf cs) possible)
+      (front-possible (automatonOf t h) (trace ++ c .byte ∷ []) (offeredOf cs) later) in
       let rest : AllAnswered t h f (trace ++ c .byte ∷ []) cs = subst (λ (l : List ℕ). AllAnswered t h f (trace ++ l) cs) (y .0) (parts .1) in
       subst (λ (l : List ℕ). RightAfter l (lastSaid (c .says) cs)) here (follow (trace ++ c .byte ∷ []) (c .says) cs (y .1) rest later)
 

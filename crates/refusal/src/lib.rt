@@ -16,6 +16,7 @@ pub enum Refusal {
     RepeatedTransition,
     TooManySecrets,
     LookBackTooLarge,
+    BudgetSpent,
 }
 
 // The number of a refusal in 01's table.
@@ -35,5 +36,6 @@ pub fn number(refusal: Refusal) -> u8
         Refusal::RepeatedTransition => 12,
         Refusal::TooManySecrets => 13,
         Refusal::LookBackTooLarge => 14,
+        Refusal::BudgetSpent => 15,
     }
 }

@@ -1,13 +1,13 @@
--- How many numbers have a property: one number; with one more that has it; and the digits of a word that are set. Assumes nothing.
+-- How many things have a property: one number; of numbers, with one more that has it; and the digits of a word that are set. Assumes nothing.
 use mathlib.Core.Path.{_≡_, refl, sym, ap, _∙_, subst}
-use mathlib.Core.List.{[], _∷_}
-use mathlib.Core.Logic.{_⊎_, inl, inr, ⊎-elim}
+use mathlib.Core.List.{List, [], _∷_}
+use mathlib.Core.Logic.{_⊎_, inl, inr, ⊎-elim, _↔_}
 use Prim.Native.Nat.{ℕ, zero, suc, _+_, _-_, _/_, _%_, _^_, _≤_, _<_}
 use native.Mathlib.Omega.{arith}
 use native.Mathlib.Decide.{decLt, ℕ-discrete}
 use lib.Count.{ones, ones-step}
-use lib.ListN.{getD}
-use Rattle.stateset.specs.Set.{bit, In, Counts}
+use lib.ListN.{length, getD}
+use Rattle.stateset.specs.Set.{bit, In, CountsBy, MoreBy, Counts}
 use Rattle.stateset.proofs.Bits.{bit-0, bit-suc, empty}
 use Rattle.stateset.proofs.Pigeonhole.{no-more}
 
@@ -53,25 +53,45 @@ counts-more {P} n x new c =
     distinct zero (suc j) h l e = new (subst P (sym e) (c .sound j (omega arith)))
     distinct (suc i) (suc j) h l e = c .distinct i j (omega arith) (omega arith) e
 
--- two places of the list that have one number are one place
-alone : {P : ℕ → Type 0} {n : ℕ} (c : Counts P n) (i j : ℕ) → i < n → j < n → getD (c .members) i 0 ≡ getD (c .members) j 0 → i ≡ j
-alone {P} {n} c i j a b e = go (decLt i j) (decLt j i)
-  where
-    go : Dec (i < j) → Dec (j < i) → i ≡ j
-    go (yes l) d = absurd (c .distinct i j l b e)
-    go (no l) (yes r) = absurd (c .distinct j i r a (sym e))
-    go (no l) (no r) = omega arith
+-- things by any sameness that can be turned round and joined
+module _ {A : Type 0} (blank : A) (Same : A → A → Type 0) (turned : (a b : A) → Same a b → Same b a)
+    (joined : (a b c : A) → Same a b → Same b c → Same a c) where
+  -- two places of a list of different ones that are the same are one place
+  pub alone : (members : List A) (n : ℕ) → ((i j : ℕ) → i < j → j < n → Same (getD members i blank) (getD members j blank) → ⊥)
+      → (i j : ℕ) → i < n → j < n → Same (getD members i blank) (getD members j blank) → i ≡ j
+  alone members n distinct i j a b e = go (decLt i j) (decLt j i)
+    where
+      go : Dec (i < j) → Dec (j < i) → i ≡ j
+      go (yes l) d = absurd (distinct i j l b e)
+      go (no l) (yes r) = absurd (distinct j i r a (turned _ _ e))
+      go (no l) (no r) = omega arith
 
--- whoever has P has a place in the other's list
-counts-most-of : {P Q : ℕ → Type 0} (m n : ℕ) → ((q : ℕ) → P q → Q q) → Counts P m → Counts Q n → m ≤ n
-counts-most-of m n f c d =
-    no-more m n (λ i k. getD (d .members) k 0 ≡ getD (c .members) i 0)
-    (λ i h. d .whole _ (f _ (c .sound i h)))
-    (λ i j k a b x y. alone c i j a b (sym x ∙ y))
+  -- different ones that have P have a place each in the list of all
+  most-of : (P : A → Type 0) (m n : ℕ) (members : List A) → ((i : ℕ) → i < m → P (getD members i blank))
+      → ((i j : ℕ) → i < j → j < m → Same (getD members i blank) (getD members j blank) → ⊥) → CountsBy blank Same P n → m ≤ n
+  most-of P m n members sound distinct d =
+      no-more m n (λ i k. Same (getD (d .members) k blank) (getD members i blank)) (λ i h. d .whole _ (sound i h))
+      (λ i j k a b x y. alone members m distinct i j a b (joined _ _ _ (turned _ _ x) y))
 
--- so there is one number
+  -- so there is one number, and there are more than m exactly where it is above m
+  pub one-number-by : (P : A → Type 0) (m n : ℕ) → CountsBy blank Same P m → CountsBy blank Same P n → m ≡ n
+  one-number-by P m n c d =
+      omega (arith, most-of P m n (c .members) (c .sound) (c .distinct) d, most-of P n m (d .members) (d .sound) (d .distinct) c)
+
+  pub more-exactly : (P : A → Type 0) (m n : ℕ) → CountsBy blank Same P n → MoreBy blank Same P m ↔ (m < n)
+  more-exactly P m n d = (
+    λ x. omega (arith, x .more, most-of P (length (x .members)) n (x .members) (x .sound) (x .distinct) d),
+    λ less. record {
+      members = d .members;
+      more = omega (arith, d .number-is);
+      sound = λ i h. d .sound i (omega (arith, d .number-is));
+      distinct = λ i j l h. d .distinct i j l (omega (arith, d .number-is));
+    },
+  )
+
+-- of numbers
 pub counts-one : {P : ℕ → Type 0} (m n : ℕ) → Counts P m → Counts P n → m ≡ n
-counts-one m n c d = omega (arith, counts-most-of m n (λ q x. x) c d, counts-most-of n m (λ q x. x) d c)
+counts-one {P} m n c d = one-number-by 0 (λ a b. a ≡ b) (λ a b e. sym e) (λ a b c e f. e ∙ f) P m n c d
 
 -- it is not 0 where some number has P
 pub counts-some : {P : ℕ → Type 0} (n q : ℕ) → P q → Counts P n → 1 ≤ n
@@ -80,7 +100,8 @@ counts-some n q x c = omega (arith, c .whole q x .1)
 -- and at most k where those that have P are below k
 pub counts-below : {P : ℕ → Type 0} (n k : ℕ) → ((q : ℕ) → P q → q < k) → Counts P n → n ≤ k
 counts-below n k small c =
-    no-more n k (λ i x. getD (c .members) i 0 ≡ x) (λ i h. (getD (c .members) i 0, small _ (c .sound i h), refl)) (λ i j x a b e f. alone c i j a b (e ∙ sym f))
+    no-more n k (λ i x. getD (c .members) i 0 ≡ x) (λ i h. (getD (c .members) i 0, small _ (c .sound i h), refl))
+    (λ i j x a b e f. alone 0 (λ a b. a ≡ b) (λ a b e. sym e) (λ a b c e f. e ∙ f) (c .members) n (c .distinct) i j a b (e ∙ sym f))
 
 -- the digit q of a word whose digits are counted from `off` on: the lowest, or a digit of its half
 shifted : (off q w : ℕ) → suc off ≤ q → bit (q - off) w ≡ bit (q - suc off) (w / 2)

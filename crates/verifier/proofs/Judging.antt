@@ -31,13 +31,13 @@ use Rattle.verifier.specs.declared.Judgement.{Judgement}
 use Rattle.verifier.specs.declared.Estimator.{Estimator}
 use Rattle.opacity.specs.Verdicts.{Steps, none, leak, stepsOf, Tells, Bounded}
 use Rattle.opacity.specs.Secrets.{secretOf, own, secretsOf, secretAt, ForEach, lookBackOf, clearedOf, Allowed}
-use Rattle.verifier.specs.Estimators.{Limits, InLimits, Grown, GrownOn}
+use Rattle.verifier.specs.Estimators.{rememberedOf, Limits, InLimits, Grown, GrownOn}
 use Rattle.verifier.specs.Replies.{FindingsBy, toldOf, noneTold, noLeaks, stepsBy, toldAt, numbered, toldEach, refused, said, OthersNoLeak, Others}
 use Rattle.verifier.specs.Replies.{refused-by, verdicts-by, saidBy, OthersBy, chosen, Opening, opened, Accepting, accepted, Moved, TellsBy}
 use Rattle.verifier.specs.Replies.{AcceptingBy, turned-back, accepted-by}
 use Rattle.estimates.specs.StepsBack.{Found, Delayed}
 use Rattle.estimates.specs.declared.Remembered.{Remembered}
-use Rattle.verifier.specs.Inner.{rememberedOf, upTo, Asks, askFor, chosenAnswer, WhereAsked, Judged, JudgedAt, JudgedAll, Opened, AcceptingAsked}
+use Rattle.verifier.specs.Inner.{upTo, Asks, askFor, chosenAnswer, WhereAsked, Judged, JudgedAt, JudgedAll, Opened, AcceptingAsked}
 use Rattle.verifier.specs.declared.Reply.{Reply}
 use Rattle.verifier.specs.declared.Asked.{Asked}
 use Rattle.verifier.specs.declared.Answer.{Answer}

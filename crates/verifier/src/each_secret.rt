@@ -4,11 +4,11 @@ use super::Estimator;
 use super::Judgement;
 use super::SecretVerdicts;
 use super::VerdictsBy;
+use super::remembered_of;
 use super::several::strong_each;
 use super::several::up_to;
 use automaton::Header;
 use estimates::Estimate;
-use estimates::Remembered;
 use estimates::look_back::backward_rows;
 use estimates::look_back::delayed_estimates;
 use estimates::look_back::first_secret;
@@ -25,7 +25,7 @@ ghost use Rattle.estimates.specs.Estimates.{UnobservableReach};
 ghost use Rattle.estimates.specs.StepsBack.{Delayed};
 ghost use Rattle.opacity.specs.declared.Notion.the-variants as notion;
 ghost use Rattle.opacity.specs.Secrets.{own, secretsOf, secretAt};
-ghost use Rattle.verifier.specs.Inner.{rememberedOf, PreparedFor, Explored, StrongGiven, StrongEach, Asks, Judged, JudgedAt, JudgedAll};
+ghost use Rattle.verifier.specs.Inner.{PreparedFor, Explored, StrongGiven, StrongEach, Asks, Judged, JudgedAt, JudgedAll};
 
 fn smaller(a: u8, b: u8) -> u8
     ensures { λ r. ⌜ r ≡ min a b ⌝ }
@@ -34,19 +34,6 @@ fn smaller(a: u8, b: u8) -> u8
         return a;
     }
     b
-}
-
-// What the estimator remembers of its trace, for a look back.
-fn remembered_of(estimator: Estimator) -> Remembered
-    ensures { λ r. ⌜ r ≡ rememberedOf estimator ⌝ }
-{
-    let symbols = estimator.symbols;
-    let entries = estimator.entries;
-    Remembered {
-        count: estimator.count,
-        symbols: symbols,
-        entries: entries,
-    }
 }
 
 // The verdicts of the automaton's own secret, where no further one shares what is worked out: by the notions that are asked for, and none for the

@@ -7,6 +7,7 @@ mod each_secret; // the verdicts of each secret
 
 use automaton::Header;
 use estimates::NextEstimate;
+use estimates::Remembered;
 use opacity::Further;
 use opacity::Notion;
 use opacity::Verdict;
@@ -22,7 +23,7 @@ ghost use Rattle.automaton.specs.Reaching.{Enters};
 ghost use Rattle.relation.specs.Relation.{Sub};
 ghost use Rattle.estimates.specs.Estimates.{Inside};
 ghost use Rattle.opacity.specs.Secrets.{Allowed};
-ghost use Rattle.verifier.specs.Estimators.{Limits, InLimits, Grown, GrownOn};
+ghost use Rattle.verifier.specs.Estimators.{rememberedOf, Limits, InLimits, Grown, GrownOn};
 ghost use Rattle.verifier.specs.declared.Answer.the-variants as answer;
 ghost use Rattle.verifier.specs.Replies.{said, saidBy, chosen, chosenEach, Others, OthersBy, Unusable, Opening, Accepting, AcceptingBy};
 ghost use Rattle.verifier.specs.Inner.{askFor, chosenAnswer, Opened, AcceptingAsked};
@@ -124,6 +125,19 @@ pub fn choose_each(notion: Notion, verdicts: SecretVerdicts) -> VerdictsBy
         first: choose(notion, verdicts.first),
         second: choose(notion, verdicts.second),
         third: choose(notion, verdicts.third),
+    }
+}
+
+// What the estimator remembers of its trace: for a look back, and for an exploration, which stores no more of a configuration.
+pub fn remembered_of(estimator: Estimator) -> Remembered
+    ensures { λ r. ⌜ r ≡ rememberedOf estimator ⌝ }
+{
+    let symbols = estimator.symbols;
+    let entries = estimator.entries;
+    Remembered {
+        count: estimator.count,
+        symbols: symbols,
+        entries: entries,
     }
 }
 

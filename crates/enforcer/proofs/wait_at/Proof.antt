@@ -8,7 +8,7 @@ use Rattle.opacity.specs.declared.Secret.{Secret}
 use Rattle.opacity.specs.Secrets.{secretsOf}
 use Rattle.opacity.specs.Verdicts.{stepsOf}
 use Rattle.opacity.proofs.Numbering.{how-many, how-many-most, secret-back, look-back-small}
-use Rattle.enforcer.specs.Inner.{waitOf}
+use Rattle.enforcer.specs.Waits.{waitOf}
 use Rattle.enforcer.proofs.ForAll.{no-wait}
 use Rattle.enforcer.proofs.wait_at.Statement.{statement}
 use Rattle.enforcer.proofs.wait_at.Tie as tie

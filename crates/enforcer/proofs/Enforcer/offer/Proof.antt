@@ -109,8 +109,8 @@ enum-known-answer c = search needs
 enum-known-answer-2 : tie.Need-enum-known-answer-2
 enum-known-answer-2 c = search needs
 
-longest-wait-requires : tie.Need-longest-wait-requires
-longest-wait-requires c κs = let m = all (c .before .before .before) .0 in (m .well-formed .back, m .limits .allowed)
+largest-wait-requires : tie.Need-largest-wait-requires
+largest-wait-requires c κs = let m = all (c .before .before .before) .0 in (m .well-formed .back, m .limits .allowed)
 
 take-in-requires : tie.Need-take-in-requires
 take-in-requires c κs =
@@ -151,11 +151,11 @@ returns-5 c =
     let j = x .answer2 .given .0 .0 in
     let moved = all x .0 in
     taken-outcome (now (a .table)) (a .header) (a .self) (a .byte) (now (a .output)) (stepsEach (a .self .estimator .further) (j .verdicts))
-    (waited .longest-wait .result) (j .size)
+    (waited .largest-wait .result) (j .size)
     (called .accept-by .result .estimator) (taken .result .answer) (taken .result .enforcer) (taken .last .1 .1 .1 .1 .1 .1 .0) (moved .well-formed)
     (limits-joined _ (a .self) (moved .limits) (pending e3)) (e3 .before .before .before .before .before .if1 .left) moved (all x .1)
-    (waited .longest-wait .ensures)
-    (subst (λ (k : ℕ). Enqueues k (a .self) (called .accept-by .result .estimator) (waited .longest-wait .result) (j .size) (a .byte) (now (a .output))
+    (waited .largest-wait .ensures)
+    (subst (λ (k : ℕ). Enqueues k (a .self) (called .accept-by .result .estimator) (waited .largest-wait .result) (j .size) (a .byte) (now (a .output))
     (taken .result .answer)
     (taken .result .enforcer) (taken .last .1 .1 .1 .1 .1 .1 .0)) (e3 .before .before .look-back .ensures) (taken .ensures))
 
@@ -176,7 +176,7 @@ offer-spec =
     enum-known-answer
     refused-requires-4
     enum-known-answer-2
-    longest-wait-requires
+    largest-wait-requires
     take-in-requires
     returns-4
     same-length

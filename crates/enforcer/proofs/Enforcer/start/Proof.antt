@@ -8,7 +8,7 @@ use Rattle.opacity.specs.Secrets.{secretsOf}
 use Rattle.verifier.specs.Replies as verifier
 use Rattle.verifier.specs.Replies.{Opening, findings}
 use Rattle.verifier.specs.Replies.{chosenEach, stepsEach}
-use Rattle.enforcer.specs.Inner.{LargestWait}
+use Rattle.enforcer.specs.Waits.{LargestWait}
 use Rattle.enforcer.proofs.Arrays.{padded-zeros}
 use Rattle.enforcer.proofs.Starts.{start-refused, opened-given, start-open, start-ready}
 use borrow.Author.Needs.{needs}
@@ -41,24 +41,24 @@ opening u =
     (u .before .before .answer2 .given .1)
     (called .ensures .0)
 
-longest-wait-requires : tie.Need-longest-wait-requires
-longest-wait-requires c κs = let j = c .before .before .answer2 .given .0 .0 in opened-given _ _ _ j _ (opening c)
+largest-wait-requires : tie.Need-largest-wait-requires
+largest-wait-requires c κs = let j = c .before .before .answer2 .given .0 .0 in opened-given _ _ _ j _ (opening c)
 
 -- the largest wait of the verdicts by the notion
-longest : (u : tie.After-longest-wait) → LargestWait (secretsOf (begin (u .before) .args .header) (begin (u .before) .args .further))
+largest : (u : tie.After-largest-wait) → LargestWait (secretsOf (begin (u .before) .args .header) (begin (u .before) .args .further))
     (stepsEach (begin (u .before) .args .further) (chosenEach (begin (u .before) .args .notion) (u .before .before .before .answer2 .given .0 .0 .verdicts)))
-    (u .longest-wait .result)
-longest u =
+    (u .largest-wait .result)
+largest u =
     let a = begin (u .before) .args in
-    subst (λ (v : VerdictsBy). LargestWait (secretsOf (a .header) (a .further)) (stepsEach (a .further) v) (u .longest-wait .result))
+    subst (λ (v : VerdictsBy). LargestWait (secretsOf (a .header) (a .further)) (stepsEach (a .further) v) (u .largest-wait .result))
     (u .before .choose-each .ensures)
-    (u .longest-wait .ensures)
+    (u .largest-wait .ensures)
 
 returns : tie.Need-returns
 returns c =
     let u = c .before in
     let j = u .before .before .before .answer2 .given .0 .0 in
-    start-open _ _ _ _ j _ _ (longest u) _ (opening (u .before)) (c .if1 .taken) refl
+    start-open _ _ _ _ j _ _ (largest u) _ (opening (u .before)) (c .if1 .taken) refl
 
 returns-2 : tie.Need-returns-2
 returns-2 c =
@@ -73,7 +73,7 @@ returns-3 : tie.Need-returns-3
 returns-3 c =
     let u = c .before in
     let j = u .before .before .before .answer2 .given .0 .0 in
-    start-ready _ _ _ _ j _ _ (longest u) _ _ (padded-zeros 16 0) (padded-zeros 16 0) (opening (u .before)) (c .if1 .left)
+    start-ready _ _ _ _ j _ _ (largest u) _ _ (padded-zeros 16 0) (padded-zeros 16 0) (opening (u .before)) (c .if1 .left)
 
 pub start-spec : {M : Type 1} → statement M
 start-spec =
@@ -83,7 +83,7 @@ start-spec =
     enum-known-answer
     enum-known-answer-2
     choose-each-requires
-    longest-wait-requires
+    largest-wait-requires
     returns
     returns-2
     returns-3)

@@ -1,4 +1,4 @@
--- `enforcer::longest_wait` meets its contract: the largest of the waits of the four places. Where no further secret is given, the other three are 0.
+-- `enforcer::largest_wait` meets its contract: the largest of the waits of the four places. Where no further secret is given, the other three are 0.
 use mathlib.Core.Path.{_≡_, ap₂, _∙_}
 use mathlib.Core.List.{List, map}
 use Prim.Native.Nat.{ℕ, _≤_, max}
@@ -13,10 +13,11 @@ use Rattle.opacity.specs.Verdicts.{Steps, none, stepsOf}
 use Rattle.verifier.specs.Replies.{numberedBy}
 use Rattle.opacity.proofs.Numbering.{how-many-most}
 use Rattle.verifier.specs.Replies.{stepsEach}
-use Rattle.enforcer.specs.Inner.{WaitAt, LargestWait}
+use Rattle.enforcer.specs.Waits.{LargestWait}
+use Rattle.enforcer.specs.Inner.{WaitAt}
 use Rattle.enforcer.proofs.ForAll.{no-wait, largest-of-four, largest-given}
-use Rattle.enforcer.proofs.longest_wait.Statement.{statement}
-use Rattle.enforcer.proofs.longest_wait.Tie as tie
+use Rattle.enforcer.proofs.largest_wait.Statement.{statement}
+use Rattle.enforcer.proofs.largest_wait.Tie as tie
 
 -- from the waits of the four places
 module _ (h : Header) (f : Further) (v : VerdictsBy) where
@@ -67,8 +68,8 @@ returns-2 c =
     largest-steps (s .args .header) (s .args .further) (s .args .verdicts) _ _ _ _ _ (s .pre .1) (w1 .wait-at .ensures) (w4 .before .before .wait-at2 .ensures)
     (w4 .before .wait-at3 .ensures) (w4 .wait-at4 .ensures) (c .larger3 .ensures ∙ ap₂ max (c .before .before .larger .ensures) (c .before .larger2 .ensures))
 
-pub longest-wait-spec : {M : Type 1} → statement M
-longest-wait-spec =
+pub largest-wait-spec : {M : Type 1} → statement M
+largest-wait-spec =
     tie.close
     (tie.spec
     wait-at-requires

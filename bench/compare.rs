@@ -5,6 +5,7 @@ use crate::automata::{Automaton, Secret};
 use crate::cases::Case;
 use crate::excuses::Excused;
 use crate::exploration::{self, Exploration, BUDGET_SPENT, MOST};
+use crate::first_leak;
 use crate::library::{self, Library};
 use crate::native::Estimator;
 use crate::plain::{self, Enforcer, Judgement, Queue, Release, Verifier, NONE};
@@ -350,5 +351,43 @@ pub fn compare_explorations(name: &str, automaton: &Automaton, further: &[Secret
         compared.configurations += expected.map_or(0, |(number, _, _)| number);
         compared.waiting += expected.is_ok_and(|(_, weak, strong)| 0 < weak.max(strong)) as usize;
         compared.spent += expected.is_err() as usize;
+    }
+}
+
+/// How many first leaks were looked for: those that were found, the sum of their places and of the refused bytes before them, and lists without.
+#[derive(Default)]
+pub struct ComparedLeaks {
+    pub found: usize,
+    pub places: u64,
+    pub refused: u64,
+    pub none: usize,
+}
+
+/// Compares first leaks of (a) with plain ones, by each notion, with the further secrets and without, on offered bytes of which some are refused: on all of
+/// them, as far as the leak, with other bytes behind it, and up to the byte before it.
+pub fn compare_leaks(case: &Case, calm: usize, length: usize, seed: u64, compared: &mut ComparedLeaks) {
+    let bytes = first_leak::offered(&case.automaton, calm, length, seed);
+    for (given, notion) in [(&[][..], 0), (&[], 1), (&case.further, 0), (&case.further, 1)] {
+        let mut a = Library::with(&case.automaton, given);
+        let mut same = |offered: &[u8], expected: Option<u64>| {
+            let got = a.first_leak(notion, offered);
+            if got != expected {
+                differ(case, &format!("plain, first leak, notion {notion}, {} further secrets", given.len()), offered.len(), got, expected);
+            }
+        };
+        match first_leak::first_leak(&case.automaton, given, notion as usize, &bytes) {
+            Some((place, offered)) => {
+                let behind: Vec<u8> = bytes[..offered].iter().chain(bytes.iter().rev()).copied().collect();
+                [&bytes, &bytes[..offered], &behind].into_iter().for_each(|bytes| same(bytes, Some(place)));
+                same(&bytes[..offered - 1], None);
+                compared.found += 1;
+                compared.places += place;
+                compared.refused += offered as u64 - place;
+            }
+            None => {
+                same(&bytes, None);
+                compared.none += 1;
+            }
+        }
     }
 }

@@ -10,6 +10,7 @@ type Accept = unsafe extern "C" fn(*const u64, usize, *const u8, usize, u8, *mut
 type Start = unsafe extern "C" fn(*const u64, usize, *const u8, usize, u8, *const u8, usize, *mut u8, usize) -> u8;
 type Offer = unsafe extern "C" fn(*const u64, usize, *const u8, usize, u8, *mut u8, usize, *mut u8, usize, *mut u8, usize) -> u8;
 type Explore = unsafe extern "C" fn(*const u64, usize, *const u8, usize, *const u8, usize, u32, *mut u8, usize) -> u8;
+type FirstLeak = unsafe extern "C" fn(*const u64, usize, *const u8, usize, u8, *const u8, usize, *const u8, usize, *mut u8, usize) -> u8;
 
 extern "C" {
     fn opacity_decode(encoding: *const u8, _: usize, table: *mut u64, _: usize, header: *mut u8, _: usize) -> u8;
@@ -30,9 +31,13 @@ extern "C" {
     fn opacity_explore(
         table: *const u64, _: usize, header: *const u8, _: usize, further: *const u8, _: usize, budget: u32, exploration: *mut u8, _: usize,
     ) -> u8;
+    fn opacity_first_leak(
+        table: *const u64, _: usize, header: *const u8, _: usize, notion: u8, further: *const u8, _: usize, symbols: *const u8, _: usize,
+        place: *mut u8, _: usize,
+    ) -> u8;
 }
 
-/// The six functions, or stand-ins: the measuring of the stack compares the two.
+/// The seven functions, or stand-ins: the measuring of the stack compares the two.
 #[derive(Clone, Copy)]
 pub struct Functions {
     decode: Decode,
@@ -41,10 +46,12 @@ pub struct Functions {
     start: Start,
     offer: Offer,
     explore: Explore,
+    first_leak: FirstLeak,
 }
 
 pub const PROVED: Functions = Functions {
     decode: opacity_decode, fresh: opacity_fresh, accept: opacity_accept, start: opacity_start, offer: opacity_offer, explore: opacity_explore,
+    first_leak: opacity_first_leak,
 };
 
 unsafe extern "C" fn no_decode(_: *const u8, _: usize, _: *mut u64, _: usize, _: *mut u8, _: usize) -> u8 {
@@ -69,10 +76,16 @@ unsafe extern "C" fn no_offer(
 unsafe extern "C" fn no_explore(_: *const u64, _: usize, _: *const u8, _: usize, _: *const u8, _: usize, _: u32, _: *mut u8, _: usize) -> u8 {
     0
 }
+unsafe extern "C" fn no_first_leak(
+    _: *const u64, _: usize, _: *const u8, _: usize, _: u8, _: *const u8, _: usize, _: *const u8, _: usize, _: *mut u8, _: usize,
+) -> u8 {
+    0
+}
 
 /// Functions that do nothing.
-pub const NOTHING: Functions =
-    Functions { decode: no_decode, fresh: no_fresh, accept: no_accept, start: no_start, offer: no_offer, explore: no_explore };
+pub const NOTHING: Functions = Functions {
+    decode: no_decode, fresh: no_fresh, accept: no_accept, start: no_start, offer: no_offer, explore: no_explore, first_leak: no_first_leak,
+};
 
 pub const WEAK: u8 = 0;
 pub const STRONG: u8 = 1;
@@ -88,6 +101,7 @@ pub struct Library {
     output: [u8; 17],
     release: [u8; 2],
     exploration: [u8; 4],
+    place: [u8; 8],
 }
 
 impl Library {
@@ -100,7 +114,7 @@ impl Library {
     pub fn with(automaton: &Automaton, further: &[Secret]) -> Self {
         let mut made = Library {
             table: vec![0; 2048], header: [0; 46], further: [0; 28], estimator: [0; 172], judgement: [0; 9], enforcer: [0; 206], output: [0; 17],
-            release: [0; 2], exploration: [0; 4],
+            release: [0; 2], exploration: [0; 4], place: [0; 8],
         };
         made.further[0] = further.len() as u8;
         for (place, secret) in made.further[1..].chunks_exact_mut(9).zip(further) {
@@ -188,6 +202,17 @@ impl Library {
         }
     }
 
+    #[inline(always)]
+    pub fn call_first_leak(&mut self, functions: &Functions, notion: u8, symbols: &[u8]) -> u8 {
+        let (table, header, further, place) = (&self.table, &self.header, &self.further, &mut self.place);
+        unsafe {
+            (functions.first_leak)(
+                table.as_ptr(), table.len(), header.as_ptr(), header.len(), notion, further.as_ptr(), further.len(), symbols.as_ptr(),
+                symbols.len(), place.as_mut_ptr(), place.len(),
+            )
+        }
+    }
+
     /// What was told last of the secret with a number: its two verdicts, and the estimate size.
     pub fn told(&self, number: usize) -> Judgement {
         [self.judgement[2 * number], self.judgement[2 * number + 1], self.judgement[8]]
@@ -231,5 +256,11 @@ impl Library {
                 Err(refusal)
             }
         }
+    }
+
+    /// The place of the first leak among the symbols, or none.
+    pub fn first_leak(&mut self, notion: u8, symbols: &[u8]) -> Option<u64> {
+        assert_eq!(self.call_first_leak(&PROVED, notion, symbols), 0, "first leak");
+        Some(u64::from_le_bytes(self.place)).filter(|&place| place != 0)
     }
 }

@@ -1,8 +1,8 @@
 //! Measures four implementations of two jobs side by side: (a) the proved library, (b) plain Rust written for speed, (c) the textbook's trajectory
 //! estimator, (d) plain Rust that carries excuses forward. The jobs: `accept`, both verdicts and the estimate size for each event, and `offer`, the
 //! events that a weak enforcer releases and the estimate size. Each is done with one secret, and by (a) once more with three further ones. Every
-//! verdict, release and estimate size is compared first, event by event. Explorations of (a) are compared with plain ones, and measured. A
-//! difference or a missed goal ends the run with status 1.
+//! verdict, release and estimate size is compared first, event by event. Explorations of (a) are compared with plain ones, and measured, and so are first
+//! leaks. A difference or a missed goal ends the run with status 1.
 
 mod automata;
 mod cases;
@@ -10,6 +10,7 @@ mod clock;
 mod compare;
 mod excuses;
 mod exploration;
+mod first_leak;
 mod library;
 mod measure;
 mod native;
@@ -21,7 +22,7 @@ mod trajectories;
 
 use automata::{Automaton, Secret};
 use cases::{Case, ToExplore, EVENTS};
-use compare::{Compared, ComparedExplorations};
+use compare::{Compared, ComparedExplorations, ComparedLeaks};
 use library::Library;
 use measure::{Job, Least, Long, Times};
 use rows::BLOCKS;
@@ -36,12 +37,14 @@ const TIMES_TEXTBOOK: f64 = 20.0;
 const TIMES_SEVERAL: f64 = 3.0;
 /// An event of the longest trace takes at most so many times as long as one of the shortest: no growth, but for the clock.
 const TIMES_LONG: f64 = 1.2;
-/// Bytes of stack of each function that runs in a gateway: all but `opacity_explore`.
+/// Bytes of stack of each function but `opacity_explore`.
 const STACK: usize = 8 * 1024;
 /// Milliseconds in which the longest encoding is decoded: it lists 1,023 transitions, and each is compared with all before it.
 const DECODING: f64 = 20.0;
 /// Milliseconds in which an automaton is explored with the largest budget, whether it is spent or not.
 const EXPLORING: f64 = 100.0;
+/// How many symbols a long log has in which the first leak is looked for.
+const LOG: usize = 1_000_000;
 
 const JOBS: [Job; 2] = [Job::Accept, Job::Offer];
 
@@ -83,6 +86,24 @@ fn compare_explored<'a>(name: &str, cases: impl Iterator<Item = (&'a str, &'a Au
     cases.for_each(|(name, automaton, further)| compare::compare_explorations(name, automaton, further, &mut compared));
     let ComparedExplorations { whole, configurations, waiting, spent } = compared;
     println!("  {name:<14} {whole:>5} whole, with {configurations:>6} configurations, {waiting:>5} with waits; {spent:>5} beyond the largest budget");
+}
+
+fn compare_leaks(cases: &[Case]) {
+    println!("\nFirst leaks of (a) and plain ones compared, by both notions, each with and without further secrets:");
+    compare_leaks_on("those above", cases, 500);
+    compare_leaks_on("4000 small", &cases::small(), 24);
+    // The opening of some of these leaks.
+    compare_leaks_on("800 small", &cases::small_to_explore(), 24);
+}
+
+/// On each twice: with bytes of which any may leak, and with such that the first accepted ones do not, fewer than so many.
+fn compare_leaks_on(name: &str, cases: &[Case], calm: usize) {
+    let mut compared = ComparedLeaks::default();
+    for (i, case) in cases.iter().enumerate() {
+        [0, 7 * i % calm].into_iter().for_each(|first| compare::compare_leaks(case, first, 3 * calm, i as u64, &mut compared));
+    }
+    let ComparedLeaks { found, places, refused, none } = compared;
+    println!("  {name:<14} {found:>6} found, at places of {places:>6} in all, behind {refused:>6} refused bytes; {none:>6} without a leak");
 }
 
 /// All that is measured in rounds.
@@ -250,6 +271,16 @@ fn explored_row(case: &ToExplore, given: &[Secret], missed: &mut Missed) -> Stri
     format!(" {said:>16} {milliseconds:>8.2}")
 }
 
+fn print_leaks() {
+    println!("\nThe first leak of a log of {LOG} symbols in which nothing leaks, nanoseconds a symbol, best of {} passes", measure::REPETITIONS);
+    println!("{:<14} {:>8} {:>8} {:>8} {:>8} {:>8}", "automaton", "accept", "weak", "times", "strong", "times");
+    for (name, automaton) in [("P", automata::p()), ("mid", automata::mid()), ("large", automata::large(64))] {
+        let symbols = first_leak::without_leak(&automaton, LOG, 1);
+        let [accept, weak, strong] = measure::measure_leaks(&automaton, &symbols).map(|least| least.0);
+        println!("{name:<14} {:>8} {:>8} {:>8.2} {:>8} {:>8.2}", number(accept), number(weak), weak / accept, number(strong), strong / accept);
+    }
+}
+
 /// (a) alone for some seconds, for a profiler.
 fn only(job: &str, case: &Case, further: &[Secret]) {
     let mut library = Library::with(&case.automaton, further);
@@ -283,6 +314,7 @@ fn everything(cases: &[Case]) {
     let mut missed = Missed::new();
     compare_all(cases);
     compare_explorations(cases);
+    compare_leaks(cases);
     let measured = measure_all(cases);
     print_times(cases, &measured, &mut missed);
     print_several(cases, &measured, &mut missed);
@@ -291,6 +323,7 @@ fn everything(cases: &[Case]) {
     print_stack(cases, &mut missed);
     print_decoding(&mut missed);
     print_explorations(&mut missed);
+    print_leaks();
     println!("\n{:.0} s in all", begun.elapsed().as_secs_f64());
     let goals = format!(
         "(a) at most {TIMES_NATIVE} times (b) with its best block, on each; (c) at least {TIMES_TEXTBOOK} times (a) on large, chain and dense; with \
@@ -321,10 +354,14 @@ fn main() {
             print_explorations(&mut missed);
             conclude(&format!("an exploration in less than {EXPLORING} milliseconds."), missed);
         }
+        ["first-leak"] => {
+            compare_leaks(&cases);
+            print_leaks();
+        }
         ["only", job, name, several @ ..] if several.is_empty() || *several == ["several"] => {
             let case = cases.iter().find(|case| case.name == *name).expect("no such automaton");
             only(job, case, if several.is_empty() { &[] } else { &case.further });
         }
-        _ => panic!("usage: bench/run [stack | decoding | exploring | only JOB AUTOMATON [several]]"),
+        _ => panic!("usage: bench/run [stack | decoding | exploring | first-leak | only JOB AUTOMATON [several]]"),
     }
 }

@@ -206,6 +206,19 @@ pub fn measure_exploration(library: &mut Library) -> Least {
     least
 }
 
+/// Nanoseconds a symbol of a long list in which nothing leaks: an accept, and the first leak by each notion.
+pub fn measure_leaks(automaton: &Automaton, symbols: &[u8]) -> [Least; 3] {
+    let mut library = Library::new(automaton);
+    let mut least = [Least::NEW; 3];
+    for _ in 0..REPETITIONS {
+        least[0].time(symbols.len(), || library_pass(Job::Accept, &mut library, symbols));
+        for notion in [library::WEAK, library::STRONG] {
+            least[1 + notion as usize].time(symbols.len(), || assert_eq!(black_box(&mut library).first_leak(notion, black_box(symbols)), None));
+        }
+    }
+    least
+}
+
 /// (a) alone, accept and offer, on a trace that is too long to be passed undisturbed: the best of each piece of it is kept, and their mean counts.
 pub struct Long {
     pub trace: Vec<u8>,

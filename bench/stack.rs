@@ -16,13 +16,15 @@ struct Stack([u8; SIZE]);
 struct Call<'a> {
     library: &'a mut Library,
     functions: library::Functions,
-    encoding: &'a [u8],
-    event: u8,
+    /// The encoding, or offered symbols.
+    bytes: &'a [u8],
+    /// The symbol, or the notion.
+    byte: u8,
     answer: u8,
 }
 
 extern "C" fn decode(call: &mut Call) {
-    call.answer = call.library.call_decode(&call.functions, call.encoding);
+    call.answer = call.library.call_decode(&call.functions, call.bytes);
 }
 
 extern "C" fn fresh(call: &mut Call) {
@@ -30,7 +32,7 @@ extern "C" fn fresh(call: &mut Call) {
 }
 
 extern "C" fn accept(call: &mut Call) {
-    call.answer = call.library.call_accept(&call.functions, call.event);
+    call.answer = call.library.call_accept(&call.functions, call.byte);
 }
 
 extern "C" fn start(call: &mut Call) {
@@ -38,11 +40,15 @@ extern "C" fn start(call: &mut Call) {
 }
 
 extern "C" fn offer(call: &mut Call) {
-    call.answer = call.library.call_offer(&call.functions, call.event);
+    call.answer = call.library.call_offer(&call.functions, call.byte);
 }
 
 extern "C" fn explore(call: &mut Call) {
     call.answer = call.library.call_explore(&call.functions, MOST);
+}
+
+extern "C" fn first_leak(call: &mut Call) {
+    call.answer = call.library.call_first_leak(&call.functions, call.byte, call.bytes);
 }
 
 /// The bytes that lost their paint.
@@ -66,8 +72,8 @@ fn depth(stack: &mut Stack, job: extern "C" fn(&mut Call), call: &mut Call) -> u
 }
 
 /// The depth of one call, and its answer.
-fn measure(stack: &mut Stack, library: &mut Library, job: extern "C" fn(&mut Call), encoding: &[u8], event: u8) -> (usize, u8) {
-    let mut call = Call { library, functions: library::NOTHING, encoding, event, answer: 0 };
+fn measure(stack: &mut Stack, library: &mut Library, job: extern "C" fn(&mut Call), bytes: &[u8], byte: u8) -> (usize, u8) {
+    let mut call = Call { library, functions: library::NOTHING, bytes, byte, answer: 0 };
     let caller = depth(stack, job, &mut call);
     call.functions = library::PROVED;
     let all = depth(stack, job, &mut call);
@@ -82,28 +88,32 @@ pub fn exploring(case: &ToExplore) -> usize {
     bytes
 }
 
-/// The deepest of all calls on an automaton and its trace, with the further secrets, for each function but `opacity_explore`.
-pub fn depths(case: &Case) -> [(&'static str, Option<usize>); 5] {
+/// The deepest of all calls on an automaton and its trace, with the further secrets, for each function but `opacity_explore`. A first leak is looked for
+/// without them too, since then it goes further.
+pub fn depths(case: &Case) -> [(&'static str, Option<usize>); 6] {
     let (automaton, trace) = (&case.automaton, &case.trace);
     let mut stack = Box::new(Stack([0; SIZE]));
     let mut library = Library::with(automaton, &case.further);
     let encoding = automaton.encode().unwrap_or_default();
-    let mut measure = |library: &mut Library, job: extern "C" fn(&mut Call), event: u8| {
-        let (bytes, answer) = measure(&mut stack, library, job, &encoding, event);
+    let mut measure = |library: &mut Library, job: extern "C" fn(&mut Call), bytes: &[u8], byte: u8| {
+        let (bytes, answer) = measure(&mut stack, library, job, bytes, byte);
         assert_eq!(answer, 0, "refused");
         bytes
     };
     // An automaton that no encoding can list is not decoded.
-    let decoding = if encoding.is_empty() { None } else { Some(measure(&mut library, decode, 0)) };
-    let making = measure(&mut library, fresh, 0);
-    let starting = measure(&mut library, start, 0);
-    let accepting = trace.iter().map(|&event| measure(&mut library, accept, event)).max();
-    let offering = trace.iter().map(|&event| measure(&mut library, offer, event)).max();
+    let decoding = if encoding.is_empty() { None } else { Some(measure(&mut library, decode, &encoding, 0)) };
+    let making = measure(&mut library, fresh, &[], 0);
+    let starting = measure(&mut library, start, &[], 0);
+    let accepting = trace.iter().map(|&event| measure(&mut library, accept, &[], event)).max();
+    let offering = trace.iter().map(|&event| measure(&mut library, offer, &[], event)).max();
+    let mut alone = Library::new(automaton);
+    let finding = [library::WEAK, library::STRONG].map(|notion| [&mut library, &mut alone].map(|library| measure(library, first_leak, trace, notion)));
     [
         ("opacity_decode", decoding),
         ("opacity_fresh", Some(making)),
         ("opacity_accept", accepting),
         ("opacity_start", Some(starting)),
         ("opacity_offer", offering),
+        ("opacity_first_leak", finding.into_iter().flatten().max()),
     ]
 }

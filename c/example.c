@@ -1,8 +1,9 @@
 /* The worked example of the requirements through the C interface: decodes automaton P, runs the verifier and a weak enforcer over the trace 1 2 1 1,
    and prints a line for each event: its place, its symbol, the weak and the strong verdict, the estimate size, the released symbols. (P lists no
    symbols: each observable event has its own number.) Then the same with a further secret, whose verdicts follow those of P's own: it keeps back the
-   last event. At last explorations of P, with other K and further secrets: how many configurations there are and the largest waits, weak and strong, or
-   that the budget is spent. c/run compares the lines. */
+   last event. Then the first leaks of offered symbols, some of which are refused, by each notion and with further secrets: the place among the accepted
+   ones, or that there is none. At last explorations of P, with other K and further secrets: how many configurations there are and the largest waits,
+   weak and strong, or that the budget is spent. c/run compares the lines. */
 #include <stdio.h>
 
 #include "opacity.h"
@@ -19,6 +20,23 @@ static const uint8_t one[OPACITY_FURTHER_BYTES] = {
 /* Another one: state 0, with K 1. Every run passes it at first, and may leave it unobserved: a leak under strong alone. */
 static const uint8_t passed[OPACITY_FURTHER_BYTES] = {
     [OPACITY_FURTHER_COUNT] = 1, [OPACITY_FURTHER_STATES(1)] = 1 << 0, [OPACITY_FURTHER_K(1)] = 1};
+
+/* Offered symbols: 0 and 200 are never P's, and 2 not before a 1. Those that leak, a drift to state 3 that does not, and none that is accepted. */
+static const uint8_t leaking[] = {2, 1, 200, 0, 2, 1};
+static const uint8_t drifting[] = {0, 1, 200, 1, 2, 1, 1};
+static const uint8_t refused_all[] = {2, 0, 200};
+
+/* Whose first leak is looked for, by which notion and with which further secrets. */
+static const struct {
+    uint8_t notion;
+    const uint8_t *further, *symbols;
+    size_t length;
+} leaks[] = {
+    {OPACITY_WEAK, none, leaking, sizeof leaking},    {OPACITY_STRONG, none, leaking, sizeof leaking},
+    {OPACITY_WEAK, passed, leaking, sizeof leaking},  {OPACITY_STRONG, passed, leaking, sizeof leaking},
+    {OPACITY_WEAK, none, drifting, sizeof drifting},  {OPACITY_STRONG, none, drifting, sizeof drifting},
+    {OPACITY_WEAK, one, drifting, sizeof drifting},   {OPACITY_STRONG, passed, refused_all, sizeof refused_all},
+};
 
 /* What is explored: P with this K in place of its own, these further secrets, and this budget. */
 static const struct {
@@ -39,6 +57,7 @@ static uint8_t enforcer[OPACITY_ENFORCER_BYTES];
 static uint8_t judgement[OPACITY_JUDGEMENT_BYTES];
 static uint8_t output[OPACITY_OUTPUT_BYTES];
 static uint8_t release[OPACITY_RELEASE_BYTES];
+static uint8_t place[OPACITY_PLACE_BYTES];
 static uint8_t exploration[OPACITY_EXPLORATION_BYTES];
 
 static int refused(uint8_t number)
@@ -98,6 +117,33 @@ static int run(const uint8_t *further)
     return 0;
 }
 
+/* The first leaks, on the decoded automaton. */
+static void find_leaks(void)
+{
+    for (size_t i = 0; i < sizeof leaks / sizeof leaks[0]; i++) {
+        const uint8_t *further = leaks[i].further, *symbols = leaks[i].symbols;
+        uint64_t found = 0;
+        uint8_t answer;
+
+        answer = opacity_first_leak(table, OPACITY_TABLE_WORDS, header, sizeof header, leaks[i].notion, further, OPACITY_FURTHER_BYTES, symbols,
+                                    leaks[i].length, place, sizeof place);
+        printf("%s, %d further, offered", leaks[i].notion == OPACITY_WEAK ? "weak" : "strong", further[OPACITY_FURTHER_COUNT]);
+        for (size_t j = 0; j < leaks[i].length; j++)
+            printf(" %d", symbols[j]);
+        printf(": ");
+        if (answer != OPACITY_OK) {
+            refused(answer);
+            continue;
+        }
+        for (int j = OPACITY_PLACE_BYTES; 0 < j; j--)
+            found = found << 8 | place[j - 1];
+        if (found == 0)
+            printf("no leak\n");
+        else
+            printf("first leak at %llu\n", (unsigned long long)found);
+    }
+}
+
 /* The explorations, on the decoded automaton. */
 static void explore_all(void)
 {
@@ -126,6 +172,7 @@ int main(void)
         return refused(answer);
     if (run(none) || run(one))
         return 1;
+    find_leaks();
     explore_all();
     return 0;
 }

@@ -3,7 +3,7 @@
  *
  * Link with target/staticlib/libgateway.a, which `rt staticlib gateway` writes (x86-64). Nothing is allocated and nothing is kept between calls:
  * the caller lends all memory, and a header or a saved state is bytes of a fixed layout that may be stored, sent and copied. The contracts of the
- * six functions are `crates/gateway/specs/Interface.antt` (what each answers and leaves) and `crates/layout/specs` (the layouts); they are proved for
+ * seven functions are `crates/gateway/specs/Interface.antt` (what each answers and leaves) and `crates/layout/specs` (the layouts); they are proved for
  * every content of the bytes and every length. Words of the requirements, where ours differ: docs/GLOSSARY.md.
  *
  * Slices. A slice passes as a pointer and the number of its elements. C asks three things, which no function can test:
@@ -16,14 +16,16 @@
  * does not tell these apart. What is offered, remembered, pending and released is a symbol. Where an encoding lists none, each observable event's
  * symbol is its own number.
  *
- * Secrets. The automaton's own secret states and its K are secret number 0. A fresh estimator, a started enforcer or an exploration may be given up
- * to three further secrets (02: recipes), numbered 1 to 3 as they stand, each a set of states with its own K. They are kept in the saved state: no
- * later call is passed any, and every accepted symbol leaves them as they are. Each secret has its own verdicts, by its own K. "The largest K" is
- * that of all secrets that are given, the automaton's own among them: it says how many symbols are remembered, and how long one may be pending.
+ * Secrets. The automaton's own secret states and its K are secret number 0. A fresh estimator, a started enforcer, an exploration or a first leak may
+ * be given up to three further secrets (02: recipes), numbered 1 to 3 as they stand, each a set of states with its own K. They are kept in the saved
+ * state: no later call is passed any, and every accepted symbol leaves them as they are. Each secret has its own verdicts, by its own K. "The largest
+ * K" is that of all secrets that are given, the automaton's own among them: it says how many symbols are remembered, and how long one may be pending.
  *
- * Before delivery. `opacity_explore` visits every configuration that an accepted list leads to, within a budget, and says how long an event can ever
- * wait. It is for an engineer's machine: it needs 42 KB of stack (below). The other five are for the gateway and need at most 4,140 bytes
- * (docs/FIGURES.md); none of them calls it, and a program that does not call it and is linked with `-Wl,--gc-sections` does not contain it.
+ * In the gateway, before delivery, and afterwards. Five functions run in a gateway: `opacity_decode`, `opacity_fresh`, `opacity_accept`,
+ * `opacity_start` and `opacity_offer`; they need at most 4,140 bytes of stack (docs/FIGURES.md). `opacity_explore` is run before delivery, on an
+ * engineer's machine: it visits every configuration that an accepted list leads to, within a budget, and says how long an event can ever wait. It needs
+ * 42 KB of stack (below). `opacity_first_leak` is for support: it says where the first leak of a log is, and needs 4,300 bytes. None of the five calls
+ * either, and a program that does not call them and is linked with `-Wl,--gc-sections` does not contain them.
  *
  * Answers. Each function answers 0, or the number of a refusal, and after a refusal every slice is as it was before the call. Of several
  * refusals whose conditions hold, the answer is the one that the function's comment lists first. A slice of another length than its layout has gets
@@ -46,8 +48,10 @@
  *                                      state is outside its limits                                   all
  *   10   OPACITY_OUTPUT_TOO_SMALL      the output has fewer than 17 bytes                            offer
  *   12   OPACITY_REPEATED_TRANSITION   a transition is listed a second time                          decode
- *   13   OPACITY_TOO_MANY_SECRETS      more than three further secrets                               fresh, start, explore
- *   14   OPACITY_LOOK_BACK_TOO_LARGE   the K of a further secret that is given is above 15           fresh, start, explore
+ *   13   OPACITY_TOO_MANY_SECRETS      more than three further secrets                               fresh, start, explore,
+ *                                                                                                    first_leak
+ *   14   OPACITY_LOOK_BACK_TOO_LARGE   the K of a further secret that is given is above 15           fresh, start, explore,
+ *                                                                                                    first_leak
  *   15   OPACITY_BUDGET_SPENT          there are more different configurations than the budget       explore
  *
  * Table: 2,048 words. Word 64 * event + state is the set of the states that the event may lead to; bit q, counted from the least significant, is
@@ -116,6 +120,9 @@
  *   0, 1     the number of different configurations, 1 to 256, the least significant byte first
  *   2        the largest weak wait, 0 to the largest K + 1
  *   3        the largest strong wait, the same
+ *
+ * Place of a first leak: 8 bytes.
+ *   0..7     the place, from 1, of an event among the accepted ones, the least significant byte first; 0 where no accepted one leaks
  */
 #ifndef OPACITY_H
 #define OPACITY_H
@@ -132,6 +139,7 @@
 #define OPACITY_RELEASE_BYTES 2
 #define OPACITY_OUTPUT_BYTES 17           /* the least; more is taken */
 #define OPACITY_EXPLORATION_BYTES 4
+#define OPACITY_PLACE_BYTES 8
 #define OPACITY_ENCODING_MAX_BYTES 2210   /* the longest encoding */
 
 #define OPACITY_HEADER_K 1                /* the place of K in a header */
@@ -292,6 +300,30 @@ uint8_t opacity_explore(const uint64_t *table, size_t table_length,
                         const uint8_t *further, size_t further_length,
                         uint32_t budget,
                         uint8_t *exploration, size_t exploration_length);
+
+/*
+ * Finds the first leak of a long log (02: S-8): the place of the first accepted event whose verdict by one notion is a leak.
+ * Takes:   table and header of an automaton, the notion (OPACITY_WEAK or OPACITY_STRONG), the 28 bytes of the further secrets, the offered event bytes,
+ *          any number of them, and 8 bytes for the place, whatever they hold.
+ * Answers: 0: the place of the first accepted symbol after which the verdict by the notion, as `opacity_accept` gives it, is a leak for some secret
+ *             that is given; where there is none, the place 0. Places count accepted symbols, from 1: what `opacity_accept` would refuse by 6 or 7 is
+ *             passed over and not counted. What is offered behind that symbol has no influence.
+ *          9: a slice of a wrong length (the events' excepted), a notion above 1, the header's K above 15, an initial state above 63, or an
+ *             observable event's symbol above 31.
+ *          13: more than three further secrets.
+ *          14: the K of one that is given is above 15.
+ * The opening is no event: a leak of the empty trace, 8 of `opacity_start`, is not tested and never named, and a list without events has the place 0.
+ * A log that is larger than the memory can be mapped into it and passed in one slice. One that comes piece by piece can be followed by `opacity_fresh`,
+ * whose judgement of the opening does not count, and `opacity_accept`: the first leak is where a judgement has another verdict by the notion than
+ * OPACITY_NO_LEAK, of any secret. (It works out the verdicts by both notions, and takes longer: docs/FIGURES.md. The library in Rattle has a form for
+ * blocks, `leaks::Search`, and the programs `first_leak`, weak, and `first_strong_leak`, strong, read a log from standard input: docs/FORMATS.md.)
+ */
+uint8_t opacity_first_leak(const uint64_t *table, size_t table_length,
+                           const uint8_t *header, size_t header_length,
+                           uint8_t notion,
+                           const uint8_t *further, size_t further_length,
+                           const uint8_t *events, size_t events_length,
+                           uint8_t *place, size_t place_length);
 
 #ifdef __cplusplus
 }

@@ -7,12 +7,13 @@ and a call hands them back.
 """
 
 from explorations import MOST, explored
+from first_leaks import first_leak
 from logs import INCOMPATIBLE, INITIAL_LEAK, NOT_OBSERVABLE, Refused, decoded
 from runs import Listing
 from saved import (
-    ENFORCER_BYTES, ESTIMATOR_BYTES, EXPLORATION_BYTES, FURTHER, FURTHER_BYTES, HEADER_BYTES, JUDGEMENT_BYTES, NOTION, PENDING, RELEASE_BYTES,
-    SECRETS, SYMBOLS, WORDS, automaton_of, cleared, exploration_bytes, given_of, grown_enforcer, grown_estimator, header_of, judgement_bytes,
-    observable_of, safe_of, symbol_at, table_of, with_past,
+    ENFORCER_BYTES, ESTIMATOR_BYTES, EXPLORATION_BYTES, FURTHER, FURTHER_BYTES, HEADER_BYTES, JUDGEMENT_BYTES, NOTION, PENDING, PLACE_BYTES,
+    RELEASE_BYTES, SECRETS, SYMBOLS, WORDS, automaton_of, cleared, exploration_bytes, given_of, grown_enforcer, grown_estimator, header_of,
+    judgement_bytes, observable_of, place_bytes, safe_of, symbol_at, table_of, with_past,
 )
 
 MALFORMED, OUTPUT_TOO_SMALL = 9, 10
@@ -20,12 +21,12 @@ TOO_MANY_SECRETS, LOOK_BACK_TOO_LARGE, BUDGET_SPENT = 13, 14, 15
 # of the slices that have one size
 SIZES = {
     "header": HEADER_BYTES, "further": FURTHER_BYTES, "estimator": ESTIMATOR_BYTES, "judgement": JUDGEMENT_BYTES, "enforcer": ENFORCER_BYTES,
-    "release": RELEASE_BYTES, "exploration": EXPLORATION_BYTES,
+    "release": RELEASE_BYTES, "exploration": EXPLORATION_BYTES, "place": PLACE_BYTES,
 }
 # what each function but decode is lent of them, beside the header
 LENT = {
     "fresh": ("further", "estimator", "judgement"), "accept": ("estimator", "judgement"), "start": ("further", "enforcer"),
-    "offer": ("enforcer", "release"), "explore": ("further", "exploration"),
+    "offer": ("enforcer", "release"), "explore": ("further", "exploration"), "first_leak": ("further", "place"),
 }
 
 
@@ -55,7 +56,7 @@ class Calls:
     def __init__(self):
         self.lines, self.printed = [], []
         self.table = ()
-        names = "encoding", "header", "further", "estimator", "judgement", "enforcer", "output", "release", "exploration"
+        names = "encoding", "header", "further", "estimator", "judgement", "enforcer", "output", "release", "exploration", "events", "place"
         self.slices = {name: b"" for name in names}
         self.grown = {}  # an automaton and the bytes of a state, its further secrets among them, 0 past their count: the listing of its trace
         self.openings = {}  # an automaton and the further secrets that are given: the listing of the empty trace
@@ -121,9 +122,7 @@ class Calls:
 
     def opening(self):
         """The answer of fresh."""
-        if not self.sound("fresh"):
-            return MALFORMED
-        return secrets_fault(self.slices["further"]) or self.told(self.opened(), bytes(ESTIMATOR_BYTES))
+        return self.fault("fresh") or self.told(self.opened(), bytes(ESTIMATOR_BYTES))
 
     def accept(self, byte):
         """Offers a symbol, or any other byte, to an estimator."""
@@ -150,13 +149,11 @@ class Calls:
 
     def starting(self, notion):
         """The answer of start."""
-        if not self.sound("start") or notion > 1:
-            return MALFORMED
-        fault = secrets_fault(self.slices["further"])
+        fault = self.fault("start", notion)
         if fault:
             return fault
         listing = self.opened()
-        if 0 in map((listing.weak, listing.strong)[notion], range(len(listing.secrets))):
+        if 0 in listing.verdicts(notion):
             return INITIAL_LEAK
         self.keep("enforcer", grown_enforcer(listing, notion), listing, bytes(ENFORCER_BYTES))
         return 0
@@ -190,15 +187,25 @@ class Calls:
 
     def exploring(self, budget):
         """The answer of explore."""
-        if not self.sound("explore"):
-            return MALFORMED
-        fault = secrets_fault(self.slices["further"])
+        fault = self.fault("explore")
         if fault:
             return fault
         found = self.found()
         if found is None or min(budget, MOST) < found.count:
             return BUDGET_SPENT
         self.slices["exploration"] = exploration_bytes(found)
+        return 0
+
+    def first_leak(self, notion):
+        """Looks for the first leak of the offered bytes."""
+        return self.call(f"first_leak {notion}", self.searching(notion), "place")
+
+    def searching(self, notion):
+        """The answer of first_leak."""
+        fault = self.fault("first_leak", notion)
+        if fault:
+            return fault
+        self.slices["place"] = place_bytes(first_leak(self.opened(), notion, self.slices["events"]))
         return 0
 
     def open(self, function, symbol):
@@ -218,6 +225,10 @@ class Calls:
         header = self.slices["header"]
         fit = len(self.table) == WORDS and len(header) == HEADER_BYTES and header[0] <= 63 and header[1] <= 15
         return fit and max(self.symbols(), default=0) <= 31 and all(len(self.slices[name]) == SIZES[name] for name in LENT[function])
+
+    def fault(self, function, notion=0):
+        """What a function that is given further secrets answers before all else: 9, 13, 14, or 0 where it goes on."""
+        return secrets_fault(self.slices["further"]) if self.sound(function) and notion <= 1 else MALFORMED
 
     def look_back(self, data):
         """The largest K: the automaton's own, and those of the further secrets that a saved state holds."""

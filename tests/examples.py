@@ -1,6 +1,7 @@
 """The automata P, Q, T and U of 01, with the answers that it gives, and automata with symbols (S-2), with answers worked out by hand. In each line of
 an accepted event or of the opening the fifth field is the estimate size (S-5): for P's trace 2, 2, 2, 1 as S-5 has it, elsewhere counted by hand.
-And further secrets (S-6), with verdicts and releases worked out by hand; and explorations (S-7), with what they find worked out by hand."""
+And further secrets (S-6), with verdicts and releases worked out by hand; and explorations (S-7), with what they find worked out by hand; and first
+leaks (S-8), with their places worked out by hand."""
 
 from runs import Automaton, Secret
 
@@ -196,4 +197,73 @@ EXPLORATIONS = (
     *((rings(chain, 0, 239), 0, (), *found) for chain, found in ((15, (255, 1, 1)), (16, (256, 1, 1)), (17, (None,)))),
     *((subsets(chain, 0, {3}), 0, (), *found) for chain, found in ((0, (255, 1, 1)), (1, (256, 1, 1)), (2, (None,)))),
     *((hops(missing), 1, (secret(0, 5),), *found) for missing, found in ((0, (None,)), (1, (256, 1, 1)), (2, (255, 1, 1)))),
+)
+
+
+# initial states that are secret: with K 1, so that the first symbol is still too near; entered again by every second symbol; left unobserved, for a state
+# from which the first symbol may come, with K 0 and with K 1
+OPENING1 = Automaton(1, 0, 1, 0, {0}, {0}, OPENING.transitions)
+RETURNING = Automaton(1, 1, 0, 0, {0}, {1}, U.transitions)
+UNOBSERVED, UNOBSERVED1 = (Automaton(1, 1, k, 0, {0}, {1}, [(0, 0, 1), (1, 1, 1)]) for k in (0, 1))
+
+# STRONG_ONLY, and one more secret state, from which nothing leads
+WEAK_LATER = Automaton(3, 3, 2, 0, {1, 3}, {1, 2, 3}, STRONG_ONLY.transitions + [(0, 3, 3)])
+
+# however many symbols 0 came, nothing leaks; then the symbol 1 leads to the secret state for good
+AFTER_ANY = Automaton(1, 1, 0, 0, {1}, {0, 1}, [(0, 0, 0), (0, 1, 1), (1, 0, 1)])
+
+# an automaton, further secrets, the bytes that are offered; the place of the first weak leak, and of the first strong one
+FIRST_LEAKS = (
+    (P, (), (1, 2, 1, 1), 2, 2),
+    # 0 and 200 are no symbols; 2 does not come first, and not twice
+    (P, (), (0, 200, 2, 1, 0, 2, 2, 1, 1), 2, 2),
+    (P, (), (0, 1, 200, 2, 2, 1, 1), 2, 2),
+    (P, (), (1, 0, 200, 2), 2, 2),
+    (P, (), (1,), None, None),
+    (P, (), (), None, None),
+    # after 1 1 all runs are in 3, and stay
+    (P, (), (1, 1, 2, 1, 2, 1), None, None),
+    (P1, (), (1, 2, 1, 1), 2, 2),
+    (P0, (), (1, 2, 1, 1), None, None),
+    (Q, (), (1,), None, 1),
+    (Q, (), (0, 1, 1), None, 1),
+    (U, (), (1, 1), 1, 1),
+    # openings that leak and have no place: no event is accepted, none leaks, the first one still does, or a later one
+    (T, (), (), None, None),
+    (T, (), (0,), None, None),
+    (ONE, (), (), None, None),
+    (ONE, (), (0, 1), None, None),
+    (OPENING, (), (0, 0, 0), None, None),
+    (OPENING1, (), (1, 0, 0), 1, 1),
+    (RETURNING, (), (1, 0, 1, 1), 2, 2),
+    (UNOBSERVED, (), (1, 1), None, None),
+    (UNOBSERVED1, (), (0, 1, 1), None, 1),
+    # weak and strong differ
+    (STRONG_ONLY, (), (2, 1, 1, 2, 1), None, 2),
+    (WEAK_LATER, (), (2, 2, 0, 1, 1, 200, 3), 5, 3),
+    # symbols
+    (P_SYMBOLS, (), (2, 0, 1, 2, 31, 2), 2, 2),
+    (P_SYMBOLS, (), (1, 31, 0, 2, 1, 0), 2, 2),
+    (OWN_NUMBERS, (), (1, 2, 1, 1, 2, 0), 5, 5),
+    (ONE_SYMBOL, (), (7, 2, 0, 1, 7, 7, 2), None, None),
+    (LATER, (), (7, 7, 3, 7), 2, 2),
+    (AFTER_ANY, (), (1,), 1, 1),
+    (AFTER_ANY, (), (0,) * 5 + (1, 0, 0), 6, 6),
+    # P's own secret, now a further one with K 1, at each place; then with K 0, beside others with larger K
+    (P0, (secret(1, 1),), (1, 2, 1, 1), 2, 2),
+    (P0, (secret(0), secret(1, 1)), (1, 2, 1, 1), 2, 2),
+    (P0, (secret(0), secret(0), secret(1, 1)), (1, 2, 1, 1), 2, 2),
+    (P0, (secret(0, 1), secret(15)), (1, 2, 1, 1), None, None),
+    # all runs in 3, which is secret number 2, in the end
+    (P0, (secret(0), secret(0, 3)), (1, 2, 1, 1), 4, 4),
+    (P0, (secret(0), secret(0, 3), secret(9)), (1, 0, 1), 2, 2),
+    (P, (secret(0, 1), secret(1, 1, 3)), (1, 2), 1, 1),
+    # of the further secret under strong alone, and before that of the opening
+    (P, (secret(1, 0),), (1, 2, 1, 1), 2, 1),
+    (P, (secret(2, 0, 2),), (200, 1, 2), 1, 1),
+    # the opening is in secret number 1: still near, or no more, and then in number 2 or 3
+    (PASSING, (secret(3, 0),), (0, 0), 1, 1),
+    (PASSING, (secret(0, 0),), (0, 0), None, None),
+    (PASSING, (secret(0, 0), secret(0, 2)), (1, 0, 0, 0), 2, 2),
+    (PASSING, (secret(0, 0), secret(0), secret(0, 1)), (0, 0, 0), 1, 1),
 )

@@ -38,8 +38,7 @@ def wait_of(secret, steps):
 
 def waits_of(listing):
     """The largest weak wait and the largest strong one of all secrets, after the trace of a listing."""
-    secrets = list(enumerate(listing.secrets))
-    return max(wait_of(secret, listing.weak(i)) for i, secret in secrets), max(wait_of(secret, listing.strong(i)) for i, secret in secrets)
+    return tuple(max(map(wait_of, listing.secrets, listing.verdicts(notion))) for notion in (0, 1))
 
 
 def reached(opening, most=MOST, key=configuration):

@@ -10,29 +10,30 @@ import sys
 
 from calls import SIZES, Calls
 from examples import (
-    ALL_SECRET, CLOSING, CORNERS, EXPLORATIONS, LATER, NONE_SECRET, ONE, ONE_SYMBOL, OPENING, OWN_NUMBERS, P, P0, P1, P_ENCODING, P_SECRETS,
-    P_SYMBOLS, PASSING, Q, Q_ENCODING, STRONG_ONLY, T, U, WIDENING, hops, rings, secret, subsets,
+    AFTER_ANY, ALL_SECRET, CLOSING, CORNERS, EXPLORATIONS, FIRST_LEAKS, LATER, NONE_SECRET, ONE, ONE_SYMBOL, OPENING, OWN_NUMBERS, P, P0, P1,
+    P_ENCODING, P_SECRETS, P_SYMBOLS, PASSING, Q, Q_ENCODING, STRONG_ONLY, T, U, WEAK_LATER, WIDENING, hops, rings, secret, subsets,
 )
-from explorations import Exploration, configuration, explored, reached, waits_of
+from explorations import explored
 from generate import (
     any_bytes, cut_symbols, flipped_bits, further_bytes, many_transitions, out_of_range, padding_bits, random_automaton, random_offers, random_secrets,
     repeated, repeated_and_damaged, short_encoding, symbol_bit, with_repeat, with_symbols, with_transitions, wrong_count,
 )
 from logs import encoded
+from mistakes import OF_ONE, OF_SEVERAL, mistaken, mistaken_exploration, search_case
 from runs import Automaton, Listing, Secret, TooManyRuns
 from saved import (
-    ENFORCER_BYTES, ESTIMATOR_BYTES, EXPLORATION_BYTES, FURTHER_BYTES, HEADER_BYTES, JUDGEMENT_BYTES, NOTION, PENDING, RELEASE_BYTES, SECRETS,
-    SYMBOLS, WORDS, bits, estimator_bytes, header_of, secrets_bytes, table_of,
+    ENFORCER_BYTES, ESTIMATOR_BYTES, EXPLORATION_BYTES, FURTHER_BYTES, HEADER_BYTES, JUDGEMENT_BYTES, NOTION, PENDING, PLACE_BYTES, RELEASE_BYTES,
+    SECRETS, SYMBOLS, WORDS, bits, estimator_bytes, header_of, secrets_bytes, table_of,
 )
 from stored import store
 
-RANDOM, SEVERAL, DAMAGED, OPEN, EXPLORED = 150, 48, 80, 40, 40
+RANDOM, SEVERAL, DAMAGED, OPEN, EXPLORED, SEARCHED = 150, 48, 80, 40, 40, 304
 SEED = 5
 FOLDER = pathlib.Path(__file__).resolve().parent.parent / "crates" / "gateway_calls"
 
 # what is lent to be written over: bytes that no function writes, and for an output a different one in each place
-HEADER, ESTIMATOR, JUDGEMENT, ENFORCER, RELEASE, EXPLORATION = (
-    b"\xee" * size for size in (HEADER_BYTES, ESTIMATOR_BYTES, JUDGEMENT_BYTES, ENFORCER_BYTES, RELEASE_BYTES, EXPLORATION_BYTES)
+HEADER, ESTIMATOR, JUDGEMENT, ENFORCER, RELEASE, EXPLORATION, PLACE = (
+    b"\xee" * size for size in (HEADER_BYTES, ESTIMATOR_BYTES, JUDGEMENT_BYTES, ENFORCER_BYTES, RELEASE_BYTES, EXPLORATION_BYTES, PLACE_BYTES)
 )
 OUTPUT = bytes(range(0xA0, 0xB1))
 # the longest encoding there is: symbols, and 1,023 different transitions, the last with every bit 1
@@ -382,6 +383,7 @@ FUNCTIONS = (
     ("start", (0,), ("header", "further", "enforcer")),
     ("offer", (1,), ("header", "enforcer", "release")),
     ("explore", (256,), ("header", "further", "exploration")),
+    ("first_leak", (0,), ("header", "further", "place")),
 )
 
 
@@ -433,6 +435,8 @@ def ready(calls, function):
         calls.fresh()
     if function == "offer":
         calls.start(0)
+    if function == "first_leak":
+        calls.put(events=(0, 1, 2), place=PLACE)
 
 
 def outside_limits(calls):
@@ -861,44 +865,6 @@ def exploration_refusals(calls):
             explore(calls, 0)
 
 
-def without_opening(opening):
-    """What an exploration finds that does not judge the opening."""
-    listings = reached(opening)
-    waits = listings and [(0, 0)] + [waits_of(listing) for listing in listings[1:]]
-    return listings and Exploration(len(listings), max(weak for weak, _ in waits), max(strong for _, strong in waits))
-
-
-def sets_alone(listing):
-    """A configuration without its symbols."""
-    return configuration(listing)[1]
-
-
-def without_oldest(listing):
-    """A configuration without the set for the symbol before its symbols."""
-    return configuration(listing)[0], configuration(listing)[1][:-1]
-
-
-def possible(listing):
-    """A configuration with the unobservable transitions that follow each symbol."""
-    count = len(configuration(listing)[1])
-    ends = ({end for end, _ in listing.compatible[len(listing.trace) - back]} for back in range(count))
-    return configuration(listing)[0], tuple(map(frozenset, ends))
-
-
-def mistaken_exploration(kind, automaton, secrets):
-    """What a mistaken program would find: one that judges other secrets, or by events and not by symbols, that takes one notion for the other, leaves
-    out the opening, or takes different configurations for one."""
-    opening = Listing(automaton, secrets, 300)
-    if kind < 3:
-        return explored(Listing(*mistaken(automaton, secrets)[kind], 300))
-    if kind == 3:
-        return explored(Listing(with_symbols(automaton, None), secrets, 300))
-    if kind == 4:
-        found = explored(opening)
-        return found._replace(weak=found.strong, strong=found.weak)
-    return without_opening(opening) if kind == 5 else explored(opening, key=(sets_alone, without_oldest, possible)[kind - 6])
-
-
 def exploration_case(i):
     """An automaton and further secrets. Nine of ten tell a mistaken program by what is found; the tenth may have any number of configurations."""
     rng = random.Random(f"explorations {SEED} {i}")
@@ -920,6 +886,151 @@ def random_explorations(calls):
         rng, automaton, secrets = exploration_case(i)
         explore_around(calls, automaton, secrets)
         explore(calls, rng.randrange(300), rng.randrange(2 ** 32))
+
+
+# first leaks
+
+
+def search(calls, automaton, secrets, *offered, notions=(0, 1)):
+    """First leaks of offered bytes, of one list or of several, under either notion, each over what no function writes."""
+    calls.lend(automaton)
+    give(calls, secrets)
+    for events in offered:
+        calls.put(events=events)
+        for notion in notions:
+            search_again(calls, notion)
+
+
+def search_again(calls, *notions):
+    """The same with the slices as they are."""
+    for notion in notions:
+        if calls.slices["place"] != PLACE:
+            calls.put(place=PLACE)
+        calls.first_leak(notion)
+
+
+def first_leaks(calls):
+    """First leaks by hand, and of long lists, whose places need several bytes."""
+    calls.put(place=PLACE)
+    calls.say("first leak: places worked out by hand")
+    for automaton, secrets, offered, *_ in FIRST_LEAKS:
+        search(calls, automaton, secrets, offered)
+    calls.say("first leak: P, refused bytes before, between and behind the events, and at every place of the list one more")
+    whole = (1, 2, 1, 1)
+    search(calls, P, (), *(whole[:at] + (byte,) + whole[at:] for at in range(5) for byte in (0, 2, 255)), notions=(0,))
+    search(calls, P, (), (0, 2, 3, 255), (0, 2, 255, 1, 1, 200, 0, 2, 2), (32, 33, 34, 1, 33, 129, 34, 66, 2, 33), notions=(1,))
+    calls.say("first leak: a list that ends right before the event, right behind it, or goes on in any way")
+    search(calls, P, (), (1,), *((1, 2) + rest for rest in ((), (0,), (1,), (2, 2), (255,) * 9, (1, 1, 1, 1), (1, 2, 1, 2))))
+    search(calls, WEAK_LATER, (), *((2, 2, 1) + rest for rest in ((), (3,), (1,), (1, 3), (1, 3, 3), (1, 2, 3), (200, 1, 1, 3))))
+    calls.say("first leak: bytes of which the low bits are a symbol")
+    search(calls, ONE_SYMBOL, (), (7, 39, 71, 34, 2), (135, 231, 7, 66, 2))
+    search(calls, OWN_NUMBERS, (), (32, 64, 128, 1, 34, 2, 32, 0), (255, 224, 0))
+    calls.say("first leak: the leak is the first event of many, the last one, and none at all; places of one byte and of two")
+    lists = [bytes(size) + b"\x01" for size in (0, 1, 254, 255, 256, 300, 4095)]
+    lists += [b"\xff" * 300 + bytes(255) + b"\x02" * 40 + b"\x01" + b"\xff" * 300, b"\x01" + bytes(4095), bytes(4096), b"\x02" * 4096, bytes(257)]
+    search(calls, AFTER_ANY, (), *lists, notions=(0,))
+    search(calls, AFTER_ANY, (), bytes(511) + b"\x01\x00", bytes(4094) + b"\x02\x01", notions=(1,))
+    calls.say("first leak: the reader's view closes in on the secret state, or opens; one of 240 events in two rings; K 15")
+    search(calls, CLOSING, (), (1,) * 62, (1,) * 63, (1, 0) * 64)
+    search(calls, WIDENING, (), (1,) * 65)
+    search(calls, WIDENING, (secret(1), secret(0, *range(9)), secret(3, *range(5, 64))), (1,) * 12)
+    for automaton in (rings(2, 15, 200), rings(16, 0, 239), rings(1, 3)):
+        search(calls, automaton, (), (0,) * 300)
+    search(calls, CORNERS, (), (0, 32) + (31,) * 3)
+    search(calls, CORNERS, (secret(3, 60, 61), secret(0, 61)), (31,) * 3)
+    for k in (0, 14, 15):
+        # event 1 tells, 15 events later, that the first one led to state 1 and not to 2
+        chain = [(0, 0, 1), (0, 0, 17)] + [(at, 0, at + 1) for at in range(1, 15)] + [(17, 0, 17), (15, 1, 16)]
+        search(calls, Automaton(17, 1, k, 0, {1}, {0, 1}, chain), (), (0,) * 15 + (1,), (0,) * 15 + (1, 1))
+    calls.say("first leak: every transition, every state secret, and none; all but one")
+    for automaton, secrets in ((ALL_SECRET, ()), (NONE_SECRET, ()), (NONE_SECRET, (secret(3, *range(63)), secret(15, *range(1, 64))))):
+        search(calls, automaton, secrets, (32, 31, 0))
+    calls.say("first leak: 8 is not tested")
+    for automaton, secrets in ((OPENING, ()), (ONE, (secret(3, 0),)), (T, (secret(15, 0, 1),)), (P, (secret(1, 0, 2),)), (PASSING, (secret(0, 0),))):
+        search(calls, automaton, secrets, (1, 0, 0))
+        for notion in (0, 1):
+            calls.start(notion)
+    calls.say("first leak: after a trace as before it, and the next symbol as if nothing was looked for; the same list again, over the last place")
+    calls.lend(P)
+    observe(calls, (1, 2))
+    calls.put(events=(1, 0, 2), place=PLACE)
+    for notion in (0, 1, 0):
+        calls.first_leak(notion)
+    calls.accept(1)
+    calls.put(events=(2, 1))
+    calls.first_leak(0)
+
+
+def search_refusals(calls):
+    """9, 13 and 14, each before the next, whatever is offered, and what is left past the count of further secrets. The place stays as it was."""
+    calls.say("first leak: K 16 and 255, initial state 64 and 255, symbols above 31 of observable events, notion 2 and 255")
+    calls.lend(P)
+    lend_all(calls)
+    calls.put(events=(1, 2), place=range(1, 9))
+    for at, byte in ((1, 16), (1, 255), (0, 64), (0, 255), (SYMBOLS + 1, 32), (SYMBOLS + 2, 255)):
+        calls.put(header=changed(header_of(P), at, byte))
+        for notion in (0, 1):
+            assert calls.first_leak(notion) == 9
+    calls.lend(P)
+    for notion in (2, 3, 128, 255):
+        assert calls.first_leak(notion) == 9
+    calls.say("first leak: symbols above 31 of events that are not observable, and stray ones that are symbols of others")
+    for symbol in (32, 255, 1):
+        calls.put(header=changed(header_of(P), SYMBOLS, symbol), events=(symbol, 1, symbol, 2))
+        search_again(calls, 0, 1)
+    calls.say("first leak: 13, and 14, with events and without; the place of an earlier call stays")
+    calls.lend(P)
+    for events in ((1, 2), ()):
+        calls.put(events=events)
+        for data in FAULTS:
+            calls.put(further=data)
+            for notion in (0, 1):
+                assert calls.first_leak(notion) in (13, 14)
+    calls.put(further=secrets_bytes(()), events=(1, 2))
+    calls.first_leak(0)
+    for data in (FAULTS[0], FAULTS[2]):
+        calls.put(further=data)
+        calls.first_leak(0)
+    calls.say("first leak: past the count a K counts for nothing, above 15 or not, and a set neither")
+    for data in (with_backs(2, 1, 2, 16), with_backs(1, 0, 16, 255), with_backs(0, 16, 255, 16), with_backs(0, 15, 15, 15)):
+        calls.put(further=data, events=(1, 1, 1))
+        search_again(calls, 0)
+    calls.put(further=changed(secrets_bytes([secret(0), secret(0, 0, 1, 2, 3)]), 0, 1))
+    search_again(calls, 0, 1)
+    calls.put(further=changed(calls.slices["further"], 0, 2))
+    search_again(calls, 0, 1)
+    calls.say("first leak: 9 before 13 and 14")
+    for data in (with_backs(4, 16), with_backs(2, 0, 16), with_backs(0)):
+        calls.lend(P)
+        for size in (0, 1, 10, 27, 29):
+            calls.put(further=resized(data, size))
+            search_again(calls, 0)
+        calls.put(further=data)
+        for notion in (2, 255):
+            search_again(calls, notion)
+        for size in (0, 1, 4, 7, 9, 16):
+            calls.put(place=resized(PLACE, size))
+            assert calls.first_leak(1) == 9
+        for size in (0, 14, 45, 47):
+            calls.put(header=resized(header_of(P), size))
+            search_again(calls, 0)
+        for at, byte in ((0, 64), (1, 16), (SYMBOLS + 1, 32)):
+            calls.put(header=changed(header_of(P), at, byte))
+            search_again(calls, 1)
+        calls.lend(P)
+        for words in (calls.table[:2047], calls.table + (0,), ()):
+            calls.put_table(words)
+            search_again(calls, 0)
+
+
+def random_first_leaks(calls):
+    """Random automata, some with further secrets, and bytes to offer, of which some are refused. All but one of sixteen tell a mistaken program, every
+    other time by an event that is not the first."""
+    kinds = (*OF_ONE, *OF_SEVERAL, None)
+    calls.say("first leak: random automata")
+    for i in range(SEARCHED):
+        opening, offered = search_case(random.Random(f"searches {SEED} {i}"), kinds[i % len(kinds)], 2 * (i // len(kinds) % 2))
+        search(calls, opening.automaton, opening.secrets[1:], offered)
 
 
 # answers that are left open
@@ -1031,14 +1142,6 @@ def releases(automaton, secrets, offered):
     return [[rule and listing.longest(rule) for rule in rules] for _ in accepted]
 
 
-def mistaken(automaton, secrets):
-    """Other secrets that a mistaken program would judge by: with the largest K for each, with the automaton's own for each, without the last one."""
-    largest = max([automaton.k] + [given.k for given in secrets])
-    with_largest = with_symbols(automaton, automaton.symbols, largest), tuple(given._replace(k=largest) for given in secrets)
-    with_own = automaton, tuple(given._replace(k=automaton.k) for given in secrets)
-    return with_largest, with_own, (automaton, secrets[:-1])
-
-
 def several_case(i):
     """An automaton, further secrets, and bytes to offer. Three of four tell a mistaken program by what is released."""
     rng = random.Random(f"several {SEED} {i}")
@@ -1096,6 +1199,18 @@ def misread(calls):
         "explored 1",
         "exploration",
         "exploration 4 0:100",
+        "first_leak",
+        "first_leak x",
+        "first_leak -1",
+        "first_leak 256",
+        "first_leak 1 2",
+        "first_leaks 1",
+        "open first_leak 0",
+        "events",
+        "events 4097",
+        "events 3 0:100",
+        "place",
+        "place 8 0:100",
         "header",
         "header x",
         "header 4097",
@@ -1117,8 +1232,9 @@ def misread(calls):
         "released 2",
     ):
         calls.misread(line)
-    ready(calls, "accept")
-    calls.accept(1)
+    for function in ("accept", "first_leak"):
+        ready(calls, function)
+        getattr(calls, function)(1)
 
 
 def stored():
@@ -1143,6 +1259,8 @@ def stored():
         secret_limits,
         explorations,
         exploration_refusals,
+        first_leaks,
+        search_refusals,
         open_states,
         misread,
         random_decodings,
@@ -1150,6 +1268,7 @@ def stored():
         random_chains,
         random_several,
         random_explorations,
+        random_first_leaks,
     ):
         part(calls)
     return {"stdin": "".join(line + "\n" for line in calls.lines).encode(), "stdout": "".join(line + "\n" for line in calls.printed).encode()}

@@ -140,11 +140,11 @@ def random_byte(rng, automaton):
     return rng.choice((rng.choice(numbers), rng.choice(numbers), rng.choice(numbers) + 32 * rng.randrange(8), rng.randrange(256)))
 
 
-def random_offers(rng, automaton, count):
-    """A random trace, with other bytes among its symbols, which need be no symbols, or cannot follow."""
+def random_offers(rng, automaton, count, often=0.12):
+    """A random trace, with other bytes among its symbols, more or less often, which need be no symbols, or cannot follow."""
     offered = bytearray()
     for symbol in random_trace(rng, automaton, count) + [None]:
-        while rng.random() < 0.12:
+        while rng.random() < often:
             offered.append(random_byte(rng, automaton))
         if symbol is not None:
             offered.append(symbol)
@@ -229,6 +229,12 @@ def with_symbols(automaton, symbols, k=None):
     return Automaton(*tops, back, automaton.initial, automaton.secret, automaton.observable, automaton.transitions, symbols)
 
 
+def with_secret(automaton, secret):
+    """The automaton with other secret states."""
+    tops = automaton.top_state, automaton.top_event
+    return Automaton(*tops, automaton.k, automaton.initial, secret, automaton.observable, automaton.transitions, automaton.symbols)
+
+
 def out_of_range(rng, automaton, offered):
     """A state or an event is above the top one, where its field has room for such a number."""
     initial, transitions = automaton.initial, [list(t) for t in automaton.transitions]
@@ -297,30 +303,29 @@ def idle_log(rng):
     automaton = random_automaton(rng)
     unobservable = [e for e in range(automaton.top_event + 1) if e not in automaton.observable]
     if unobservable and rng.random() < 0.5:
-        first, tops = automaton.initial, (automaton.top_state, automaton.top_event)
-        leaving = first, rng.choice(unobservable), rng.randrange(automaton.top_state + 1)
+        leaving = automaton.initial, rng.choice(unobservable), rng.randrange(automaton.top_state + 1)
         transitions = list(dict.fromkeys([*automaton.transitions, leaving]))
-        automaton = Automaton(*tops, automaton.k, first, automaton.secret | {first}, automaton.observable, transitions, automaton.symbols)
+        automaton = with_secret(with_transitions(automaton, transitions), automaton.secret | {automaton.initial})
     return with_length(encoded(automaton), b"")
 
 
-def random_log(rng):
-    """The bytes of a log, and what the log program prints for them. One of eight is idle, and one of sixteen has many states."""
+def random_log(rng, printed=output):
+    """The bytes of a log, and what the log program, or another one, prints for them. One of eight is idle, and one of sixteen has many states."""
     kind = rng.random()
     if kind < 0.125:
-        return cut_to_size(idle_log(rng))
+        return cut_to_size(idle_log(rng), printed)
     automaton = wide_automaton(rng) if 0.9375 <= kind else random_automaton(rng)
     offered = random_offers(rng, automaton, rng.choice((1, 2, 3, 4, 5, 6, 6, 8, 12, 24, 40)))
     log = with_length(encoded(automaton), offered)
     if rng.random() < 0.25:
         log = rng.choice(DAMAGES)(rng, automaton, offered)
-    return cut_to_size(log)
+    return cut_to_size(log, printed)
 
 
-def cut_to_size(log):
-    """The log, cut to so few symbols that its runs can be listed, and what the log program prints for it."""
+def cut_to_size(log, printed):
+    """The log, cut to so few symbols that its runs can be listed, and what the program prints for it."""
     while True:
         try:
-            return log, output(log)
+            return log, printed(log)
         except TooManyRuns:
             log = log[: len(log) * 7 // 8]

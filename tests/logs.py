@@ -90,19 +90,28 @@ def decoded(data):
     return Automaton(top_state, top_event, k, initial, secret, observable, transitions, symbols)
 
 
-def opened(log):
-    """The listing with which a log starts, and the bytes that it offers; the refusals of a log in their order."""
+def started(log):
+    """The listing with which a log starts, whatever its opening leaks, and the bytes that it offers; the refusals of an encoding in their order."""
     demand(2 <= len(log), TRUNCATED)
     length = 256 * log[0] + log[1]
     demand(2 + length <= len(log), TRUNCATED)
-    automaton = decoded(log[2 : 2 + length])
-    listing = Listing(automaton)
+    return Listing(decoded(log[2 : 2 + length])), log[2 + length :]
+
+
+def opened(log):
+    """The same where a weak enforcer starts with it; the refusals of a log in their order."""
+    listing, offered = started(log)
     demand(listing.weak() is None, INITIAL_LEAK)
-    return listing, log[2 + length :]
+    return listing, offered
+
+
+def refused_line(refused):
+    """What is printed for a log that is refused."""
+    return f"refused {refused.args[0]}\n"
 
 
 def steps(verdict):
-    """A verdict as it is printed."""
+    """A verdict as it is printed, or the place of one."""
     return "-" if verdict is None else str(verdict)
 
 
@@ -128,7 +137,7 @@ def output(log):
     try:
         listing, offered = opened(log)
     except Refused as refused:
-        return f"refused {refused.args[0]}\n"
+        return refused_line(refused)
     lines, released = [], 0
     if not offered:
         lines.append(f"0 - {judgement(listing)} -")

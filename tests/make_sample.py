@@ -1,22 +1,29 @@
 """Writes the stored logs and what they print, as the lister expects it: `python3 tests/make_sample.py`.
 
 crates/log_sample/stdin has the logs one after another, each with its length in two bytes, high first, before it; crates/log_sample/stdout
-has what each prints. With `--check` nothing is written, and the exit status is 1 where the files differ from what would be written.
+has what each prints. crates/leak_sample has logs in which a first leak is looked for (S-8), each with a notion, 0 weak or 1 strong, in one more byte in
+front; crates/first_leak and crates/first_strong_leak have one such log each. With `--check` nothing is written, and the exit status is 1 where the files
+differ from what would be written.
 """
 
 import pathlib
 import random
 import sys
 
-from examples import CLOSING, ENCODINGS, EXAMPLES, ONE_SYMBOL, P_ENCODING, P_SYMBOLS, T, WIDENING
+from examples import AFTER_ANY, CLOSING, ENCODINGS, EXAMPLES, FIRST_LEAKS, ONE_SYMBOL, P_ENCODING, P_SYMBOLS, T, WEAK_LATER, WIDENING
+from first_leaks import leak_output
 from generate import many_transitions, random_log, with_length, with_repeat, with_symbols, with_transitions
 from logs import encoded, output
+from mistakes import OF_ONE, search_case
 from runs import Automaton
 from stored import store
 
-RANDOM = 220
+RANDOM, SEARCHED, ANY = 220, 220, 80
 SEED = 6
-FOLDER = pathlib.Path(__file__).resolve().parent.parent / "crates" / "log_sample"
+CRATES = pathlib.Path(__file__).resolve().parent.parent / "crates"
+# the programs that look for a first leak, each with its notion, and the log that is stored for both: there are refused bytes among its events, and the first
+# strong leak comes before the first weak one
+SEARCHES = {name: (notion, WEAK_LATER, (2, 2, 0, 1, 1, 200, 3)) for notion, name in enumerate(("first_leak", "first_strong_leak"))}
 
 
 def longest_release():
@@ -135,8 +142,8 @@ def idle():
     yield with_length(longest, b"")
 
 
-def logs():
-    """The logs of the sample."""
+def examples():
+    """01's examples, encodings that are refused, and P's log cut at every byte."""
     for automaton, offered, _ in EXAMPLES:
         yield with_length(encoded(automaton), bytes(offered))
     for encoding, _ in ENCODINGS:
@@ -144,6 +151,11 @@ def logs():
     whole = with_length(P_ENCODING, bytes((1, 2, 1, 1)))
     for end in range(len(whole)):
         yield whole[:end]
+
+
+def logs():
+    """The logs of the sample."""
+    yield from examples()
     yield from longest_release()
     yield from sizes()
     yield from largest()
@@ -154,6 +166,46 @@ def logs():
     yield from idle()
     for i in range(RANDOM):
         yield random_log(random.Random(f"{SEED} {i}"))[0]
+
+
+def leaks():
+    """Logs with a leak at each place of the first ones, behind encodings of different lengths, with fewer bytes behind it and more; with refused bytes
+    before it; far from the start; and nowhere."""
+    for automaton, further, offered, *_ in FIRST_LEAKS:
+        if not further:
+            yield with_length(encoded(automaton), bytes(offered))
+    encodings = [encoded(Automaton(top, 1, 0, 0, {1}, {0, 1}, AFTER_ANY.transitions)) for top in (1, 9, 17)]
+    for encoding in encodings:
+        for place in range(1, 8):
+            for behind in range(4):
+                yield with_length(encoding, bytes(place - 1) + b"\x01" + bytes(behind))
+        for count in range(6):
+            yield with_length(encoding, bytes([200] * count + [0] + [2] * count + [1, 0]))
+            yield with_length(encoding, bytes(count))
+    for place in (255, 256, 257, 2000):
+        yield with_length(encodings[0], bytes(place - 1) + b"\x01" + bytes(place % 7))
+    yield with_length(encodings[0], bytes(300) + b"\x02" * 300 + bytes(299) + b"\x01")
+    yield with_length(encodings[0], bytes(1000))
+
+
+def searched():
+    """The logs of the other sample, each with a notion; most with either. Of the random ones all but one of eleven tell a mistaken program, every other
+    time by an event that is not the first."""
+    for part in (examples, leaks, longest_release, sizes, symbols, near_repeats):
+        for log in part():
+            yield from ((0, log), (1, log))
+    for part in (largest, repeats, idle):
+        for i, log in enumerate(part()):
+            yield i % 2, log
+    kinds = (*OF_ONE, None)
+    for i in range(SEARCHED):
+        rng = random.Random(f"searches {SEED} {i}")
+        opening, offered = search_case(rng, kinds[i % len(kinds)], 2 * (i // len(kinds) % 2), several=False)
+        log = with_length(encoded(opening.automaton), offered)
+        yield from ((0, log), (1, log))
+    for i in range(ANY):
+        notion = i % 2
+        yield notion, random_log(random.Random(f"any {SEED} {i}"), lambda log: leak_output(log, notion))[0]
 
 
 def behind_size(log, more=0):
@@ -172,5 +224,27 @@ def sample():
     }
 
 
+def leak_sample():
+    """The same of first leaks, each log behind its notion and its length."""
+    listed = list(searched())
+    last = with_length(encoded(T), b"")
+    return {
+        "stdin": b"".join(bytes([notion]) + behind_size(log) for notion, log in listed) + b"\x01" + behind_size(last, 100),
+        "stdout": "".join(leak_output(log, notion) for notion, log in [*listed, (1, last)]).encode("ascii"),
+    }
+
+
+def one_leak(notion, automaton, offered):
+    """The files of a program that looks for a first leak."""
+    log = with_length(encoded(automaton), bytes(offered))
+    return {"stdin": log, "stdout": leak_output(log, notion).encode("ascii")}
+
+
+def main():
+    """Writes all, or compares all: the exit status."""
+    files = {"log_sample": sample(), "leak_sample": leak_sample(), **{name: one_leak(*search) for name, search in SEARCHES.items()}}
+    return max([store(CRATES / name, stored) for name, stored in files.items()])
+
+
 if __name__ == "__main__":
-    sys.exit(store(FOLDER, sample()))
+    sys.exit(main())

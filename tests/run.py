@@ -3,6 +3,9 @@
 Each log's output is compared with what the lister expects, some of them in pieces. Before them come what no file can show: a live feed, whose lines
 have to come with their symbols, the first bytes one by one, and reads and writes that fail; and the longest encoding with a transition listed twice,
 at each of its 1,022 distances. The first mismatch is printed, with what is needed to repeat it, and the exit status is 1.
+
+With `--kind weak` or `--kind strong` the program is one that looks for the first leak of a log (S-8). Its line has to come with the event that leaks, and
+the program has to end then, though the feed goes on.
 """
 
 import argparse
@@ -13,27 +16,56 @@ import socket
 import struct
 import subprocess
 import sys
+import tempfile
 import time
 
-from examples import EXAMPLES
-from generate import many_transitions, random_log, random_trace, with_length, with_transitions
+from examples import AFTER_ANY, ENCODINGS, EXAMPLES, FIRST_LEAKS, P_ENCODING
+from first_leaks import first_leak, leak_output
+from generate import cut_to_size, many_transitions, random_log, random_trace, with_length, with_transitions
 from logs import encoded, output
-from runs import Automaton
+from mistakes import OF_ONE, search_case
+from runs import Automaton, Listing
+
+# what each kind of program prints for a log; those that look for a first leak have a notion
+NOTIONS = {"log": None, "weak": 0, "strong": 1}
+PRINTED = {"log": output, "weak": lambda log: leak_output(log, 0), "strong": lambda log: leak_output(log, 1)}
 
 # the symbols of this one need several reads and writes
 LONG = 600000
 WANDERING = Automaton(3, 2, 2, 0, {1}, {1, 2}, [(0, 0, 2), (0, 1, 1), (1, 2, 0), (2, 1, 3), (3, 1, 3), (3, 2, 0)])
+# the same with another secret: a state to which the symbol 3 alone leads, from each state
+TO_SECRET = Automaton(4, 3, 2, 0, {4}, {1, 2, 3}, WANDERING.transitions + [(q, 3, 4) for q in range(5)] + [(4, 1, 4)])
 
 
-def long_log(rng):
-    """A log that no buffer of the program holds, and what it prints."""
-    log = with_length(encoded(WANDERING), bytes(random_trace(rng, WANDERING, LONG)))
-    return log, output(log)
+def long_logs(rng, notion):
+    """Logs that no buffer of the program holds. Where a first leak is looked for: one late, one that is the last byte, and none, each with refused bytes
+    among the events."""
+    trace = bytes(random_trace(rng, WANDERING, LONG))
+    if notion is None:
+        return [with_length(encoded(WANDERING), trace)]
+    offered = b"\x00\xc8".join(trace[at : at + 997] for at in range(0, LONG, 997))
+    return [with_length(encoded(TO_SECRET), end) for end in (offered[:-1000] + b"\x03" + b"\x01" * 1000, offered + b"\x03", offered)]
+
+
+def edge_logs(notion):
+    """Where a first leak is looked for: logs whose last byte but three, around the end of a read or of the program's room, is the leak."""
+    front = with_length(encoded(AFTER_ANY), b"")
+    sizes = () if notion is None else (65536, 65538, 131072)  # a read; the longest length and encoding; the room
+    return [front + bytes(size + off - 1 - len(front)) + b"\x01" + bytes(3) for size in sizes for off in (-1, 0, 1, 2)]
 
 
 def printed(program, log):
     """What the program prints for a log, and its exit status."""
     done = subprocess.run([program], input=log, stdout=subprocess.PIPE, stderr=subprocess.PIPE, timeout=60, check=False)
+    return done.stdout.decode("ascii", "replace"), done.returncode
+
+
+def printed_whole(program, log):
+    """The same, where the program reads the log from a file, so that each read brings all that there is room for."""
+    with tempfile.TemporaryFile() as file:
+        file.write(log)
+        file.seek(0)
+        done = subprocess.run([program], stdin=file, stdout=subprocess.PIPE, stderr=subprocess.PIPE, timeout=60, check=False)
     return done.stdout.decode("ascii", "replace"), done.returncode
 
 
@@ -65,11 +97,16 @@ def line_of(process, seconds=5):
     return line.decode("ascii", "replace")
 
 
-def live_lines(process, automaton, offered, lines):
-    """The bytes of a log one by one, with its lines. Says what is wrong, or nothing."""
-    for byte in with_length(encoded(automaton), b""):
+def feed_encoding(process, encoding):
+    """The first bytes of a log, one by one."""
+    for byte in with_length(encoding, b""):
         process.stdin.write(bytes([byte]))
         time.sleep(0.0005)
+
+
+def live_lines(process, automaton, offered, lines):
+    """The bytes of a log one by one, with its lines. Says what is wrong, or nothing."""
+    feed_encoding(process, encoded(automaton))
     if lines[0].startswith("refused"):
         return None if line_of(process) == lines[0] else "live feed: a refused log does not say so at once"
     if not offered and line_of(process, 0.05):
@@ -98,6 +135,47 @@ def live_feed(program):
     return None
 
 
+def ended(process, line):
+    """Whether the program prints a line and no more, and ends."""
+    try:
+        return line_of(process) == line and process.wait(timeout=5) == 0 and not process.stdout.read()
+    except subprocess.TimeoutExpired:
+        return False
+
+
+def live_place(process, encoding, offered, place, needed):
+    """The bytes of a log one by one, of which so many are needed for the place that is printed, or all of them and the end. Says what is wrong, or
+    nothing."""
+    feed_encoding(process, encoding)
+    for at in range(len(offered) if needed is None else needed):
+        if line_of(process, 0.01):
+            return f"live feed: a line before byte {at} of {offered}"
+        process.stdin.write(offered[at : at + 1])
+    if needed is None:
+        if line_of(process, 0.01):
+            return f"live feed: a line before the end of {offered}"
+        process.stdin.close()
+    return None if ended(process, place) else f"live feed: {offered} does not end with {place!r} at once"
+
+
+def live_search(program, notion):
+    """A live feed of each example of a first leak, byte by byte: the line comes with the event that leaks, and the program ends, though the feed is
+    still open; elsewhere with the end. Of a log that is refused the line comes behind the encoding. Says what is wrong, or nothing."""
+    feeds = [(encoding, b"", f"refused {number}\n", 0) for encoding, number in ENCODINGS]
+    for automaton, further, listed, *places in FIRST_LEAKS:
+        if not further:
+            offered, opening = bytes(listed), Listing(automaton)
+            needed = next((end for end in range(len(offered) + 1) if first_leak(opening, notion, offered[:end])), None)
+            feeds.append((encoded(automaton), offered, "-\n" if needed is None else f"{places[notion]}\n", needed))
+    for feed in feeds:
+        with subprocess.Popen([program], stdin=subprocess.PIPE, stdout=subprocess.PIPE, bufsize=0) as process:
+            wrong = live_place(process, *feed)
+            process.kill()
+            if wrong:
+                return wrong
+    return None
+
+
 def reset_feed(program, data):
     """What the program prints, says on standard error and ends with, where a feed breaks off behind some bytes."""
     with socket.create_server(("127.0.0.1", 0)) as server:
@@ -113,21 +191,28 @@ def reset_feed(program, data):
         return out, error, process.returncode
 
 
-def failures(program):
+def broken_feeds(notion):
+    """Feeds that break off behind the encoding or an event, with what is printed and said. Behind the first leak no more is read."""
+    front, failed = with_length(P_ENCODING, b""), b"read failed\n"
+    if notion is None:
+        return (front, b"", failed), (front + b"\x00", b"! 0 6\n", failed)
+    return (front[:5], b"", failed), (front, b"", failed), (front + b"\x00\x01", b"", failed), (front + b"\x00\x01\x02", b"2\n", b"")
+
+
+def failures(program, notion):
     """A read that fails, the first one or one behind the encoding or an event, and writes that do: each has its words, and there is no last line. Says
     what is wrong, or nothing."""
-    automaton, offered, _ = EXAMPLES[0]
-    log = with_length(encoded(automaton), bytes(offered))
+    log = with_length(P_ENCODING, bytes((1, 2, 1, 1)))
     folder = os.open("/", os.O_RDONLY)
     done = subprocess.run([program], stdin=folder, stdout=subprocess.PIPE, stderr=subprocess.PIPE, timeout=60, check=False)
     os.close(folder)
     if (done.stdout, done.stderr, done.returncode) != (b"", b"read failed\n", 0):
         return f"a folder as input: {done}"
-    front = with_length(encoded(automaton), b"")
-    for data, expected in ((front, b""), (front + b"\x00", b"! 0 6\n")):
-        if reset_feed(program, data) != (expected, b"read failed\n", 0):
-            return f"a feed that breaks off behind {data.hex(' ')}: {reset_feed(program, data)}"
-    for name, data in (("a log", log), ("a refused log", log[:5])):
+    for data, expected, said in broken_feeds(notion):
+        got = reset_feed(program, data)
+        if got != (expected, said, 0):
+            return f"a feed that breaks off behind {data.hex(' ')}: {got}"
+    for name, data in (("a log", log), ("its first event", log[:-3]), ("a refused log", log[:5])):
         with open("/dev/full", "wb") as full:
             done = subprocess.run([program], input=data, stdout=full, stderr=subprocess.PIPE, timeout=60, check=False)
         if (done.stderr, done.returncode) != (b"write failed\n", 0):
@@ -148,36 +233,57 @@ def distances(program):
 
 
 def mismatch(program, log, expected, pieces):
-    """Says in which way the program's output differs from what is expected, or nothing."""
-    got, status = printed(program, log) if pieces == 1 else printed_slowly(program, log, pieces)
+    """Says in which way the program's output differs from what is expected, or nothing. In no pieces: from a file."""
+    got, status = (printed_whole, printed)[pieces](program, log) if pieces < 2 else printed_slowly(program, log, pieces)
     if (got, status) == (expected, 0):
         return None
     return f"log ({len(log)} bytes, in {pieces} pieces): {log[:600].hex(' ')}\nexpected:\n{expected[:3000]}\nprinted (status {status}):\n{got[:3000]}"
+
+
+def searched_log(rng, printed):
+    """A log by whose first leak a mistaken program is told, under one notion or either, and what the program prints for it."""
+    opening, offered = search_case(rng, rng.choice(OF_ONE), several=False)
+    return cut_to_size(with_length(encoded(opening.automaton), offered), printed)
+
+
+def cases(kind, seed, count):
+    """The long logs and the random ones: a number, the log, what is printed for it, and in how many pieces it comes. Where a first leak is looked for,
+    every other random one is such that it tells a mistaken program."""
+    notion, expected = NOTIONS[kind], PRINTED[kind]
+    long = [(log, 1) for log in long_logs(random.Random(f"{seed} -1"), notion)] + [(log, 0) for log in edge_logs(notion)]
+    for i, (log, pieces) in enumerate(long):
+        yield -1 - i, log, expected(log), pieces
+    for i in range(count):
+        rng = random.Random(f"{seed} {i}")
+        yield i, *(random_log(rng, expected) if notion is None or i % 2 else searched_log(rng, expected)), (1, 1, 0, 0, 1, 1, 1, 1, 3, 3)[i % 10]
 
 
 def main():
     """Runs the logs."""
     words = argparse.ArgumentParser(description=__doc__, formatter_class=argparse.RawDescriptionHelpFormatter)
     words.add_argument("--program", default="target/bin/opacity_log")
+    words.add_argument("--kind", choices=sorted(NOTIONS), default="log")
     words.add_argument("--count", type=int, default=2000)
     words.add_argument("--seed", type=int, default=1)
     chosen = words.parse_args()
-    found = live_feed(chosen.program) or failures(chosen.program) or distances(chosen.program)
+    notion = NOTIONS[chosen.kind]
+    found = live_feed(chosen.program) if notion is None else live_search(chosen.program, notion)
+    found = found or failures(chosen.program, notion) or distances(chosen.program)
     if found:
         print(found)
         return 1
-    lines = idle = 0
-    for i in range(-1, chosen.count):
-        rng = random.Random(f"{chosen.seed} {i}")
-        log, expected = long_log(rng) if i == -1 else random_log(rng)
-        found = mismatch(chosen.program, log, expected, 3 if 0 <= i and i % 10 == 9 else 1)
+    lines = idle = places = 0
+    for i, log, expected, pieces in cases(chosen.kind, chosen.seed, chosen.count):
+        found = mismatch(chosen.program, log, expected, pieces)
         if found:
             print(f"seed {chosen.seed}, log {i}: mismatch\n{found}")
             return 1
         lines += expected.count("\n")
         idle += expected.startswith("0 ")
-    logs = f"{chosen.count} random logs, of which {idle} are idle, and a long one"
-    print(f"seed {chosen.seed}: {logs}, {lines} lines, 0 mismatches; a live feed, failures and repeats as expected")
+        places += notion is not None and expected[0].isdigit()
+    logs = f"{chosen.count} random logs, of which {idle} are idle, and a long one" if notion is None else f"{chosen.count} random logs and long ones"
+    counted = f"{lines} lines" if notion is None else f"{places} with a leak"
+    print(f"seed {chosen.seed}: {logs}, {counted}, 0 mismatches; a live feed, failures and repeats as expected")
     return 0
 
 

@@ -121,10 +121,15 @@ class Listing:
         self.compatible.pop(oldest - 1, None)
         return True
 
-    def longer(self, symbol):
-        """A listing by one symbol longer, or None where no run is compatible with it; this one stays as it is."""
+    def again(self):
+        """The same listing once more, which grows by itself."""
         other = copy.copy(self)
         other.trace, other.entered, other.compatible = list(self.trace), list(self.entered), dict(self.compatible)
+        return other
+
+    def longer(self, symbol):
+        """A listing by one symbol longer, or None where no run is compatible with it; this one stays as it is."""
+        other = self.again()
         return other if other.accept(symbol) else None
 
     def positions(self, prefix, number):
@@ -147,6 +152,10 @@ class Listing:
         n = len(self.trace)
         runs = self.positions(n, number)
         return next((steps for steps in range(min(self.secrets[number].k, n) + 1) if sure_from(runs, n - steps)), None)
+
+    def verdicts(self, notion):
+        """The verdict of each secret under a notion: 0 is weak, 1 strong."""
+        return [(self.weak, self.strong)[notion](number) for number in range(len(self.secrets))]
 
     def weak_safe_for(self, number, prefix, further=0):
         """Whether the prefix of this length is safe under weak for one secret, or will be with so many further symbols."""

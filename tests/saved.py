@@ -4,6 +4,7 @@ from runs import Automaton, Secret
 
 WORDS = 2048
 HEADER_BYTES, FURTHER_BYTES, ESTIMATOR_BYTES, JUDGEMENT_BYTES, ENFORCER_BYTES, RELEASE_BYTES, EXPLORATION_BYTES = 46, 28, 172, 9, 206, 2, 4
+PLACE_BYTES = 8
 SYMBOLS = 14  # where a header has the symbols
 SECRETS = 144  # where an estimator has its further secrets
 NOTION, PENDING = 172, 173  # where an enforcer has its notion, and the number of its pending symbols, which follow it
@@ -113,6 +114,11 @@ def judgement_bytes(listing):
 def exploration_bytes(found):
     """How many configurations an exploration found, lower byte first, and the largest weak wait and the largest strong one."""
     return found.count.to_bytes(2, "little") + bytes((found.weak, found.strong))
+
+
+def place_bytes(place):
+    """The place of a first leak, lowest byte first; 0 where there is none."""
+    return (0 if place is None else place).to_bytes(PLACE_BYTES, "little")
 
 
 def safe_of(listing, notion):

@@ -3,7 +3,8 @@
 01's examples with its answers, and others worked out by hand; the merged listing of `runs` against one in which nothing is merged or left out: each
 run as its list of transitions; automata with symbols against automata without, whose events are the symbols; and further secrets (S-6) against
 answers worked out by hand, against runs that are listed one by one as their states, and against automata whose own secret they are; explorations
-(S-7) against what was worked out by hand, against every trace up to a length, and against how long the last symbols of traces are held.
+(S-7) against what was worked out by hand, against every trace up to a length, and against how long the last symbols of traces are held; first leaks
+(S-8) against what was worked out by hand, against the lines of logs, and against runs that are listed one by one.
 """
 
 import pathlib
@@ -12,17 +13,20 @@ import sys
 
 from calls import elements
 from examples import (
-    ENCODINGS, ESTIMATES, EXAMPLES, EXPLORATIONS, OPENINGS, P, P_ENCODING, P_SECRETS, P_SYMBOLS, Q, Q_ENCODING, SEVERAL, T, hops, rings, secret,
-    subsets,
+    ENCODINGS, ESTIMATES, EXAMPLES, EXPLORATIONS, FIRST_LEAKS, OPENINGS, P, P_ENCODING, P_SECRETS, P_SYMBOLS, Q, Q_ENCODING, SEVERAL, T, hops, rings,
+    secret, subsets,
 )
 from explorations import Exploration, explored, reached, waits_of
+from first_leaks import first_leak, leak_output
 from generate import (
-    many_transitions, random_automaton, random_offers, random_secrets, random_trace, with_length, with_repeat, with_symbols, with_transitions,
+    many_transitions, random_automaton, random_byte, random_log, random_offers, random_secrets, random_trace, with_length, with_repeat, with_symbols,
+    with_transitions,
 )
 from logs import Refused, decoded, encoded, output, steps
 from runs import Automaton, Listing, TooManyRuns
 from saved import (
-    automaton_of, exploration_bytes, given_of, grown_enforcer, grown_estimator, header_of, judgement_bytes, safe_of, secrets_bytes, table_of, wait,
+    automaton_of, exploration_bytes, given_of, grown_enforcer, grown_estimator, header_of, judgement_bytes, place_bytes, safe_of, secrets_bytes, table_of,
+    wait,
 )
 
 
@@ -64,6 +68,21 @@ def several_lines(automaton, further, trace):
     return "".join(lines) + f"end {accepted} {released} {accepted - released}\n"
 
 
+def leak_line(notion, further, offered):
+    """The line of the first leak of offered bytes on P."""
+    place = first_leak(Listing(P, further), notion, offered)
+    said = "no leak" if place is None else f"first leak at {place}"
+    return f"{('weak', 'strong')[notion]}, {len(further)} further, offered {' '.join(map(str, offered))}: {said}\n"
+
+
+def leak_lines():
+    """Those of the example in C: offered bytes that leak, that do not, and of which none is accepted."""
+    one, passed = (secret(1, 3),), (secret(1, 0),)
+    leaking, drifting = (2, 1, 200, 0, 2, 1), (0, 1, 200, 1, 2, 1, 1)
+    asked = [(notion, further, leaking) for further in ((), passed) for notion in (0, 1)] + [(0, (), drifting), (1, (), drifting), (0, one, drifting)]
+    return "".join(leak_line(*call) for call in asked + [(1, passed, (2, 0, 200))])
+
+
 def explored_line(k, further, budget):
     """The line of an exploration of P, with this K in place of its own."""
     found = explored(Listing(with_symbols(P, None, k), further), budget)
@@ -80,7 +99,8 @@ def explored_lines():
 
 def test_programs():
     """The stored runs of the log program, 01's listing and 02's idle log with S-5's column: the lister gives them, and they are among the answers
-    that were written by hand. The documents and the example in C have the same, and the example goes on with a further secret and explorations."""
+    that were written by hand. Those of the programs that look for a first leak, with each notion's place by hand. The documents and the example in C have
+    the same as the log program, and the example goes on with a further secret, first leaks and explorations."""
     top = pathlib.Path(__file__).resolve().parent.parent
     stored = {}
     for name in ("opacity_log", "idle_log"):
@@ -89,8 +109,12 @@ def test_programs():
         assert output((folder / "stdin").read_bytes()) == stored[name], name
     assert stored["opacity_log"] == EXAMPLES[0][2]
     assert [stored["idle_log"]] == [expected for automaton, offered, expected in EXAMPLES if automaton is T and not offered]
+    for name, own, printed in (("first_leak", 0, ["5\n", "3\n"]), ("first_strong_leak", 1, ["5\n", "3\n"])):
+        folder = top / "crates" / name
+        assert [leak_output((folder / "stdin").read_bytes(), notion) for notion in (0, 1)] == printed, name
+        assert (folder / "stdout").read_text("ascii") == printed[own], name
     several = several_lines(P, (secret(1, 3),), (1, 2, 1, 1))
-    assert (top / "c" / "listing.txt").read_text("ascii") == stored["opacity_log"] + several + explored_lines()
+    assert (top / "c" / "listing.txt").read_text("ascii") == stored["opacity_log"] + several + leak_lines() + explored_lines()
     further = next(line for line in (top / "docs/FORMATS.md").read_text("utf-8").splitlines() if line.startswith("    02  02 00"))
     assert bytes.fromhex(further) == secrets_bytes([secret(2, 1, 63), secret(15)])
     for name in ("README.md", "docs/FORMATS.md"):
@@ -335,17 +359,20 @@ def longest_by(runs_by, given, n):
     return [max((r for r in range(n + 1) if all(rules[notion] for rules in safe[r])), default=None) for notion in (0, 1)]
 
 
+def runs_of(automaton, trace, most):
+    """The runs that are compatible with a trace, each a list of counts and states; None where there are too many."""
+    runs = []
+    for run in every_run(automaton, trace, automaton.bound()):
+        runs.append(states_of(automaton, run))
+        if len(runs) == most:
+            return None
+    return runs
+
+
 def listed_runs(automaton, trace, most):
-    """The runs of each prefix of a trace, each a list of counts and states; None where there are too many."""
-    runs_by = []
-    for r in range(len(trace) + 1):
-        runs = []
-        for run in every_run(automaton, trace[:r], automaton.bound()):
-            runs.append(states_of(automaton, run))
-            if len(runs) == most:
-                return None
-        runs_by.append(runs)
-    return runs_by
+    """The runs of each prefix of a trace; None where there are too many."""
+    runs_by = [runs_of(automaton, trace[:r], most) for r in range(len(trace) + 1)]
+    return None if None in runs_by else runs_by
 
 
 def with_further(name, count):
@@ -482,6 +509,98 @@ def test_waits(count, seed):
     return compared
 
 
+def places_by_hand():
+    """Automata, further secrets and offered bytes, with the places of the first weak leak and of the first strong one: those that were worked out, and
+    those that follow from the verdicts that were."""
+    yield from FIRST_LEAKS
+    for automaton, further, trace, verdicts, _ in SEVERAL:
+        leaking = [[n for n, told in enumerate(verdicts) if n and set(told.replace(" ", "")[notion::2]) != {"-"}] for notion in (0, 1)]
+        yield automaton, further, trace, *(min(places, default=None) for places in leaking)
+
+
+def test_first_leaks():
+    """S-8, by hand: the places of first leaks, what is printed where the automaton's own secret is the only one, and the bytes of a place."""
+    for automaton, further, offered, *places in places_by_hand():
+        opening = Listing(automaton, further)
+        assert [first_leak(opening, notion, offered) for notion in (0, 1)] == places, (automaton.transitions, further, offered)
+        assert opening.trace == []
+        if not further:
+            log = with_length(encoded(automaton), bytes(offered))
+            assert [leak_output(log, notion) for notion in (0, 1)] == ["-\n" if place is None else f"{place}\n" for place in places], offered
+    for encoding, number in ENCODINGS:
+        assert [leak_output(with_length(encoding, b"\x01"), notion) for notion in (0, 1)] == [f"refused {number}\n"] * 2, number
+    assert place_bytes(None) == bytes(8) and place_bytes(2) == bytes((2, 0, 0, 0, 0, 0, 0, 0)) and place_bytes(65538) == bytes((2, 0, 1, 0, 0, 0, 0, 0))
+
+
+def printed_leak(lines, notion):
+    """The first field of the first line of an accepted event whose verdict under the notion is a leak, or `-`; of a refused log its line."""
+    fields = [line.split() for line in lines.splitlines()]
+    if fields[0][0] == "refused":
+        return lines
+    accepted = [line for line in fields if line[0] not in ("!", "0", "end")]
+    return next((line[0] for line in accepted if line[2 + notion] != "-"), "-") + "\n"
+
+
+def test_printed_leaks(count, seed):
+    """What is printed against the lines of a log, which has no refusal 8 here: random logs, idle and damaged ones among them."""
+    compared = 0
+    for i in range(count):
+        log, lines = random_log(random.Random(f"printed {seed} {i}"))
+        for notion in (0, 1):
+            try:
+                told = leak_output(log, notion)
+            except TooManyRuns:
+                continue
+            if lines == "refused 8\n":
+                assert not told.startswith("refused"), (seed, i)
+            else:
+                assert told == printed_leak(lines, notion), (seed, i)
+                compared += told[0].isdigit()
+    return compared
+
+
+def first_places(automaton, secrets, offered, most):
+    """For each notion the place of the first leak, and the number of bytes up to it, by runs that are listed one by one; None where there are too many
+    runs."""
+    trace, places = [], [(None, None), (None, None)]
+    for at, byte in enumerate(offered):
+        runs = runs_of(automaton, trace + [byte], most)
+        if runs is None:
+            return None
+        if not runs:
+            continue
+        trace.append(byte)
+        verdicts = [verdicts_of(runs, states, k, len(trace)) for states, k in secrets]
+        for notion in (0, 1):
+            if places[notion][0] is None and any(pair[notion] is not None for pair in verdicts):
+                places[notion] = len(trace), at + 1
+    return places
+
+
+def test_places(count, seed):
+    """First leaks against runs that are listed one by one; none where the list ends before that event, and the same wherever it ends behind it, and
+    whatever is offered there."""
+    compared = [0, 0, 0]
+    for i, rng, automaton, further in with_further(f"places {seed}", count):
+        opening = Listing(automaton, rng.choice((further, further, ())), 20000)
+        offered = random_offers(rng, automaton, rng.choice((2, 3, 4, 5)), 0.4)
+        found = first_places(automaton, opening.secrets, offered, 2000)
+        if found is None:
+            continue
+        for notion, (place, needed) in enumerate(found):
+            ends = [first_leak(opening, notion, offered[:end]) for end in range(len(offered) + 1)]
+            if place is None:
+                assert ends == [None] * len(ends), (seed, i)
+                compared[1] += 1
+                continue
+            assert ends == [None] * needed + [place] * (len(ends) - needed), (seed, i)
+            other = offered[:needed] + bytes(random_byte(rng, automaton) for _ in range(rng.randrange(6)))
+            assert first_leak(opening, notion, other) == place, (seed, i)
+            compared[0] += 1
+            compared[2] += place < needed
+    return compared
+
+
 if __name__ == "__main__":
     test_examples()
     test_sizes()
@@ -491,6 +610,7 @@ if __name__ == "__main__":
     test_saved()
     test_several()
     test_explorations()
+    test_first_leaks()
     compared = test_merging(400, 1)
     separate, shared = test_meaning(600, 1)
     print(f"examples as expected, {compared} listings compared run by run; as without symbols: {separate} symbols of one event each, {shared} others")
@@ -498,4 +618,7 @@ if __name__ == "__main__":
     whole, leaking, spent = test_configurations(300, 1)
     waits = test_waits(300, 1)
     print(f"explorations: {whole} compared with every trace, {leaking} of them with waits; {spent} beyond the budget; {waits} waits of enforcers")
+    printed = test_printed_leaks(1200, 1)
+    places, none, behind = test_places(800, 1)
+    print(f"first leaks: {printed} as the lines of logs; {places} compared run by run, {behind} of them behind refused bytes, and {none} lists without")
     sys.exit(0)

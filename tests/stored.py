@@ -9,5 +9,5 @@ def store(folder, files):
         return int(any((folder / name).read_bytes() != data for name, data in files.items()))
     for name, data in files.items():
         (folder / name).write_bytes(data)
-        print(f"{name}: {data.count(10)} lines, {len(data)} bytes")
+        print(f"{folder.name}/{name}: {data.count(10)} lines, {len(data)} bytes")
     return 0

@@ -1,5 +1,5 @@
 -- What each function of the interface answers and leaves, from what the crates below promise and the bytes that were read and written. Assumes nothing.
-use Prim.Native.Nat.{ℕ, _<_, _^_}
+use Prim.Native.Nat.{ℕ, zero, suc, _<_, _^_}
 use mathlib.Core.Path.{_≡_, refl, sym, subst, _∙_}
 use mathlib.Core.List.{List, [], _∷_, _++_}
 use native.Mathlib.Omega.{arith}
@@ -28,13 +28,18 @@ use Rattle.explore.specs.Explorations as exploring
 use Rattle.explore.specs.Explorations.{Exploring, explored-all}
 use Rattle.explore.specs.declared.Exploration.{Exploration}
 use Rattle.explore.specs.declared.ExploreAnswer as explore
+use Rattle.leaks.specs.FirstLeaks as leaking
+use Rattle.leaks.specs.FirstLeaks.{Finding}
+use Rattle.leaks.specs.declared.LeakAnswer as leak
+use Rattle.leaks.proofs.Only.{place-short}
 use Rattle.layout.specs.Sizes.{headerSize}
 use Rattle.layout.specs.Layout.{Stored, headerAt, headerBytes, furtherAt, estimatorAt, estimatorBytes, EstimatorSized, notionAt, enforcerAt, enforcerBytes}
 use Rattle.layout.specs.Layout.{EnforcerSized}
-use Rattle.layout.specs.Layout.{toldBytes, allFindings, judgementBytes, releaseBytes, explorationBytes}
+use Rattle.layout.specs.Layout.{toldBytes, allFindings, judgementBytes, releaseBytes, explorationBytes, firstLeakBytes}
 use Rattle.gateway.specs.Interface.{Decode, FreshSizes, Fresh, Accept, Start, Offer, Explore, VerifierSizes, StartSizes, OfferSizes, ExploreSizes}
+use Rattle.gateway.specs.Interface.{FirstLeakSizes, FirstLeakCall, leakSaid}
 use Rattle.layout.proofs.Stores.{whole}
-use Rattle.layout.proofs.Inverse.{estimator-length, estimator-saved, enforcer-saved, exploration-saved}
+use Rattle.layout.proofs.Inverse.{estimator-length, estimator-saved, enforcer-saved, exploration-saved, place-saved}
 
 -- a refusal leaves the lent memory
 kept-table : (encoding table : List ℕ) {h : Header} {n : ℕ} {after : List ℕ} → Decoding encoding table h (decoding.refuse n) after → after ≡ table
@@ -189,3 +194,36 @@ module _ (t header further : List ℕ) (budget : ℕ) (lent : List ℕ) (h : Hea
   explore-explored e left is wrote =
       let x = said-exploring (explore.the-variants.Explored e) is in
       subst (λ (y : List ℕ). Explore t header further budget lent 0 y) (sym wrote) (Explore.explored sizes x (exploration-saved e (fits e x)))
+
+-- so of a first leak
+module _ (t header : List ℕ) (notion : ℕ) (further events lent : List ℕ) (h : Header) (f : Further) (by : Notion) (answer : leak.LeakAnswer)
+    (sizes : FirstLeakSizes header notion further lent) (head : h ≡ headerAt header) (given : f ≡ furtherAt further 0) (under : by ≡ notionAt notion)
+    (did : Finding by t h f events (leaking.said answer)) where
+  said-finding : (y : leak.LeakAnswer) → answer ≡ y → Finding (notionAt notion) t (headerAt header) (furtherAt further 0) events (leaking.said y)
+  said-finding y is = subst (λ (z : leak.LeakAnswer). Finding (notionAt notion) t (headerAt header) (furtherAt further 0) events (leaking.said z)) is
+      (rw (head, given, under) at did)
+
+  pub leak-refused : (r : Refusal) (n : ℕ) → answer ≡ leak.the-variants.Refused r → n ≡ numberOf r → FirstLeakCall t header notion further events lent n lent
+  leak-refused r n is number = rw number (FirstLeakCall.refused sizes (said-finding (leak.the-variants.Refused r) is))
+
+  pub leak-nowhere : (left : List ℕ) → answer ≡ leak.the-variants.Nowhere → left ≡ firstLeakBytes 0 → FirstLeakCall t header notion further events lent 0 left
+  leak-nowhere left is wrote =
+      subst (λ (y : List ℕ). FirstLeakCall t header notion further events lent 0 y) (sym wrote)
+      (FirstLeakCall.found sizes {p = 0} (said-finding leak.the-variants.Nowhere is) (place-saved 0 (omega arith)))
+
+  -- a place is one from 1
+  some-place : (p : ℕ) → Finding (notionAt notion) t (headerAt header) (furtherAt further 0) events (leaking.at p)
+      → Finding (notionAt notion) t (headerAt header) (furtherAt further 0) events (leakSaid p)
+  some-place zero (Finding.first-leaks so allowed x) = absurd (omega (arith, x .counted))
+  some-place (suc p) x = x
+
+  -- and it fits its bytes
+  small-place : (p : ℕ) → length events < 2 ^ 64 → Finding (notionAt notion) t (headerAt header) (furtherAt further 0) events (leaking.at p) → p < 2 ^ 64
+  small-place p short (Finding.first-leaks so allowed x) = omega (arith, place-short _ _ _ _ _ p x)
+
+  pub leak-found : (p : ℕ) (left : List ℕ) → length events < 2 ^ 64 → answer ≡ leak.the-variants.At p → left ≡ firstLeakBytes p
+      → FirstLeakCall t header notion further events lent 0 left
+  leak-found p left short is wrote =
+      let x = said-finding (leak.the-variants.At p) is in
+      subst (λ (y : List ℕ). FirstLeakCall t header notion further events lent 0 y) (sym wrote)
+      (FirstLeakCall.found sizes {p = p} (some-place p x) (place-saved p (small-place p short x)))

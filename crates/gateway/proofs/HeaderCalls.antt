@@ -6,9 +6,11 @@ use Prim.Native.Nat.{ℕ}
 use Rattle.verifier.proofs.Corresponding.{same-opening, same-accepting}
 use Rattle.enforcer.proofs.Corresponding.{same-starting, same-offering}
 use Rattle.waiting.proofs.Agreed.{same-exploring}
+use Rattle.leaks.proofs.Agreed.{same-finding}
 use Rattle.layout.specs.Layout.{headerAt}
 use Rattle.layout.proofs.HeaderBytes.{SameHeaders, same-k, same-secret, same-symbols, headers-back}
 use Rattle.gateway.specs.Interface.{VerifierSizes, FreshSizes, Fresh, Accept, StartSizes, Start, OfferSizes, Offer, ExploreSizes, Explore}
+use Rattle.gateway.specs.Interface.{FirstLeakSizes, FirstLeakCall}
 
 module _ (a b : List ℕ) (x : SameHeaders a b) where
   verifier-sizes : (estimator judgement : List ℕ) → VerifierSizes a estimator judgement → VerifierSizes b estimator judgement
@@ -27,6 +29,10 @@ module _ (a b : List ℕ) (x : SameHeaders a b) where
 
   explore-sizes : (further lent : List ℕ) → ExploreSizes a further lent → ExploreSizes b further lent
   explore-sizes further lent s = record { header-size = x .other-size; further-size = s .further-size; exploration-size = s .exploration-size }
+
+  leak-sizes : (notion : ℕ) (further place : List ℕ) → FirstLeakSizes a notion further place → FirstLeakSizes b notion further place
+  leak-sizes notion further place s =
+      record { header-size = x .other-size; notion-known = s .notion-known; further-size = s .further-size; place-size = s .place-size }
 
 module _ (t a b : List ℕ) (x : SameHeaders a b) where
   fresh-to : (further estimator judgement : List ℕ) (n : ℕ) (after told : List ℕ) → Fresh t a further estimator judgement n after told
@@ -80,6 +86,17 @@ module _ (t a b : List ℕ) (x : SameHeaders a b) where
       Explore.explored (explore-sizes a b x further lent s)
       (same-exploring t (headerAt a) (headerAt b) (same-symbols a b x t) (same-secret a b x) (same-k a b x) _ _ _ .0 o) saved
 
+  leak-to : (notion : ℕ) (further events place : List ℕ) (n : ℕ) (out : List ℕ) → FirstLeakCall t a notion further events place n out
+      → FirstLeakCall t b notion further events place n out
+  leak-to notion further events place n out (FirstLeakCall.size bad) =
+      FirstLeakCall.size (λ s. bad (leak-sizes b a (headers-back a b x) notion further place s))
+  leak-to notion further events place n out (FirstLeakCall.refused s o) =
+      FirstLeakCall.refused (leak-sizes a b x notion further place s)
+      (same-finding t (headerAt a) (headerAt b) (same-symbols a b x t) (same-secret a b x) (same-k a b x) _ _ _ _ .0 o)
+  leak-to notion further events place n out (FirstLeakCall.found s {p = p} o saved) =
+      FirstLeakCall.found (leak-sizes a b x notion further place s) {p = p}
+      (same-finding t (headerAt a) (headerAt b) (same-symbols a b x t) (same-secret a b x) (same-k a b x) _ _ _ _ .0 o) saved
+
 module _ (t a b : List ℕ) (x : SameHeaders a b) where
   pub same-fresh : (further estimator judgement : List ℕ) (n : ℕ) (after told : List ℕ)
       → Fresh t a further estimator judgement n after told ↔ Fresh t b further estimator judgement n after told
@@ -107,3 +124,8 @@ module _ (t a b : List ℕ) (x : SameHeaders a b) where
       → Explore t a further budget lent n out ↔ Explore t b further budget lent n out
   same-explore further budget lent n out =
       (explore-to t a b x further budget lent n out, explore-to t b a (headers-back a b x) further budget lent n out)
+
+  pub same-leak : (notion : ℕ) (further events place : List ℕ) (n : ℕ) (out : List ℕ)
+      → FirstLeakCall t a notion further events place n out ↔ FirstLeakCall t b notion further events place n out
+  same-leak notion further events place n out =
+      (leak-to t a b x notion further events place n out, leak-to t b a (headers-back a b x) notion further events place n out)

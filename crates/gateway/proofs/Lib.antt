@@ -6,3 +6,4 @@ pub mod SavedSteps
 pub mod SavedPoints
 pub mod HeaderCalls
 pub mod SavedWaits
+pub mod SavedLeaks

@@ -1,6 +1,6 @@
 -- What each function of the interface answers and leaves, by the contracts of the crates below: 0, or the number of a refusal, which leaves every
 -- lent slice as it was. A slice of another length than its layout has, and a notion that is none, get 9 before anything else.
-use Prim.Native.Nat.{ℕ, _≤_, _<_}
+use Prim.Native.Nat.{ℕ, zero, suc, _≤_, _<_}
 use mathlib.Core.Path.{_≡_}
 use mathlib.Core.List.{List}
 use lib.ListN.{length, getD}
@@ -20,9 +20,12 @@ use Rattle.explore.specs.Configurations.{Number, MoreThan}
 use Rattle.explore.specs.Explorations as exploring
 use Rattle.explore.specs.Explorations.{Exploring}
 use Rattle.explore.specs.declared.Exploration.{Exploration}
+use Rattle.leaks.specs.FirstLeaks as leaking
+use Rattle.leaks.specs.FirstLeaks.{Finding}
 use Rattle.layout.specs.Sizes as sizes
 use Rattle.layout.specs.Layout.{headerAt, headerBytes, furtherAt, estimatorAt, estimatorBytes, EstimatorSaved}
 use Rattle.layout.specs.Layout.{notionAt, enforcerAt, enforcerBytes, EnforcerSaved, judgementBytes, releaseBytes, explorationBytes, ExplorationSaved}
+use Rattle.layout.specs.Layout.{firstLeakBytes, PlaceSaved}
 
 -- decode: the answer, the table after and the header's bytes after
 pub data Decode (encoding table header : List ℕ) : ℕ → List ℕ → List ℕ → Type 0 where
@@ -110,6 +113,28 @@ pub data Explore (t header further : List ℕ) (budget : ℕ) (exploration : Lis
       → Exploring t (headerAt header) (furtherAt further 0) (exploring.limitOf budget)
       (exploring.explored (e .number) (e .weak) (e .strong)) → ExplorationSaved e
       → Explore t header further budget exploration 0 (explorationBytes e)
+
+-- the slices of a call for the first leak have the lengths of their layouts, and the notion is one
+pub record FirstLeakSizes (header : List ℕ) (notion : ℕ) (further place : List ℕ) : Type 0 where
+  pub header-size : length header ≡ sizes.headerSize
+  pub notion-known : notion ≤ sizes.strongByte
+  pub further-size : length further ≡ sizes.furtherSize
+  pub place-size : length place ≡ sizes.firstLeakSize
+
+-- what a saved place says: 0 that there is none
+abbrev pub leakSaid : ℕ → leaking.Said
+leakSaid zero = leaking.nowhere
+leakSaid (suc p) = leaking.at (suc p)
+
+-- first leak: the answer and the place's bytes after
+pub data FirstLeakCall (t header : List ℕ) (notion : ℕ) (further events place : List ℕ) : ℕ → List ℕ → Type 0 where
+  size : (FirstLeakSizes header notion further place → ⊥) → FirstLeakCall t header notion further events place 9 place
+  refused : FirstLeakSizes header notion further place → {n : ℕ}
+      → Finding (notionAt notion) t (headerAt header) (furtherAt further 0) events (leaking.refused n)
+      → FirstLeakCall t header notion further events place n place
+  found : FirstLeakSizes header notion further place → {p : ℕ}
+      → Finding (notionAt notion) t (headerAt header) (furtherAt further 0) events (leakSaid p) → PlaceSaved p
+      → FirstLeakCall t header notion further events place 0 (firstLeakBytes p)
 
 -- what a fresh call answers on a header that was decoded, with slices of their lengths: 0 where the further secrets may be given, and else 13 or 14, each
 -- on its condition

@@ -6,9 +6,10 @@ use enforcer::OfferAnswer;
 use enforcer::StartAnswer;
 use explore::ExploreAnswer;
 use layout::sizes;
+use leaks::LeakAnswer;
 use verifier::Answer;
 use verifier::Estimator;
-ghost use Rattle.gateway.specs.Interface.{Decode, Fresh, Accept, Start, Offer, Explore};
+ghost use Rattle.gateway.specs.Interface.{Decode, Fresh, Accept, Start, Offer, Explore, FirstLeakCall};
 
 // The refusal of a slice that has not the length of its layout, and of a notion that is none.
 const MALFORMED: u8 = 9;
@@ -221,6 +222,52 @@ pub extern "C" fn opacity_explore(
         ExploreAnswer::Refused(refusal) => refusal::number(refusal),
         ExploreAnswer::Explored(found) => {
             layout::write_exploration(exploration, found);
+            0
+        }
+    }
+}
+
+// The first leak among offered event bytes by a notion, 0 weak or 1 strong, with further secrets: the place of the first accepted one whose verdict is a leak
+// of any secret, counted from 1; or 0, where there is none.
+#[no_mangle]
+pub extern "C" fn opacity_first_leak(
+    table: &[u64],
+    header: &[u8],
+    notion: u8,
+    further: &[u8],
+    events: &[u8],
+    place: &mut [u8],
+) -> u8
+    ensures { λ r. ⌜ FirstLeakCall (now (table .entry)) (now (header .entry)) notion (now (further .entry)) (now (events .entry)) (now (place .entry))
+        r (now (place .exit)) ⌝ }
+{
+    if header.len() != sizes::HEADER_SIZE {
+        return MALFORMED;
+    }
+    if sizes::STRONG_BYTE < notion {
+        return MALFORMED;
+    }
+    if further.len() != sizes::FURTHER_SIZE {
+        return MALFORMED;
+    }
+    if place.len() != sizes::FIRST_LEAK_SIZE {
+        return MALFORMED;
+    }
+    let answer = leaks::first_leak(
+        table,
+        layout::read_header(header),
+        layout::read_further(further, 0),
+        layout::notion_of(notion),
+        events,
+    );
+    match answer {
+        LeakAnswer::Refused(refusal) => refusal::number(refusal),
+        LeakAnswer::Nowhere => {
+            layout::write_first_leak(place, 0);
+            0
+        }
+        LeakAnswer::At(found) => {
+            layout::write_first_leak(place, found);
             0
         }
     }

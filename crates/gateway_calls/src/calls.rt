@@ -19,26 +19,35 @@ pub const OFFER: u64 = 0x6f66666572;
 
 const EXPLORE: u64 = 0x6578706c6f7265;
 
+const FIRST_LEAK: u64 = 0x7273745f6c65616b;
+
 // What a function is lent: slots to read, those to write to, and whether it takes a number.
 pub struct Slots {
     pub input: usize,
     pub also: usize,
+    pub offered: usize,
     pub first: usize,
     pub second: usize,
     pub third: usize,
     pub number: bool,
 }
 
-// What each function is lent, beside the table.
-pub fn slots_of(call: u64) -> Slots {
-    let mut slots = Slots {
+// Of a word that is no function: what most functions are lent to read, and nothing to write to.
+fn header_alone() -> Slots {
+    Slots {
         input: store::HEADER,
         also: store::NONE,
+        offered: store::NONE,
         first: store::NONE,
         second: store::NONE,
         third: store::NONE,
         number: true,
-    };
+    }
+}
+
+// What each function is lent, beside the table.
+pub fn slots_of(call: u64) -> Slots {
+    let mut slots = header_alone();
     if call == DECODE {
         slots.input = store::ENCODING;
         slots.first = store::HEADER;
@@ -67,6 +76,11 @@ pub fn slots_of(call: u64) -> Slots {
         slots.also = store::FURTHER;
         slots.first = store::EXPLORATION;
     }
+    if call == FIRST_LEAK {
+        slots.also = store::FURTHER;
+        slots.offered = store::EVENTS;
+        slots.first = store::PLACE;
+    }
     slots
 }
 
@@ -92,6 +106,7 @@ fn apply1(
     table: &mut [u64],
     input: &[u8],
     also: &[u8],
+    offered: &[u8],
     first: &mut [u8],
 ) -> u8 {
     if call == DECODE {
@@ -99,6 +114,9 @@ fn apply1(
     }
     if call == EXPLORE {
         return gateway::opacity_explore(table, input, also, number, first);
+    }
+    if call == FIRST_LEAK {
+        return gateway::opacity_first_leak(table, input, byte_of(number), also, offered, first);
     }
     gateway::opacity_start(table, input, byte_of(number), also, first)
 }
@@ -125,12 +143,13 @@ fn apply(
     table: &mut [u64],
     input: &[u8],
     also: &[u8],
+    offered: &[u8],
     first: &mut [u8],
     second: &mut [u8],
     third: &mut [u8],
 ) -> u8 {
     if slots.second == store::NONE {
-        return apply1(call, number, table, input, also, first);
+        return apply1(call, number, table, input, also, offered, first);
     }
     if slots.third == store::NONE {
         return apply2(call, number, table, input, also, first, second);
@@ -142,21 +161,23 @@ fn apply(
 fn lend(
     call: u64,
     number: u32,
-    sizes: &[usize; 11],
+    sizes: &[usize; 13],
     table: &mut [u64],
     input: &[u8],
     also: &[u8],
+    offered: &[u8],
     first: &mut [u8],
     second: &mut [u8],
     third: &mut [u8],
 ) -> u8
-    requires { ⌜ (4096 ≡ length (now table)) × (4096 ≡ length (now input)) × (4096 ≡ length (now also))
+    requires { ⌜ (4096 ≡ length (now table)) × (4096 ≡ length (now input)) × (4096 ≡ length (now also)) × (4096 ≡ length (now offered))
         × (4096 ≡ length (now first)) × (4096 ≡ length (now second)) × (4096 ≡ length (now third)) ⌝ }
 {
     let slots = slots_of(call);
     let words = store::size_of(sizes, store::TABLE);
     let n = store::size_of(sizes, slots.input);
     let m = store::size_of(sizes, slots.also);
+    let o = store::size_of(sizes, slots.offered);
     let n1 = store::size_of(sizes, slots.first);
     let n2 = store::size_of(sizes, slots.second);
     let n3 = store::size_of(sizes, slots.third);
@@ -167,6 +188,7 @@ fn lend(
         &mut table[0..words],
         &input[0..n],
         &also[0..m],
+        &offered[0..o],
         &mut first[0..n1],
         &mut second[0..n2],
         &mut third[0..n3],
@@ -174,11 +196,12 @@ fn lend(
 }
 
 // A call: its answer, after which the memory is as the function left it.
-pub fn answer_of(call: u64, number: u32, memory: &mut [u64; 45056], sizes: &[usize; 11]) -> u8 {
+pub fn answer_of(call: u64, number: u32, memory: &mut [u64; 53248], sizes: &[usize; 13]) -> u8 {
     let slots = slots_of(call);
     let mut table = store::table_of(memory);
     let input = store::copy_of(memory, slots.input);
     let also = store::copy_of(memory, slots.also);
+    let offered = store::copy_of(memory, slots.offered);
     let mut first = store::copy_of(memory, slots.first);
     let mut second = store::copy_of(memory, slots.second);
     let mut third = store::copy_of(memory, slots.third);
@@ -189,6 +212,7 @@ pub fn answer_of(call: u64, number: u32, memory: &mut [u64; 45056], sizes: &[usi
         &mut table,
         &input,
         &also,
+        &offered,
         &mut first,
         &mut second,
         &mut third,

@@ -1,7 +1,7 @@
 -- The first point of the functions on bytes, row by row of their contracts. Assumes nothing.
 use mathlib.Core.Path.{refl}
-use Rattle.gateway.specs.Interface.{Decode, Fresh, Accept, Start, Offer, Explore}
-use Rattle.guarantees.specs.SavedBytes.{DecodeSaved, FreshSaved, AcceptSaved, StartSaved, OfferSaved, ExploreSaved}
+use Rattle.gateway.specs.Interface.{Decode, Fresh, Accept, Start, Offer, Explore, FirstLeakCall}
+use Rattle.guarantees.specs.SavedBytes.{DecodeSaved, FreshSaved, AcceptSaved, StartSaved, OfferSaved, ExploreSaved, FirstLeakSaved}
 
 pub decode-saved : DecodeSaved
 decode-saved encoding table header answer t after (Decode.size bad) = (λ x. refl, λ x. (refl, refl), λ size. absurd (bad size))
@@ -38,4 +38,10 @@ pub explore-saved : ExploreSaved
 explore-saved t header further budget exploration answer out (Explore.size bad) = (λ x. refl, λ x. refl, λ sizes. absurd (bad sizes))
 explore-saved t header further budget exploration answer out (Explore.refused sizes y) = (λ bad. absurd (bad sizes), λ z. refl, λ w z. y)
 explore-saved t header further budget exploration answer out (Explore.explored sizes x saved) =
+    (λ bad. absurd (bad sizes), λ z. absurd (z refl), λ w z. absurd (z refl))
+
+pub first-leak-saved : FirstLeakSaved
+first-leak-saved t header notion further events place answer out (FirstLeakCall.size bad) = (λ x. refl, λ x. refl, λ sizes. absurd (bad sizes))
+first-leak-saved t header notion further events place answer out (FirstLeakCall.refused sizes y) = (λ bad. absurd (bad sizes), λ z. refl, λ w z. y)
+first-leak-saved t header notion further events place answer out (FirstLeakCall.found sizes x saved) =
     (λ bad. absurd (bad sizes), λ z. absurd (z refl), λ w z. absurd (z refl))

@@ -1,5 +1,6 @@
--- Answers, Explorations: the first point, from the contracts. Frames: that of the functions on bytes. Shown: every guarantee, by its proof.
+-- Answers, Explorations, FirstLeaks: the first point, from the contracts. Frames: that of the functions on bytes. Shown: every guarantee, by its proof.
 pub mod Answers
 pub mod Explorations
+pub mod FirstLeaks
 pub mod Frames
 pub mod Shown

@@ -5,6 +5,7 @@ use Rattle.guarantees.specs.ThirdPoint as third
 use Rattle.guarantees.specs.Published as published
 use Rattle.guarantees.specs.Symbols as symbols
 use Rattle.guarantees.specs.Exploration as exploration
+use Rattle.guarantees.specs.FirstLeaks as leaks
 use Rattle.guarantees.specs.WholeLog as log
 use Rattle.guarantees.specs.SavedBytes as saved
 use Rattle.verifier.proofs.Growing as growing
@@ -25,13 +26,18 @@ use Rattle.explore.proofs.Counting as counting
 use Rattle.waiting.proofs.Alike as same-verdicts
 use Rattle.waiting.proofs.Calling as calling
 use Rattle.waiting.proofs.Waiting as waiting
+use Rattle.leaks.proofs.Streaming as streaming
+use Rattle.leaks.proofs.Parts as parts
+use Rattle.leaks.proofs.Agreed as agreed-leaks
 use Rattle.monitor.proofs.LogOutput as log-output
 use Rattle.monitor.proofs.OneOutput as one-log-output
 use Rattle.monitor.proofs.Idle as idle
 use Rattle.gateway.proofs.SavedPoints as saved-points
 use Rattle.gateway.proofs.SavedWaits as saved-explorations
+use Rattle.gateway.proofs.SavedLeaks as saved-leaks
 use Rattle.guarantees.proofs.Answers.{decode-answers, fresh-answers, accept-answers, accept-by-answers, start-answers, offer-answers, advance-answers}
 use Rattle.guarantees.proofs.Explorations as explorations
+use Rattle.guarantees.proofs.FirstLeaks as first-leaks
 use Rattle.guarantees.proofs.Frames as frames
 
 -- the first point
@@ -55,6 +61,15 @@ every-offer = offer-answers
 
 pub every-explore : first.EveryExplore
 every-explore t h f budget = explorations.explore-answers t h f _
+
+pub every-first-leak : first.EveryFirstLeak
+every-first-leak = first-leaks.first-leak-answers
+
+pub every-begin : first.EveryBegin
+every-begin = first-leaks.begin-answers
+
+pub every-search : first.EverySearch
+every-search = first-leaks.search-answers
 
 -- the second point
 pub second-point : second.SecondPoint
@@ -148,6 +163,31 @@ reached-by-calls = calling.reached-by-calls
 pub exploration-waits : exploration.ExplorationWaits
 exploration-waits = waiting.exploration-waits
 
+-- the first leak of a long log
+pub one-first-leak : leaks.OneFirstLeak
+one-first-leak = first-leaks.one-first-leak
+
+pub every-part : leaks.EveryPart
+every-part = first-leaks.every-part
+
+pub part-by-calls : leaks.PartByCalls
+part-by-calls = parts.accepted-by-calls
+
+pub part-by-log : leaks.PartByLog
+part-by-log = first-leaks.part-by-log
+
+pub later-bytes : leaks.LaterBytes
+later-bytes = first-leaks.later-bytes
+
+pub block-after-block : leaks.BlockAfterBlock
+block-after-block = streaming.search-promise
+
+pub refused-search : leaks.RefusedSearch
+refused-search = streaming.refused-search
+
+pub leak-past-count : leaks.LeakPastCount
+leak-past-count = agreed-leaks.past-finding
+
 -- a whole log
 pub prints-exactly : log.PrintsExactly
 prints-exactly = log-output.prints-exactly
@@ -191,6 +231,18 @@ saved-waits = saved-explorations.saved-waits
 
 pub explore-past-count : saved.ExplorePastCount
 explore-past-count = saved-explorations.explore-past-count
+
+pub first-leak-saved : saved.FirstLeakSaved
+first-leak-saved = frames.first-leak-saved
+
+pub first-leak-by-secrets : saved.FirstLeakBySecrets
+first-leak-by-secrets = saved-leaks.saved-leak
+
+pub first-leak-in-bytes : saved.FirstLeakInBytes
+first-leak-in-bytes = saved-leaks.leak-back
+
+pub first-leak-past-count : saved.FirstLeakPastCount
+first-leak-past-count = saved-leaks.saved-leak-past-count
 
 pub fresh-by-secrets : saved.FreshBySecrets
 fresh-by-secrets = saved-points.saved-fresh

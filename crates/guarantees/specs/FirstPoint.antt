@@ -2,10 +2,12 @@
 -- table, and leaves the state and all lent memory as they were. (The entries demand nothing of their callers; what stands left of each arrow below is the
 -- contract that the entry is proved to meet on every input.)
 use mathlib.Core.Path.{_≡_}
+use mathlib.Core.Bool.{true, false}
 use mathlib.Core.List.{List, _∷_, [], _++_}
 use mathlib.Core.Logic.{_⊎_, _↔_}
 use Prim.Native.Nat.{ℕ, _+_, _≤_, _<_}
 use lib.ListN.{length, take, drop}
+use Rattle.lists.specs.Calls.{Every}
 use Rattle.opacity.specs.Verdicts.{Bounded}
 use Rattle.refusal.specs.Refusals.{numberOf}
 use Rattle.refusal.specs.declared.Refusal.{Refusal}
@@ -20,7 +22,7 @@ use Rattle.automaton.specs.Reaching.{SizeWithin}
 use Rattle.automaton.specs.declared.Header.{Header}
 use Rattle.opacity.specs.declared.Notion.{Notion}
 use Rattle.opacity.specs.declared.Further.{Further}
-use Rattle.opacity.specs.Secrets.{secretsOf, ForEach, lookBackOf, Allowed, TooLarge}
+use Rattle.opacity.specs.Secrets.{secretsOf, ForEach, lookBackOf, clearedOf, Allowed, TooLarge}
 use Rattle.verifier.specs.declared.Estimator.{Estimator}
 use Rattle.verifier.specs.Estimators as estimator
 use Rattle.verifier.specs.Replies as verifier
@@ -33,6 +35,10 @@ use Rattle.enforcer.specs.Offerings.{OpensAsLeak, Starting, Offering}
 use Rattle.explore.specs.Configurations.{MoreThan}
 use Rattle.explore.specs.Explorations as exploring
 use Rattle.explore.specs.Explorations.{limitOf, ExploredAll, Exploring}
+use Rattle.leaks.specs.declared.Search.{Search}
+use Rattle.leaks.specs.FirstLeaks as leaking
+use Rattle.leaks.specs.FirstLeaks.{FirstLeak, NoneLeaks, Finding}
+use Rattle.leaks.specs.Searches.{saidOf, Within, Beginning, Advancing}
 
 -- `decoding::decode`, of an encoding (01: description): 9 exactly where the table has not 2,048 words; else what the layout says of the bytes: the refusal of
 -- its first field or check that fails, or the header and a table with exactly the transitions that are listed. A refusal leaves the table, and hands back no
@@ -161,3 +167,65 @@ pub record ExploreAnswers (t : List ℕ) (h : Header) (f : Further) (limit : ℕ
 abbrev pub EveryExplore : Type 0
 EveryExplore = (t : List ℕ) (h : Header) (f : Further) (budget : ℕ) (says : exploring.Said) → Exploring t h f (limitOf budget) says
     → ExploreAnswers t h f (limitOf budget) says
+
+-- `leaks::first_leak`, with further secrets, a notion and a list of offered bytes (02, S-8): 9, 13, 14 as a fresh estimator, and no 8; else exactly the place
+-- of the first accepted event whose verdict is a leak of a secret that is given, or that there is none
+pub record FirstLeakAnswers (notion : Notion) (t : List ℕ) (h : Header) (f : Further) (bytes : List ℕ) (says : leaking.Said) : Type 0 where
+  pub malformed : (says ≡ leaking.refused 9) ↔ (WellFormed t h → ⊥)
+  pub too-many-secrets : (says ≡ leaking.refused 13) ↔ (WellFormed t h × (3 < f .count))
+  pub look-back-too-large : (says ≡ leaking.refused 14) ↔ (WellFormed t h × (f .count ≤ 3) × TooLarge f)
+  pub nowhere : (says ≡ leaking.nowhere) ↔ (WellFormed t h × Allowed f × NoneLeaks notion t h f bytes)
+  pub found : (place : ℕ) → (says ≡ leaking.at place) ↔ (WellFormed t h × Allowed f × FirstLeak notion t h f bytes place)
+  pub no-other : (n : ℕ) → says ≡ leaking.refused n → (n ≡ 9) ⊎ ((n ≡ 13) ⊎ (n ≡ 14))
+
+abbrev pub EveryFirstLeak : Type 0
+EveryFirstLeak = (notion : Notion) (t : List ℕ) (h : Header) (f : Further) (bytes : List ℕ) (says : leaking.Said) → Finding notion t h f bytes says
+    → FirstLeakAnswers notion t h f bytes says
+
+-- a search of no byte yet: the notion and the further secrets as they were given, no event counted and no leak found
+pub record StartsFrom (notion : Notion) (h : Header) (f : Further) (s : Search) : Type 0 where
+  pub by : s .notion ≡ notion
+  pub same : s .estimator .further ≡ clearedOf f
+  pub limits : estimator.InLimits h (s .estimator)
+  pub counted : s .accepted ≡ 0
+  pub not-found : s .found ≡ false
+
+-- `Search::begin`, a search of no byte yet: refused as a fresh estimator is, and what a refused one hands back is outside its limits on every automaton; else
+-- nothing is found
+pub record BeginAnswers (notion : Notion) (t : List ℕ) (h : Header) (f : Further) (says : leaking.Said) (s : Search) : Type 0 where
+  pub malformed : (says ≡ leaking.refused 9) ↔ (WellFormed t h → ⊥)
+  pub too-many-secrets : (says ≡ leaking.refused 13) ↔ (WellFormed t h × (3 < f .count))
+  pub look-back-too-large : (says ≡ leaking.refused 14) ↔ (WellFormed t h × (f .count ≤ 3) × TooLarge f)
+  pub begun : (says ≡ leaking.nowhere) ↔ (WellFormed t h × Allowed f)
+  pub starts : says ≡ leaking.nowhere → StartsFrom notion h f s
+  pub no-place : (place : ℕ) → says ≡ leaking.at place → ⊥
+  pub no-other : (n : ℕ) → says ≡ leaking.refused n → (n ≡ 9) ⊎ ((n ≡ 13) ⊎ (n ≡ 14))
+  pub unusable : (n : ℕ) → says ≡ leaking.refused n → verifier.Unusable (s .estimator)
+
+abbrev pub EveryBegin : Type 0
+EveryBegin = (notion : Notion) (t : List ℕ) (h : Header) (f : Further) (says : leaking.Said) (s : Search) → Beginning notion t h f says s
+    → BeginAnswers notion t h f says s
+
+-- `Search::advance`, a block offered to a search: 9 exactly where it is outside its limits, and then it is as it was; else what it has found then, and it keeps
+-- its notion and its further secrets, is within its limits, counts at most as many events more as the block has bytes, and stays as it was where none of them
+-- is an observable symbol, whatever it grew from
+pub record AdvancedWithin (h : Header) (self : Search) (bytes : List ℕ) (says : leaking.Said) (after : Search) : Type 0 where
+  pub says-it : says ≡ saidOf after
+  pub by : after .notion ≡ self .notion
+  pub same : after .estimator .further ≡ self .estimator .further
+  pub limits : estimator.InLimits h (after .estimator)
+  pub placed : after .found ≡ true → 1 ≤ after .accepted
+  pub fewest : self .accepted ≤ after .accepted
+  pub most : after .accepted ≤ self .accepted + length bytes
+  pub unobserved : Every (λ b. Observable h b → ⊥) bytes → after ≡ self
+  pub stays : self .found ≡ true → after ≡ self
+
+pub record SearchAnswers (t : List ℕ) (h : Header) (self : Search) (bytes : List ℕ) (says : leaking.Said) (after : Search) : Type 0 where
+  pub malformed : (says ≡ leaking.refused 9) ↔ (Within t h self (length bytes) → ⊥)
+  pub no-other : (n : ℕ) → says ≡ leaking.refused n → n ≡ 9
+  pub unchanged : (n : ℕ) → says ≡ leaking.refused n → after ≡ self
+  pub searched : Within t h self (length bytes) → AdvancedWithin h self bytes says after
+
+abbrev pub EverySearch : Type 0
+EverySearch = (t : List ℕ) (h : Header) (self : Search) (bytes : List ℕ) (says : leaking.Said) (after : Search) → Advancing t h self bytes says after
+    → SearchAnswers t h self bytes says after

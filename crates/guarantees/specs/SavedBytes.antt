@@ -1,4 +1,4 @@
--- A gateway that keeps a table, a header and a state as bytes: the three points of the C functions, and the exploration.
+-- A gateway that keeps a table, a header and a state as bytes: the three points of the C functions, the exploration, and the first leak.
 use mathlib.Core.Path.{_≡_}
 use mathlib.Core.List.{List}
 use Prim.Native.Nat.{ℕ, _≤_}
@@ -21,13 +21,16 @@ use Rattle.published.specs.Source.{PublishedReleases}
 use Rattle.explore.specs.Explorations as exploring
 use Rattle.explore.specs.Explorations.{ExploredAll, Exploring}
 use Rattle.waiting.specs.LongestWaits.{waitBy}
-use Rattle.layout.specs.Sizes.{headerSize, furtherSize, estimatorSize, strongByte, notionPlace, enforcerSize, judgementSize, explorationSize}
-use Rattle.layout.specs.Layout.{headerAt, furtherAt, estimatorAt, notionAt, enforcerAt, judgementAt, explorationAt}
+use Rattle.leaks.specs.FirstLeaks as leaking
+use Rattle.leaks.specs.FirstLeaks.{Finding}
+use Rattle.layout.specs.Sizes.{headerSize, furtherSize, estimatorSize, strongByte, notionPlace, enforcerSize, judgementSize, explorationSize, firstLeakSize}
+use Rattle.layout.specs.Layout.{headerAt, furtherAt, estimatorAt, notionAt, enforcerAt, judgementAt, explorationAt, firstLeakAt}
 use Rattle.gateway.specs.Interface.{Decode, FreshSizes, Fresh, VerifierSizes, Accept, StartSizes, Start, OfferSizes, Offer, ExploreSizes, Explore}
+use Rattle.gateway.specs.Interface.{FirstLeakSizes, FirstLeakCall, leakSaid}
 use Rattle.gateway.specs.Interface.{ByFurther, ByStart, ByExplore}
 use Rattle.gateway.specs.SavedCalls.{AcceptCall, AcceptCalls, callsOf, OfferCall, OfferCalls, offersOf, SavedLongestWait}
 
--- the first point, of each of the six functions: 9 where a slice has not its length or the notion is none; else the refusal of the entry below (FirstPoint);
+-- the first point, of each of the seven functions: 9 where a slice has not its length or the notion is none; else the refusal of the entry below (FirstPoint);
 -- whatever is not 0 leaves every lent slice as it was
 abbrev pub DecodeSaved : Type 0
 DecodeSaved = (encoding table header : List ℕ) (answer : ℕ) (t after : List ℕ) → Decode encoding table header answer t after
@@ -67,8 +70,15 @@ ExploreSaved = (t header further : List ℕ) (budget : ℕ) (exploration : List 
     × (ExploreSizes header further exploration → (answer ≡ 0 → ⊥)
     → Exploring t (headerAt header) (furtherAt further 0) (exploring.limitOf budget) (exploring.refused answer))
 
--- after a decode that answered 0, with slices of their lengths: a fresh call is refused by 13 and 14 only, a start by these and by 8, an exploration by these
--- two and by 15, each on its condition
+abbrev pub FirstLeakSaved : Type 0
+FirstLeakSaved = (t header : List ℕ) (notion : ℕ) (further events place : List ℕ) (answer : ℕ) (out : List ℕ)
+    → FirstLeakCall t header notion further events place answer out
+    → ((FirstLeakSizes header notion further place → ⊥) → answer ≡ 9) × ((answer ≡ 0 → ⊥) → out ≡ place)
+    × (FirstLeakSizes header notion further place → (answer ≡ 0 → ⊥)
+    → Finding (notionAt notion) t (headerAt header) (furtherAt further 0) events (leaking.refused answer))
+
+-- after a decode that answered 0, with slices of their lengths: a fresh call and a first leak are refused by 13 and 14 only, a start by these and by 8, an
+-- exploration by these two and by 15, each on its condition
 abbrev pub FreshBySecrets : Type 0
 FreshBySecrets = (encoding table before t header further estimator lent : List ℕ) (answer : ℕ) (s told : List ℕ) → Decode encoding table before 0 t header
     → length further ≡ furtherSize → length estimator ≡ estimatorSize → length lent ≡ judgementSize → Fresh t header further estimator lent answer s told
@@ -84,6 +94,11 @@ abbrev pub ExploreByBudget : Type 0
 ExploreByBudget = (encoding table before t header further : List ℕ) (budget : ℕ) (lent : List ℕ) (answer : ℕ) (out : List ℕ)
     → Decode encoding table before 0 t header → length further ≡ furtherSize → length lent ≡ explorationSize
     → Explore t header further budget lent answer out → ByExplore t (headerAt header) (furtherAt further 0) budget answer
+
+abbrev pub FirstLeakBySecrets : Type 0
+FirstLeakBySecrets = (encoding table before t header : List ℕ) (notion : ℕ) (further events lent : List ℕ) (answer : ℕ) (out : List ℕ)
+    → Decode encoding table before 0 t header → notion ≤ strongByte → length further ≡ furtherSize → length lent ≡ firstLeakSize
+    → FirstLeakCall t header notion further events lent answer out → ByFurther (furtherAt further 0) answer
 
 -- the second point, from the bytes of an encoding to the verdicts
 abbrev pub EncodedSecondPoint : Type 0
@@ -123,6 +138,11 @@ SavedWaits = (t header a b : List ℕ) (budget : ℕ) (lent out : List ℕ) (not
     → clearedOf (furtherAt a 0) ≡ clearedOf (furtherAt b 0) → Explore t header a budget lent 0 out → Start t header notion b before 0 s
     → SavedLongestWait t header s (waitBy (notionAt notion) (explorationAt out .weak) (explorationAt out .strong))
 
+-- the first leak: where it answered 0, its bytes hold the place, or 0 where there is none
+abbrev pub FirstLeakInBytes : Type 0
+FirstLeakInBytes = (t header : List ℕ) (notion : ℕ) (further events lent out : List ℕ) → FirstLeakCall t header notion further events lent 0 out
+    → Finding (notionAt notion) t (headerAt header) (furtherAt further 0) events (leakSaid (firstLeakAt out))
+
 -- what an accepted symbol leaves is within its limits as it reads back, whatever the state grew from, and keeps the further secrets
 abbrev pub AcceptWithin : Type 0
 AcceptWithin = (t header : List ℕ) (symbol : ℕ) (before lent after told : List ℕ) → Accept t header symbol before lent 0 after told
@@ -145,3 +165,8 @@ StartPastCount = (t header : List ℕ) (notion : ℕ) (a b enforcer : List ℕ) 
 abbrev pub ExplorePastCount : Type 0
 ExplorePastCount = (t header a b : List ℕ) (budget : ℕ) (lent : List ℕ) (answer : ℕ) (out : List ℕ) → length a ≡ furtherSize → length b ≡ furtherSize
     → clearedOf (furtherAt a 0) ≡ clearedOf (furtherAt b 0) → Explore t header a budget lent answer out → Explore t header b budget lent answer out
+
+abbrev pub FirstLeakPastCount : Type 0
+FirstLeakPastCount = (t header : List ℕ) (notion : ℕ) (a b events lent : List ℕ) → length a ≡ furtherSize → length b ≡ furtherSize
+    → clearedOf (furtherAt a 0) ≡ clearedOf (furtherAt b 0) → (answer : ℕ) (out : List ℕ) → FirstLeakCall t header notion a events lent answer out
+    → FirstLeakCall t header notion b events lent answer out

@@ -22,7 +22,7 @@ use Rattle.layout.specs.Sizes as sizes
 use Rattle.layout.specs.Layout.{littleEndianAt, littleEndianBytes, wordBytes, wordsAt, wordsBytes, bytesAt, headerAt, headerBytes, HeaderSized}
 use Rattle.layout.specs.Layout.{placeAt, placeBytes, furtherAt, furtherBytes, FurtherSized, estimatorAt, estimatorBytes, EstimatorSized, EstimatorSaved}
 use Rattle.layout.specs.Layout.{notionAt, notionByte, enforcerAt, enforcerBytes, EnforcerSized, EnforcerSaved, verdictAt, verdictByte}
-use Rattle.layout.specs.Layout.{explorationBytes, ExplorationSaved}
+use Rattle.layout.specs.Layout.{explorationBytes, ExplorationSaved, firstLeakBytes, PlaceSaved}
 use Rattle.layout.proofs.Bytes.{number-more, number-none, bytes-length, words-bytes-length}
 
 -- a text stands in the bytes from a place on, between others
@@ -264,3 +264,7 @@ exploration-saved e small =
     let w = byte-back from-weak in
     let s = byte-back from-strong in
     record { size = exploration-length e; back = λ i. record { number = n i; weak = w i; strong = s i } }
+
+-- the place of a first leak
+pub place-saved : (place : ℕ) → place < 2 ^ 64 → PlaceSaved place
+place-saved place small = record { size = bytes-length sizes.wordSize place; back = number-back sizes.wordSize place small (stands-all (firstLeakBytes place)) }

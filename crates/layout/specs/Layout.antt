@@ -1,5 +1,5 @@
--- The bytes of headers, further secrets, saved estimators, saved enforcers, judgements, releases and explorations: what is read from bytes (headerAt ..), and
--- the bytes that are written (headerBytes ..). A number of several bytes has the least significant first. Sizes has every place and size.
+-- The bytes of headers, further secrets, saved estimators, saved enforcers, judgements, releases, explorations and first leaks: what is read from bytes
+-- (headerAt ..), and the bytes that are written (headerBytes ..). A number of several bytes has the least significant first. Sizes has every place and size.
 use Prim.Native.Nat.{ℕ, zero, suc, _+_, _*_, _/_, _%_, _≤_, _<_, _^_}
 use mathlib.Core.Path.{_≡_}
 use mathlib.Core.Bool.{cond}
@@ -229,3 +229,15 @@ explorationAt bytes =
 pub record ExplorationSaved (e : Exploration) : Type 0 where
   pub size : length (explorationBytes e) ≡ sizes.explorationSize
   pub back : explorationAt (explorationBytes e) ≡ e
+
+-- a first leak: the number of an accepted event, from 1, and 0 where there is none
+abbrev pub firstLeakBytes : ℕ → List ℕ
+firstLeakBytes place = wordBytes place
+
+abbrev pub firstLeakAt : List ℕ → ℕ
+firstLeakAt bytes = wordAt bytes 0
+
+-- the bytes that a call leaves for it: they have their length, and read back as it is
+pub record PlaceSaved (place : ℕ) : Type 0 where
+  pub size : length (firstLeakBytes place) ≡ sizes.firstLeakSize
+  pub back : firstLeakAt (firstLeakBytes place) ≡ place

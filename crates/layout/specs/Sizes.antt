@@ -157,3 +157,7 @@ strongWaitPlace = weakWaitPlace + 1
 
 abbrev pub explorationSize : ℕ
 explorationSize = strongWaitPlace + 1
+
+-- a first leak: the number of an accepted event, a word
+abbrev pub firstLeakSize : ℕ
+firstLeakSize = wordSize

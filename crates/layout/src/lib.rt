@@ -1,5 +1,6 @@
-// The bytes of headers, further secrets, saved estimators, saved enforcers, judgements, releases and explorations, as specs/Layout has them, each read from
-// its bytes and written to them. What is required is that the bytes have room: who calls tests their length. Every place and size is a constant of `sizes`.
+// The bytes of headers, further secrets, saved estimators, saved enforcers, judgements, releases, explorations and first leaks, as specs/Layout has them, each
+// read from its bytes and written to them. What is required is that the bytes have room: who calls tests their length. Every place and size is a constant of
+// `sizes`.
 use automaton::Header;
 use enforcer::Enforcer;
 use enforcer::Release;
@@ -21,7 +22,7 @@ ghost use Rattle.layout.specs.Sizes as sizes;
 ghost use Rattle.layout.specs.Layout.{Stored, littleEndianAt, littleEndianBytes, wordAt, wordsAt, wordsBytes, bytesAt};
 ghost use Rattle.layout.specs.Layout.{headerAt, headerBytes, placeAt, placeBytes, furtherAt, furtherBytes, FurtherSized};
 ghost use Rattle.layout.specs.Layout.{estimatorAt, estimatorBytes, EstimatorSized, notionAt, notionByte, enforcerAt, enforcerBytes, EnforcerSized};
-ghost use Rattle.layout.specs.Layout.{verdictByte, toldBytes, allFindings, judgementBytes, releaseBytes, explorationBytes};
+ghost use Rattle.layout.specs.Layout.{verdictByte, toldBytes, allFindings, judgementBytes, releaseBytes, explorationBytes, firstLeakBytes};
 
 pub mod sizes;
 
@@ -317,7 +318,7 @@ pub fn write_enforcer(bytes: &mut [u8], enforcer: Enforcer)
     store_bytes(bytes, sizes::WAITS_PLACE, &waits);
 }
 
-// ---- judgements and releases
+// ---- judgements, releases, explorations and first leaks
 
 fn verdict_byte(verdict: Verdict) -> u8
     ensures { λ r. ⌜ r ≡ verdictByte (stepsOf verdict) ⌝ }
@@ -374,4 +375,12 @@ pub fn write_exploration(bytes: &mut [u8], exploration: Exploration)
     );
     put(bytes, sizes::WEAK_WAIT_PLACE, exploration.weak);
     put(bytes, sizes::STRONG_WAIT_PLACE, exploration.strong);
+}
+
+// The place of the first leak, or 0 where there is none.
+pub fn write_first_leak(bytes: &mut [u8], place: u64)
+    requires { ⌜ length (now bytes) ≡ sizes.firstLeakSize ⌝ }
+    ensures { λ _. ⌜ now (bytes .exit) ≡ firstLeakBytes place ⌝ }
+{
+    store_number(bytes, 0, sizes::WORD_SIZE, place);
 }

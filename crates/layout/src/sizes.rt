@@ -106,3 +106,6 @@ pub const WEAK_WAIT_PLACE: usize = EXPLORED_PLACE + EXPLORED_SIZE;
 pub const STRONG_WAIT_PLACE: usize = WEAK_WAIT_PLACE + 1;
 
 pub const EXPLORATION_SIZE: usize = STRONG_WAIT_PLACE + 1;
+
+// A first leak: the number of an accepted event, a word.
+pub const FIRST_LEAK_SIZE: usize = WORD_SIZE;

@@ -1,6 +1,6 @@
 -- Laws of lists of calls. Assumes nothing.
 use mathlib.Core.Path.{_≡_, refl, ap, ap₂, sym, subst, _∙_}
-use mathlib.Core.List.{List, [], _∷_, _++_, append-assoc}
+use mathlib.Core.List.{List, [], _∷_, _++_, append-assoc, append-nil}
 use Rattle.lists.specs.Calls.{Chain, done, next, joined, offered, Every, Each, more}
 
 -- calls and then more calls
@@ -12,6 +12,13 @@ chain-append (next x p) q = next x (chain-append p q)
 pub joined-append : {Call A : Type 0} (part : Call → List A) (cs ds : List Call) → joined part (cs ++ ds) ≡ joined part cs ++ joined part ds
 joined-append part [] ds = refl
 joined-append part (c ∷ cs) ds = ap (λ (l : List _). part c ++ l) (joined-append part cs ds) ∙ sym (append-assoc (part c) (joined part cs) (joined part ds))
+
+-- calls that are judged, and then more of them
+pub each-append : {Call A : Type 0} {taken : Call → List A} {Judged : List A → Call → Type 0} (trace : List A) (cs ds : List Call) → Each taken Judged trace cs
+    → Each taken Judged (trace ++ joined taken cs) ds → Each taken Judged trace (cs ++ ds)
+each-append {A = A} {taken} {Judged} trace [] ds x y = subst (λ (l : List A). Each taken Judged l ds) (append-nil trace) y
+each-append {A = A} {taken} {Judged} trace (c ∷ cs) ds (more j x) y =
+    more j (each-append (trace ++ taken c) cs ds x (subst (λ (l : List A). Each taken Judged l ds) (sym (append-assoc trace (taken c) (joined taken cs))) y))
 
 -- where each call that offers what can follow is taken, calls that offer what can follow, one after another, are all taken
 module _ {Call A : Type 0} (taken : Call → List A) (byte : Call → A) (Judged : List A → Call → Type 0) (Good : Call → Type 0) (Can : List A → Type 0)
@@ -31,3 +38,8 @@ module _ {Call A : Type 0} (taken : Call → List A) (byte : Call → A) (Judged
 pub every : {Call : Type 0} {P : Call → Type 0} → ((c : Call) → P c) → (cs : List Call) → Every P cs
 every all [] = tt
 every all (c ∷ cs) = (all c, every all cs)
+
+-- and what holds of each of two lists joined holds of each of both
+pub every-split : {Call : Type 0} (P : Call → Type 0) (cs ds : List Call) → Every P (cs ++ ds) → Every P cs × Every P ds
+every-split P [] ds x = (tt, x)
+every-split P (c ∷ cs) ds x = let y = every-split P cs ds (x .1) in ((x .0, y .0), y .1)

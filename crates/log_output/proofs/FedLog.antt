@@ -23,18 +23,19 @@ use Rattle.monitor.specs.Running.{Front}
 use Rattle.monitor.proofs.Openings.{started-within}
 use Rattle.monitor.proofs.Following.{lines-none, lines-append}
 use Rattle.monitor.proofs.LogOutput.{take-is, front-opens, started-usable, lines-output, log-output}
+use Rattle.streams.specs.Writes.{RefusalLine}
 use Rattle.log_output.specs.declared.Status.{Status}
 use Rattle.log_output.specs.declared.Status.the-variants.{Going, Ended, Failed, Closed}
 use Rattle.log_output.specs.declared.Progress.{Progress}
 use Rattle.log_output.specs.declared.Reading.{Reading}
 use Rattle.log_output.specs.declared.Rest.{Rest}
 use Rattle.log_output.specs.Progressing.{Usable, Roomy, free, emptied, closed, Stopped, Followed}
-use Rattle.log_output.specs.Whole.{RefusalLine, EndLines, begun, Begins, not-opened, opened, Finished, HasPrinted}
+use Rattle.log_output.specs.Whole.{EndLines, begun, Begins, not-opened, opened, Finished, HasPrinted}
 use Rattle.log_output.specs.Feeding as fed
 use Rattle.log_output.specs.Feeding.{withStatus, Turning, unwritten, brought-some, Feeding, Ran, LeftBehind, one-line, whole, not-read, not-written}
 use Rattle.log_output.specs.Feeding.{no-last}
 use Rattle.log_output.proofs.Keeping.{ended-not, failed-not, closed-not}
-use Rattle.log_output.proofs.Fetching.{feeding-over}
+use Rattle.log_output.proofs.ReadingOn.{feeding-over}
 
 -- why a log is no longer read on: all that was handed on is followed and the input has ended or a read failed, a log may have no more, or the output takes no
 -- more

@@ -1,4 +1,4 @@
 -- Laws that belong to no one function.
 pub mod Keeping
-pub mod Fetching
+pub mod ReadingOn
 pub mod FedLog

@@ -2,51 +2,24 @@
 -- lent input after it, as many as it answered. That they are the input's, and that a line that was written out is out, is tested.
 use mathlib.Core.Path.{_≡_}
 use mathlib.Core.List.{List, [], _++_}
-use Prim.Native.Nat.{ℕ, _+_, _-_, _≤_, _<_, min}
-use lib.IntN.{ℤ, pos, negsuc}
+use Prim.Native.Nat.{ℕ, _+_, _-_, _≤_, _<_}
 use mathlib.Core.Logic.{_⊎_}
 use lib.ListN.{length, take}
 use Rattle.automaton.specs.declared.Header.{Header}
 use Rattle.refusal.specs.declared.Refusal.{Refusal}
-use Rattle.monitor.specs.Opening.{frontSize}
 use Rattle.monitor.specs.Stepping.{placeOf}
 use Rattle.monitor.specs.Running.{Front}
+use Rattle.streams.specs.declared.Fetched.{Fetched}
+use Rattle.streams.specs.declared.Fetched.the-variants as fetched
+use Rattle.streams.specs.Writes.{RefusalLine}
 use Rattle.log_output.specs.declared.Status.{Status}
 use Rattle.log_output.specs.declared.Status.the-variants.{Going, Ended, Failed, Closed}
 use Rattle.log_output.specs.declared.Progress.{Progress}
-use Rattle.log_output.specs.declared.Fetched.{Fetched}
-use Rattle.log_output.specs.declared.Fetched.the-variants as fetched
-use Rattle.log_output.specs.declared.Gathered.{Gathered}
-use Rattle.log_output.specs.declared.Gathered.the-variants as gathered
 use Rattle.log_output.specs.declared.Reading.{Reading}
 use Rattle.log_output.specs.declared.Rest.{Rest}
 use Rattle.log_output.specs.declared.Monitored.{Monitored}
 use Rattle.log_output.specs.Progressing.{Usable, Followed}
-use Rattle.log_output.specs.Whole.{RefusalLine, EndLines, Begins, Finished, HasPrinted}
-
--- what a read finds, by what the system answered: a negative number is a failure, 0 the end of the input, and else so many bytes of those that were lent
-abbrev pub FoundBy : ℤ → ℕ → Fetched → Type 0
-FoundBy (pos k) lent (fetched.Bytes n) = (n ≡ min k lent) × (0 < n)
-FoundBy (pos k) lent fetched.End = min k lent ≡ 0
-FoundBy (pos k) lent fetched.Failed = ⊥
-FoundBy (negsuc k) lent (fetched.Bytes n) = ⊥
-FoundBy (negsuc k) lent fetched.End = ⊥
-FoundBy (negsuc k) lent fetched.Failed = Unit {0}
-
-pub record Found (answered : ℤ) (lent : ℕ) (r : Fetched) : Type 0 where
-  pub by : FoundBy answered lent r
-
--- no more bytes than there is space for
-abbrev pub There : ℕ → Fetched → Type 0
-There size (fetched.Bytes n) = n ≤ size
-There size fetched.End = Unit {0}
-There size fetched.Failed = Unit {0}
-
--- a read brings at least one byte, no more than there is space for and no more than may follow
-abbrev pub Brought : (size left : ℕ) → Fetched → Type 0
-Brought size left (fetched.Bytes n) = (0 < n) × (n ≤ size) × (n ≤ left)
-Brought size left fetched.End = Unit {0}
-Brought size left fetched.Failed = Unit {0}
+use Rattle.log_output.specs.Whole.{EndLines, Begins, Finished, HasPrinted}
 
 abbrev pub withStatus : Progress → Status → Progress
 withStatus p s = record { monitor = p .monitor; at = p .at; status = s }
@@ -84,18 +57,6 @@ pub data Feeding (t : List ℕ) (h : Header) : (left : ℕ) → Progress → (ou
 pub record Fed (t : List ℕ) (h : Header) (left : ℕ) (p : Progress) (out : List ℕ) (r : Rest) (out′ : List ℕ) : Type 0 where
   pub bytes : List ℕ
   pub feeding : Feeding t h left p out bytes r out′
-
--- how the first bytes go on with what a read found
-abbrev pub gatheredBy : Fetched → ℕ → Gathered
-gatheredBy (fetched.Bytes n) have = gathered.Bytes (have + n)
-gatheredBy fetched.End have = gathered.All have
-gatheredBy fetched.Failed have = gathered.Failed
-
--- the first bytes of a log: enough to open it, as `has_encoding` tests them, or as many as there is space for; or all that the input had; or a read failed
-abbrev pub UpTo : (input : List ℕ) (size : ℕ) → Gathered → Type 0
-UpTo input size (gathered.Bytes n) = (n ≤ length input) × (n ≤ size) × ((frontSize (take n input) ≤ n) ⊎ (n ≡ length input))
-UpTo input size (gathered.All n) = (n ≤ length input) × (n ≤ size)
-UpTo input size gathered.Failed = Unit {0}
 
 -- how many bytes are read on: as many as a log may still have, and no more than there are
 pub record Limit (p : Progress) (size limit : ℕ) : Type 0 where

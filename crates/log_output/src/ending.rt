@@ -2,9 +2,9 @@
 use super::Progress;
 use super::Status;
 use super::output::closed;
-use super::output::flush;
-use super::output::place;
 use super::output::with_room;
+use streams::writes::flush;
+use streams::writes::place;
 ghost use Rattle.log_output.specs.Whole.{EndLines, Finished};
 
 // The last lines, unless the output takes no more: what could not be written out is not written once more.

@@ -3,19 +3,17 @@ use super::Monitored;
 use super::Part;
 use super::Progress;
 use super::Status;
-use super::output::flush;
 use super::output::going;
-use super::output::place;
 use super::output::with_room;
 use super::output::with_status;
 use automaton::Header;
 use monitor::AdvanceAnswer;
 use monitor::OpenAnswer;
-use refusal::Refusal;
+use streams::writes::refuse;
 ghost use Prim.Native.Nat.{_≤_};
 ghost use lib.ListN.{length};
 ghost use Rattle.log_output.specs.Progressing.{Usable, Parted, Followed};
-ghost use Rattle.log_output.specs.Whole.{RefusalLine, Begins};
+ghost use Rattle.log_output.specs.Whole.{Begins};
 
 // The event bytes for which the output has room.
 fn advance(progress: Progress, table: &[u64], header: Header, events: &[u8], out: &mut [u8]) -> Part
@@ -71,14 +69,6 @@ pub fn follow(
         i += taken;
     }
     now
-}
-
-// The one line of a refused log.
-fn refuse(refusal: Refusal, out: &mut [u8])
-    ensures { λ _. ⌜ RefusalLine refusal (now (out .entry)) (now (out .exit)) ⌝ }
-{
-    let next = place(report::refused_log(out, 0, refusal));
-    flush(out, next);
 }
 
 // Opens a log by its first bytes, as `monitor::open` takes them, and follows the events among them.

@@ -1,9 +1,8 @@
-// A log that is read from standard input and monitored, with its lines written to standard output: what the programs that read logs share.
+// A log that is read from standard input and monitored, with its lines written to standard output: the log program's loop. `streams` reads and writes.
 // Here the types, and a log from its first read to its last line. The modules, each on those before it:
 mod output; // lines are written out
 mod following; // the monitor follows event bytes
 mod ending; // the last lines
-mod reads; // bytes are read, and the first ones gathered
 
 use automaton::Header;
 use ending::finish;
@@ -13,13 +12,16 @@ use monitor::Monitor;
 use output::going;
 use output::with_status;
 use output::written_out;
-use reads::fetch;
-use reads::gather;
-use reads::least;
+use streams::Fetched;
+use streams::Gathered;
+use streams::reads::fetch;
+use streams::reads::gather;
+use streams::reads::least;
 ghost use Prim.Native.Nat.{_-_, _≤_};
 ghost use mathlib.Core.Path.{_≡_};
 ghost use lib.ListN.{length, take};
-ghost use Rattle.log_output.specs.Feeding.{There, TakenIn, Turning, Fed, Ran, Monitors};
+ghost use Rattle.streams.specs.Reads.{There};
+ghost use Rattle.log_output.specs.Feeding.{TakenIn, Turning, Fed, Ran, Monitors};
 
 pub enum Status {
     // More event bytes may follow.
@@ -52,13 +54,6 @@ struct Part {
     taken: usize,
 }
 
-// What a read finds.
-pub enum Fetched {
-    Bytes(usize),
-    End,
-    Failed,
-}
-
 // What one more read leaves, and how many bytes it brought.
 struct Reading {
     progress: Progress,
@@ -69,13 +64,6 @@ struct Reading {
 pub struct Rest {
     pub progress: Progress,
     pub left: usize,
-}
-
-// The first bytes of a log: so many are there, or that is all of the input, or a read failed.
-pub enum Gathered {
-    Bytes(usize),
-    All(usize),
-    Failed,
 }
 
 // What a read found: its bytes are followed, all of them in order; or the log has ended, or failed.

@@ -42,7 +42,7 @@ use Rattle.monitor.proofs.LogPromise.{log-promise}
 use Rattle.monitor.proofs.OneOutput.{one-output}
 
 -- two inputs of which one is opened as the other is
-decodes-as : {a b t : List ℕ} {h : Header} {o : Outcome} → encodingOf a ≡ encodingOf b → Decodes a h o t → Decodes b h o t
+pub decodes-as : {a b t : List ℕ} {h : Header} {o : Outcome} → encodingOf a ≡ encodingOf b → Decodes a h o t → Decodes b h o t
 decodes-as {a} {b} {t} {h} {o} e d = record {
   before = d .before;
   words = d .words;
@@ -58,13 +58,13 @@ opens-as a b size same la lb (Opening.initial-leak l d start out) = Opening.init
 opens-as a b size same la lb {t = t} {h = h} {m = m} (Opening.opened l d fresh) =
     subst (λ (k : ℕ). Opening b (opening.started k) t h m) (sym size) (Opening.opened lb (decodes-as same d) fresh)
 
-size-kept : (first later : List ℕ) → frontSize first ≤ length first → frontSize first ≡ frontSize (first ++ later)
+pub size-kept : (first later : List ℕ) → frontSize first ≤ length first → frontSize first ≡ frontSize (first ++ later)
 size-kept first later l =
     let high : getD (first ++ later) 0 0 ≡ getD first 0 0 = List·getD-append first later 0 0 (omega arith) in
     let low : getD (first ++ later) 1 0 ≡ getD first 1 0 = List·getD-append first later 0 1 (omega arith) in
     omega arith
 
-encoding-kept : (first later : List ℕ) → frontSize first ≤ length first → encodingOf first ≡ encodingOf (first ++ later)
+pub encoding-kept : (first later : List ℕ) → frontSize first ≤ length first → encodingOf first ≡ encodingOf (first ++ later)
 encoding-kept first later l =
     sym (ap (λ (k : ℕ). take (k - 2) (drop 2 (first ++ later))) (sym (size-kept first later l))
     ∙ ap (take (frontSize first - 2)) (drop-append-le 2 first later (omega arith))

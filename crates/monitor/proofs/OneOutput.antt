@@ -31,15 +31,15 @@ on-table bytes a b x y (Decoding.malformed bad) = absurd (bad x)
 on-table bytes a b x y (Decoding.refused size n e) = Decoding.refused y n e
 on-table bytes a b x y (Decoding.accepted size d next is after holds) = Decoding.accepted y d next is after holds
 
-one-decodes : {log t t′ : List ℕ} {h h′ : Header} {o o′ : Outcome} (d : Decodes log h o t) (d′ : Decodes log h′ o′ t′)
+pub one-decodes : {log t t′ : List ℕ} {h h′ : Header} {o o′ : Outcome} (d : Decodes log h o t) (d′ : Decodes log h′ o′ t′)
     → Same h h′ o o′ (left o (d′ .before) t) t′
 one-decodes {log} d d′ = one-decoding (encodingOf log) (d′ .before) (on-table (encodingOf log) (d .before) (d′ .before) (d .words) (d′ .words) (d .decoding))
     (d′ .decoding)
 
-not-accepted : {n : ℕ} → refuse n ≡ accept → ⊥
+pub not-accepted : {n : ℕ} → refuse n ≡ accept → ⊥
 not-accepted e = let z : _≡_ {A = ℕ} 0 1 = cc in absurd (omega arith)
 
-one-number : {n m : ℕ} → refuse n ≡ refuse m → n ≡ m
+pub one-number : {n m : ℕ} → refuse n ≡ refuse m → n ≡ m
 one-number e = cc
 
 -- what holds of a log's automaton, however it was decoded

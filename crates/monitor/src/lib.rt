@@ -156,7 +156,7 @@ impl Monitor {
 }
 
 // How many bytes the length of an encoding and the encoding take.
-fn front_size(high: u8, low: u8) -> usize
+pub fn front_size(high: u8, low: u8) -> usize
     ensures { λ r. ⌜ r ≡ 2 + (high * 256 + low) ⌝ }
 {
     2 + ((high as usize) * 256 + low as usize)

@@ -75,3 +75,10 @@ endLine accepted released pending = line ((101 ∷ 110 ∷ 100 ∷ []) ∷ decim
 -- a refused log: `refused`, and the number of the refusal
 abbrev pub refusedLog : Refusal → List ℕ
 refusedLog refusal = line ((114 ∷ 101 ∷ 102 ∷ 117 ∷ 115 ∷ 101 ∷ 100 ∷ []) ∷ decimal (numberOf refusal) ∷ [])
+
+-- the first leak of a log (02, S-8): its place, or `-` where there is none
+abbrev pub placeLine : ℕ → List ℕ
+placeLine place = line (decimal place ∷ [])
+
+abbrev pub noPlaceLine : List ℕ
+noPlaceLine = line ((45 ∷ []) ∷ [])

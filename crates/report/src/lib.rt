@@ -9,6 +9,7 @@ ghost use lib.ListN.{length};
 ghost use Rattle.stateset.specs.Set.{Decided};
 ghost use Rattle.refusal.specs.Refusals.{numberOf};
 ghost use Rattle.report.specs.Text.{decimal, led, steps, symbols, acceptedLine, idleLine, refusedLine, endLine, refusedLog};
+ghost use Rattle.report.specs.Text.{placeLine, noPlaceLine};
 ghost use Rattle.report.specs.Writing.{roomFor, roomAtEnd, Written, Wrote};
 
 // Room for any line that names at most 17 released events, and for the last lines.
@@ -225,6 +226,22 @@ fn put_refused_log(out: &mut [u8], at: usize, refusal: Refusal) -> usize
     put(out, b, 10)
 }
 
+fn put_place(out: &mut [u8], at: usize, place: u32) -> usize
+    requires { ⌜ at + roomFor 0 ≤ length (now out) ⌝ }
+    ensures { λ r. ⌜ Wrote (roomFor 0) (now (out .entry)) at (placeLine place) (now (out .exit)) r ⌝ }
+{
+    let next = number(out, at, place);
+    put(out, next, 10)
+}
+
+fn put_no_place(out: &mut [u8], at: usize) -> usize
+    requires { ⌜ at + roomFor 0 ≤ length (now out) ⌝ }
+    ensures { λ r. ⌜ Wrote (roomFor 0) (now (out .entry)) at noPlaceLine (now (out .exit)) r ⌝ }
+{
+    let next = put(out, at, 45);
+    put(out, next, 10)
+}
+
 // There is room at a place for a line that names so many released events. (Divided, since a product might not fit.)
 fn has_room(out: &[u8], at: usize, released: usize) -> bool
     ensures { λ r. ⌜ Decided r (at + roomFor released ≤ length (now (out .entry))) ⌝ }
@@ -315,6 +332,26 @@ pub fn refused_log(out: &mut [u8], at: usize, refusal: Refusal) -> Line
 {
     if has_room(out, at, 0) {
         return Line::Next(put_refused_log(out, at, refusal));
+    }
+    Line::NoRoom
+}
+
+// The line of the first leak of a log (02, S-8): its place.
+pub fn leak_at(out: &mut [u8], at: usize, place: u32) -> Line
+    ensures { λ r. ⌜ Written (roomFor 0) (now (out .entry)) at (placeLine place) r (now (out .exit)) ⌝ }
+{
+    if has_room(out, at, 0) {
+        return Line::Next(put_place(out, at, place));
+    }
+    Line::NoRoom
+}
+
+// The line of a log without a leak (02, S-8).
+pub fn leak_nowhere(out: &mut [u8], at: usize) -> Line
+    ensures { λ r. ⌜ Written (roomFor 0) (now (out .entry)) at noPlaceLine r (now (out .exit)) ⌝ }
+{
+    if has_room(out, at, 0) {
+        return Line::Next(put_no_place(out, at));
     }
     Line::NoRoom
 }

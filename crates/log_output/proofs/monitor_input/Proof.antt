@@ -2,9 +2,10 @@
 use mathlib.Core.Path.{subst}
 use native.Mathlib.Omega.{arith}
 use borrow.Author.Needs.{needs}
-use Rattle.log_output.specs.declared.Gathered.{Gathered}
-use Rattle.log_output.specs.Feeding.{UpTo, unread}
-use Rattle.log_output.proofs.Fetching.{runs}
+use Rattle.streams.specs.declared.Gathered.{Gathered}
+use Rattle.streams.specs.Reads.{UpTo}
+use Rattle.log_output.specs.Feeding.{unread}
+use Rattle.log_output.proofs.ReadingOn.{runs}
 use Rattle.log_output.proofs.monitor_input.Statement.{statement}
 use Rattle.log_output.proofs.monitor_input.Tie as tie
 

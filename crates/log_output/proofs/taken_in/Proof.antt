@@ -5,11 +5,12 @@ use Prim.Native.Nat.{ℕ}
 use denote.Ref.{now}
 use borrow.Author.Needs.{needs}
 use Rattle.automaton.specs.declared.Header.{Header}
-use Rattle.log_output.specs.declared.Fetched.{Fetched}
+use Rattle.streams.specs.declared.Fetched.{Fetched}
+use Rattle.streams.specs.Reads.{There}
 use Rattle.log_output.specs.declared.Progress.{Progress}
 use Rattle.log_output.specs.declared.Reading.{Reading}
-use Rattle.log_output.specs.Feeding.{There, TakenIn, followed-all, no-more, not-fetched}
-use Rattle.log_output.proofs.Fetching.{whole-front}
+use Rattle.log_output.specs.Feeding.{TakenIn, followed-all, no-more, not-fetched}
+use Rattle.log_output.proofs.ReadingOn.{whole-front}
 use Rattle.log_output.proofs.taken_in.Statement.{statement}
 use Rattle.log_output.proofs.taken_in.Tie as tie
 

@@ -1,0 +1,5 @@
+-- Laws that belong to no one function.
+pub mod Beginnings
+pub mod ReadingOn
+pub mod OneLeakOutput
+pub mod FedLeaks

@@ -1,0 +1,3 @@
+-- What the contracts of `streams` cite. A reviewer reads Reads, then Writes.
+pub mod Reads
+pub mod Writes

@@ -766,6 +766,20 @@ def secret_limits(calls):
 # explorations
 
 
+def malformed(calls, sizes):
+    """Puts P's header in other sizes, then with a byte outside its limit, and then other tables: one after another, and says whether it is a limit."""
+    for size in sizes:
+        calls.put(header=resized(header_of(P), size))
+        yield False
+    for at, byte in ((0, 64), (1, 16), (SYMBOLS + 1, 32)):
+        calls.put(header=changed(header_of(P), at, byte))
+        yield True
+    calls.lend(P)
+    for words in (calls.table[:2047], calls.table + (0,), ()):
+        calls.put_table(words)
+        yield False
+
+
 def explore(calls, *budgets):
     """Explorations with each budget, each over what no function writes."""
     for budget in budgets:
@@ -853,15 +867,7 @@ def exploration_refusals(calls):
         for size in (0, 2, 3, 5, 8):
             calls.put(exploration=resized(EXPLORATION, size))
             calls.explore(0)
-        for size in (0, 45, 47):
-            calls.put(header=resized(header_of(P), size))
-            explore(calls, 0)
-        for at, byte in ((0, 64), (1, 16), (SYMBOLS + 1, 32)):
-            calls.put(header=changed(header_of(P), at, byte))
-            explore(calls, 0)
-        calls.lend(P)
-        for words in (calls.table[:2047], calls.table + (0,), ()):
-            calls.put_table(words)
+        for _ in malformed(calls, (0, 45, 47)):
             explore(calls, 0)
 
 
@@ -1011,16 +1017,8 @@ def search_refusals(calls):
         for size in (0, 1, 4, 7, 9, 16):
             calls.put(place=resized(PLACE, size))
             assert calls.first_leak(1) == 9
-        for size in (0, 14, 45, 47):
-            calls.put(header=resized(header_of(P), size))
-            search_again(calls, 0)
-        for at, byte in ((0, 64), (1, 16), (SYMBOLS + 1, 32)):
-            calls.put(header=changed(header_of(P), at, byte))
-            search_again(calls, 1)
-        calls.lend(P)
-        for words in (calls.table[:2047], calls.table + (0,), ()):
-            calls.put_table(words)
-            search_again(calls, 0)
+        for limit in malformed(calls, (0, 14, 45, 47)):
+            search_again(calls, int(limit))
 
 
 def random_first_leaks(calls):

@@ -1,6 +1,7 @@
 // Decodes an automaton (01: description): its header, and its transitions into a lent table of 2,048 words.
 // The whole encoding is checked first, so that a refusal leaves the table as it was; then the table is cleared and filled.
-// Every packed field is read through the Reader of `bitfields`. Only `decode` is an entry: it demands nothing of its caller.
+// Every packed field is read through the Reader of `bitfields`. `decode` is the entry, and `check`, the first pass alone: they demand nothing of their
+// callers. `front_end` is inner, for the crates above.
 use automaton::Header;
 use automaton::Refusal;
 use bitfields::Field;
@@ -16,12 +17,12 @@ ghost use Rattle.encoding.specs.Answers.{fixedMeans, frontMeans, checked
 ghost use Rattle.encoding.specs.Decoding.{Decoding, refusedBy, answerMeans};
 
 // The fields that each encoding starts with: 32 bits.
-struct Fixed {
-    topstate: usize,
-    topevent: usize,
-    k: usize,
-    initial: usize,
-    count: usize,
+pub struct Fixed {
+    pub topstate: usize,
+    pub topevent: usize,
+    pub k: usize,
+    pub initial: usize,
+    pub count: usize,
 }
 
 enum FixedAnswer {
@@ -30,13 +31,13 @@ enum FixedAnswer {
 }
 
 // All of an encoding but the transitions.
-struct Front {
-    fixed: Fixed,
-    secret: u64,
-    observable: u64,
+pub struct Front {
+    pub fixed: Fixed,
+    pub secret: u64,
+    pub observable: u64,
 }
 
-enum FrontAnswer {
+pub enum FrontAnswer {
     Value(Front),
     Refused(Refusal),
 }
@@ -120,7 +121,7 @@ fn read_front(bytes: &[u8]) -> FrontAnswer
 }
 
 // The position of the first transition.
-fn front_end(front: Front) -> usize
+pub fn front_end(front: Front) -> usize
     requires { ⌜ FrontSmall front ⌝ }
     ensures { λ r. ⌜ r ≡ frontEnd front ⌝ }
 {
@@ -194,7 +195,7 @@ fn check_ending(bytes: &[u8], at: usize) -> Checked
 }
 
 // The first pass: the whole encoding is in order. Nothing is written.
-fn check(bytes: &[u8]) -> FrontAnswer
+pub fn check(bytes: &[u8]) -> FrontAnswer
     ensures { λ r. ⌜ encodingMeans (bitsOf (now (bytes .entry))) r ≡ encoding (bitsOf (now (bytes .entry))) 0 ⌝ }
 {
     match read_front(bytes) {

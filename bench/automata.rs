@@ -100,9 +100,11 @@ impl Automaton {
     /// The packed encoding, if it has no more transitions than one can list.
     pub fn encode(&self) -> Option<Vec<u8>> {
         let transitions = self.transitions();
-        if 1023 < transitions.len() {
-            return None;
-        }
+        (transitions.len() <= 1023).then(|| self.encode_as(&transitions, self.lent().2))
+    }
+
+    /// With these transitions as they stand, and with these symbols, if any.
+    pub fn encode_as(&self, transitions: &[(usize, usize, usize)], symbols: Option<&[u8; 32]>) -> Vec<u8> {
         let mut bits = Vec::new();
         let mut field = |value: usize, width: usize| bits.extend((0..width).rev().map(|i| (value >> i & 1) as u8));
         field(self.states - 1, 6);
@@ -110,18 +112,18 @@ impl Automaton {
         field(self.k as usize, 4);
         field(self.initial as usize, 6);
         field(transitions.len(), 10);
-        let (_, observable, symbols) = self.lent();
+        let observable = self.lent().1;
         field(symbols.is_some() as usize, 1);
         (0..self.states).for_each(|q| field((self.secret >> q & 1) as usize, 1));
         (0..self.events).for_each(|e| field((observable >> e & 1) as usize, 1));
         symbols.into_iter().for_each(|symbols| (0..self.events).for_each(|e| field(symbols[e] as usize, 5)));
-        for (from, event, to) in transitions {
+        for &(from, event, to) in transitions {
             field(from, 6);
             field(event, 5);
             field(to, 6);
         }
         bits.resize(bits.len().div_ceil(8) * 8, 0);
-        Some(bits.chunks(8).map(|byte| byte.iter().fold(0, |number, bit| 2 * number + bit)).collect())
+        bits.chunks(8).map(|byte| byte.iter().fold(0, |number, bit| 2 * number + bit)).collect()
     }
 
     /// Where unobservable transitions lead from a set.

@@ -2,6 +2,7 @@
 //! the run with status 1.
 
 use crate::automata::{Automaton, Secret};
+use crate::canonical;
 use crate::cases::Case;
 use crate::excuses::Excused;
 use crate::exploration::{self, Exploration, BUDGET_SPENT, MOST};
@@ -389,5 +390,38 @@ pub fn compare_leaks(case: &Case, calm: usize, length: usize, seed: u64, compare
                 compared.none += 1;
             }
         }
+    }
+}
+
+/// How many encodings were written in their canonical form: with the sum of their bytes, those that were shorter, since they need no symbols, and those
+/// that were the form already.
+#[derive(Default)]
+pub struct ComparedForms {
+    pub written: usize,
+    pub bytes: usize,
+    pub shorter: usize,
+    pub same: usize,
+}
+
+/// Compares the canonical form that (a) writes with the plain one, of encodings with the transitions in any order, with symbols and without: with the
+/// largest space, with as many bytes as it has and with one fewer, and of the form itself.
+pub fn compare_forms(case: &Case, seed: u64, compared: &mut ComparedForms) {
+    let (automaton, expected) = (&case.automaton, canonical::form(&case.automaton));
+    let mut a = Library::new(automaton);
+    let mut same = |encoding: &[u8], space: usize, expected: Result<&[u8], u8>| {
+        let got = a.canonical(encoding, space);
+        if got != expected {
+            differ(case, "plain, canonical form", space, got, expected);
+        }
+    };
+    for listed in [false, true] {
+        let encoding = canonical::shuffled(automaton, listed, seed);
+        [canonical::MOST, expected.len()].into_iter().for_each(|space| same(&encoding, space, Ok(&expected)));
+        same(&encoding, expected.len() - 1, Err(canonical::OUTPUT_TOO_SMALL));
+        same(&expected, canonical::MOST, Ok(&expected));
+        compared.written += 1;
+        compared.bytes += expected.len();
+        compared.shorter += (expected.len() < encoding.len()) as usize;
+        compared.same += (expected == encoding) as usize;
     }
 }

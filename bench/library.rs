@@ -1,6 +1,7 @@
 //! (a) The proved library through its C interface (include/opacity.h).
 
 use crate::automata::{Automaton, Secret};
+use crate::canonical;
 use crate::exploration::Exploration;
 use crate::plain::{Judgement, Release};
 
@@ -11,6 +12,7 @@ type Start = unsafe extern "C" fn(*const u64, usize, *const u8, usize, u8, *cons
 type Offer = unsafe extern "C" fn(*const u64, usize, *const u8, usize, u8, *mut u8, usize, *mut u8, usize, *mut u8, usize) -> u8;
 type Explore = unsafe extern "C" fn(*const u64, usize, *const u8, usize, *const u8, usize, u32, *mut u8, usize) -> u8;
 type FirstLeak = unsafe extern "C" fn(*const u64, usize, *const u8, usize, u8, *const u8, usize, *const u8, usize, *mut u8, usize) -> u8;
+type Canonical = unsafe extern "C" fn(*const u8, usize, *mut u8, usize, *mut u8, usize) -> u8;
 
 extern "C" {
     fn opacity_decode(encoding: *const u8, _: usize, table: *mut u64, _: usize, header: *mut u8, _: usize) -> u8;
@@ -35,9 +37,10 @@ extern "C" {
         table: *const u64, _: usize, header: *const u8, _: usize, notion: u8, further: *const u8, _: usize, symbols: *const u8, _: usize,
         place: *mut u8, _: usize,
     ) -> u8;
+    fn opacity_canonical(encoding: *const u8, _: usize, output: *mut u8, _: usize, size: *mut u8, _: usize) -> u8;
 }
 
-/// The seven functions, or stand-ins: the measuring of the stack compares the two.
+/// The eight functions, or stand-ins: the measuring of the stack compares the two.
 #[derive(Clone, Copy)]
 pub struct Functions {
     decode: Decode,
@@ -47,11 +50,12 @@ pub struct Functions {
     offer: Offer,
     explore: Explore,
     first_leak: FirstLeak,
+    canonical: Canonical,
 }
 
 pub const PROVED: Functions = Functions {
     decode: opacity_decode, fresh: opacity_fresh, accept: opacity_accept, start: opacity_start, offer: opacity_offer, explore: opacity_explore,
-    first_leak: opacity_first_leak,
+    first_leak: opacity_first_leak, canonical: opacity_canonical,
 };
 
 unsafe extern "C" fn no_decode(_: *const u8, _: usize, _: *mut u64, _: usize, _: *mut u8, _: usize) -> u8 {
@@ -82,9 +86,14 @@ unsafe extern "C" fn no_first_leak(
     0
 }
 
+unsafe extern "C" fn no_canonical(_: *const u8, _: usize, _: *mut u8, _: usize, _: *mut u8, _: usize) -> u8 {
+    0
+}
+
 /// Functions that do nothing.
 pub const NOTHING: Functions = Functions {
     decode: no_decode, fresh: no_fresh, accept: no_accept, start: no_start, offer: no_offer, explore: no_explore, first_leak: no_first_leak,
+    canonical: no_canonical,
 };
 
 pub const WEAK: u8 = 0;
@@ -102,6 +111,8 @@ pub struct Library {
     release: [u8; 2],
     exploration: [u8; 4],
     place: [u8; 8],
+    form: [u8; canonical::MOST],
+    size: [u8; 8],
 }
 
 impl Library {
@@ -114,7 +125,7 @@ impl Library {
     pub fn with(automaton: &Automaton, further: &[Secret]) -> Self {
         let mut made = Library {
             table: vec![0; 2048], header: [0; 46], further: [0; 28], estimator: [0; 172], judgement: [0; 9], enforcer: [0; 206], output: [0; 17],
-            release: [0; 2], exploration: [0; 4], place: [0; 8],
+            release: [0; 2], exploration: [0; 4], place: [0; 8], form: [0; canonical::MOST], size: [0; 8],
         };
         made.further[0] = further.len() as u8;
         for (place, secret) in made.further[1..].chunks_exact_mut(9).zip(further) {
@@ -213,6 +224,13 @@ impl Library {
         }
     }
 
+    /// With so many bytes of space.
+    #[inline(always)]
+    pub fn call_canonical(&mut self, functions: &Functions, encoding: &[u8], space: usize) -> u8 {
+        let (form, size) = (&mut self.form[..space], &mut self.size);
+        unsafe { (functions.canonical)(encoding.as_ptr(), encoding.len(), form.as_mut_ptr(), form.len(), size.as_mut_ptr(), size.len()) }
+    }
+
     /// What was told last of the secret with a number: its two verdicts, and the estimate size.
     pub fn told(&self, number: usize) -> Judgement {
         [self.judgement[2 * number], self.judgement[2 * number + 1], self.judgement[8]]
@@ -262,5 +280,19 @@ impl Library {
     pub fn first_leak(&mut self, notion: u8, symbols: &[u8]) -> Option<u64> {
         assert_eq!(self.call_first_leak(&PROVED, notion, symbols), 0, "first leak");
         Some(u64::from_le_bytes(self.place)).filter(|&place| place != 0)
+    }
+
+    /// The canonical form of an encoding in so many bytes of space, or the number of the refusal. What is not written is kept.
+    pub fn canonical(&mut self, encoding: &[u8], space: usize) -> Result<&[u8], u8> {
+        const BEFORE: u8 = 0xbf;
+        (self.form, self.size) = ([BEFORE; canonical::MOST], [BEFORE; 8]);
+        let answer = self.call_canonical(&PROVED, encoding, space);
+        let written = if answer == 0 { u64::from_le_bytes(self.size) as usize } else { 0 };
+        assert!(self.form[written..].iter().all(|&byte| byte == BEFORE), "written behind the form");
+        if answer == 0 {
+            return Ok(&self.form[..written]);
+        }
+        assert_eq!(self.size, [BEFORE; 8], "refused, and written");
+        Err(answer)
     }
 }

@@ -2,9 +2,10 @@
 //! estimator, (d) plain Rust that carries excuses forward. The jobs: `accept`, both verdicts and the estimate size for each event, and `offer`, the
 //! events that a weak enforcer releases and the estimate size. Each is done with one secret, and by (a) once more with three further ones. Every
 //! verdict, release and estimate size is compared first, event by event. Explorations of (a) are compared with plain ones, and measured, and so are first
-//! leaks. A difference or a missed goal ends the run with status 1.
+//! leaks and canonical forms. A difference or a missed goal ends the run with status 1.
 
 mod automata;
+mod canonical;
 mod cases;
 mod clock;
 mod compare;
@@ -22,7 +23,7 @@ mod trajectories;
 
 use automata::{Automaton, Secret};
 use cases::{Case, ToExplore, EVENTS};
-use compare::{Compared, ComparedExplorations, ComparedLeaks};
+use compare::{Compared, ComparedExplorations, ComparedForms, ComparedLeaks};
 use library::Library;
 use measure::{Job, Least, Long, Times};
 use rows::BLOCKS;
@@ -41,6 +42,8 @@ const TIMES_LONG: f64 = 1.2;
 const STACK: usize = 8 * 1024;
 /// Milliseconds in which the longest encoding is decoded: it lists 1,023 transitions, and each is compared with all before it.
 const DECODING: f64 = 20.0;
+/// Milliseconds in which the canonical form of the longest encoding is written.
+const CANONICAL: f64 = 20.0;
 /// Milliseconds in which an automaton is explored with the largest budget, whether it is spent or not.
 const EXPLORING: f64 = 100.0;
 /// How many symbols a long log has in which the first leak is looked for.
@@ -104,6 +107,20 @@ fn compare_leaks_on(name: &str, cases: &[Case], calm: usize) {
     }
     let ComparedLeaks { found, places, refused, none } = compared;
     println!("  {name:<14} {found:>6} found, at places of {places:>6} in all, behind {refused:>6} refused bytes; {none:>6} without a leak");
+}
+
+fn compare_forms(cases: &[Case]) {
+    println!("\nCanonical forms of (a) and plain ones compared, of transitions in any order, with symbols and without:");
+    // Of dense there is no encoding.
+    compare_forms_of("those above", cases.iter().filter(|case| case.automaton.encode().is_some()));
+    compare_forms_of("4000 small", cases::small().iter());
+}
+
+fn compare_forms_of<'a>(name: &str, cases: impl Iterator<Item = &'a Case>) {
+    let mut compared = ComparedForms::default();
+    cases.enumerate().for_each(|(i, case)| compare::compare_forms(case, i as u64, &mut compared));
+    let ComparedForms { written, bytes, shorter, same } = compared;
+    println!("  {name:<14} {written:>6} written, of {bytes:>7} bytes in all; {shorter:>6} shorter than they were, {same:>6} as they were");
 }
 
 /// All that is measured in rounds.
@@ -229,17 +246,34 @@ fn print_stack(cases: &[Case], missed: &mut Missed) {
     println!("  {}", cases::to_explore().iter().map(|case| format!("{} {}", case.name, stack::exploring(case))).collect::<Vec<_>>().join("; "));
 }
 
+/// The last has the longest encoding.
+fn encoded() -> [(&'static str, Automaton); 4] {
+    let symbols = automata::large(64).sharing(4);
+    assert_eq!(symbols.encode().map(|encoding| encoding.len()), Some(canonical::MOST), "the longest encoding");
+    [("P", automata::p()), ("mid", automata::mid()), ("large", automata::large(64)), ("large, symbols", symbols)]
+}
+
 fn print_decoding(missed: &mut Missed) {
     println!("\nDecoding, microseconds, best of {} passes:", measure::ROUNDS * measure::REPETITIONS);
-    let longest = automata::large(64);
-    assert_eq!(longest.transitions().len(), 1023, "the longest encoding");
-    let symbols = automata::large(64).sharing(4);
-    for (name, automaton) in [("P", automata::p()), ("mid", automata::mid()), ("large", longest), ("large, symbols", symbols)] {
+    for (name, automaton) in encoded() {
         let encoding = automaton.encode().expect("an encoding");
         let milliseconds = measure::measure_decoding(&automaton, &encoding).0 / 1e6;
         println!("  {name:<14} {:>5} transitions {:>5} bytes {:>8}", automaton.transitions().len(), encoding.len(), number(milliseconds * 1e3));
         if DECODING <= milliseconds {
             missed.push(format!("decoding of {name}: {milliseconds:.1} milliseconds"));
+        }
+    }
+}
+
+fn print_canonical(missed: &mut Missed) {
+    let passes = measure::ROUNDS * measure::REPETITIONS;
+    println!("\nThe canonical form of an encoding with its transitions in any order, microseconds, best of {passes} passes:");
+    for (name, automaton) in encoded() {
+        let encoding = canonical::shuffled(&automaton, false, 1);
+        let milliseconds = measure::measure_canonical(&automaton, &encoding).0 / 1e6;
+        println!("  {name:<14} {:>5} transitions {:>5} bytes {:>8}", automaton.transitions().len(), encoding.len(), number(milliseconds * 1e3));
+        if CANONICAL <= milliseconds {
+            missed.push(format!("canonical form of {name}: {milliseconds:.1} milliseconds"));
         }
     }
 }
@@ -315,6 +349,7 @@ fn everything(cases: &[Case]) {
     compare_all(cases);
     compare_explorations(cases);
     compare_leaks(cases);
+    compare_forms(cases);
     let measured = measure_all(cases);
     print_times(cases, &measured, &mut missed);
     print_several(cases, &measured, &mut missed);
@@ -322,13 +357,15 @@ fn everything(cases: &[Case]) {
     print_growth(&measured, &mut missed);
     print_stack(cases, &mut missed);
     print_decoding(&mut missed);
+    print_canonical(&mut missed);
     print_explorations(&mut missed);
     print_leaks();
     println!("\n{:.0} s in all", begun.elapsed().as_secs_f64());
     let goals = format!(
         "(a) at most {TIMES_NATIVE} times (b) with its best block, on each; (c) at least {TIMES_TEXTBOOK} times (a) on large, chain and dense; with \
          three further secrets below {TIMES_SEVERAL} times; no growth with the trace (at most {TIMES_LONG} times); stack below {STACK} bytes, but of \
-         opacity_explore; the longest encoding decoded in less than {DECODING} milliseconds; an exploration in less than {EXPLORING} milliseconds."
+         opacity_explore; the longest encoding decoded in less than {DECODING} milliseconds, and its canonical form written in less than {CANONICAL}; an \
+         exploration in less than {EXPLORING} milliseconds."
     );
     conclude(&goals, missed);
 }
@@ -348,6 +385,12 @@ fn main() {
             print_decoding(&mut missed);
             conclude(&format!("the longest encoding in less than {DECODING} milliseconds."), missed);
         }
+        ["canonical"] => {
+            let mut missed = Missed::new();
+            compare_forms(&cases);
+            print_canonical(&mut missed);
+            conclude(&format!("that of the longest encoding in less than {CANONICAL} milliseconds."), missed);
+        }
         ["exploring"] => {
             let mut missed = Missed::new();
             compare_explorations(&cases);
@@ -362,6 +405,6 @@ fn main() {
             let case = cases.iter().find(|case| case.name == *name).expect("no such automaton");
             only(job, case, if several.is_empty() { &[] } else { &case.further });
         }
-        _ => panic!("usage: bench/run [stack | decoding | exploring | first-leak | only JOB AUTOMATON [several]]"),
+        _ => panic!("usage: bench/run [stack | decoding | canonical | exploring | first-leak | only JOB AUTOMATON [several]]"),
     }
 }

@@ -1,6 +1,7 @@
 //! Nanoseconds an event.
 
 use crate::automata::Automaton;
+use crate::canonical;
 use crate::cases::{Case, EVENTS};
 use crate::clock;
 use crate::compare::{CAP, TIME};
@@ -191,6 +192,16 @@ pub fn measure_decoding(automaton: &Automaton, encoding: &[u8]) -> Least {
     let mut least = Least::NEW;
     for _ in 0..ROUNDS * REPETITIONS {
         least.time(1, || assert_eq!(black_box(&mut library).call_decode(&library::PROVED, black_box(encoding)), 0, "decode"));
+    }
+    least
+}
+
+/// Nanoseconds in which (a) writes the canonical form of an encoding.
+pub fn measure_canonical(automaton: &Automaton, encoding: &[u8]) -> Least {
+    let mut library = Library::new(automaton);
+    let mut least = Least::NEW;
+    for _ in 0..ROUNDS * REPETITIONS {
+        least.time(1, || assert_eq!(black_box(&mut library).call_canonical(&library::PROVED, black_box(encoding), canonical::MOST), 0, "canonical"));
     }
     least
 }

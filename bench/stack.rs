@@ -1,6 +1,7 @@
 //! How deep each function of the interface goes: it is called on a painted stack, and the deepest byte that lost its paint is looked for. The depth of
 //! the same call of a function that does nothing is taken off, so that what is left is the function's own: below its return address.
 
+use crate::canonical::{self, MOST as LONGEST};
 use crate::cases::{Case, ToExplore};
 use crate::exploration::{BUDGET_SPENT, MOST};
 use crate::library::{self, Library};
@@ -51,6 +52,10 @@ extern "C" fn first_leak(call: &mut Call) {
     call.answer = call.library.call_first_leak(&call.functions, call.byte, call.bytes);
 }
 
+extern "C" fn write(call: &mut Call) {
+    call.answer = call.library.call_canonical(&call.functions, call.bytes, LONGEST);
+}
+
 /// The bytes that lost their paint.
 fn depth(stack: &mut Stack, job: extern "C" fn(&mut Call), call: &mut Call) -> usize {
     stack.0.fill(PAINT);
@@ -90,7 +95,7 @@ pub fn exploring(case: &ToExplore) -> usize {
 
 /// The deepest of all calls on an automaton and its trace, with the further secrets, for each function but `opacity_explore`. A first leak is looked for
 /// without them too, since then it goes further.
-pub fn depths(case: &Case) -> [(&'static str, Option<usize>); 6] {
+pub fn depths(case: &Case) -> [(&'static str, Option<usize>); 7] {
     let (automaton, trace) = (&case.automaton, &case.trace);
     let mut stack = Box::new(Stack([0; SIZE]));
     let mut library = Library::with(automaton, &case.further);
@@ -100,8 +105,10 @@ pub fn depths(case: &Case) -> [(&'static str, Option<usize>); 6] {
         assert_eq!(answer, 0, "refused");
         bytes
     };
-    // An automaton that no encoding can list is not decoded.
-    let decoding = if encoding.is_empty() { None } else { Some(measure(&mut library, decode, &encoding, 0)) };
+    // An automaton that no encoding can list is not decoded, and has no form.
+    let listed = !encoding.is_empty();
+    let decoding = listed.then(|| measure(&mut library, decode, &encoding, 0));
+    let writing = listed.then(|| measure(&mut library, write, &canonical::shuffled(automaton, true, 1), 0));
     let making = measure(&mut library, fresh, &[], 0);
     let starting = measure(&mut library, start, &[], 0);
     let accepting = trace.iter().map(|&event| measure(&mut library, accept, &[], event)).max();
@@ -115,5 +122,6 @@ pub fn depths(case: &Case) -> [(&'static str, Option<usize>); 6] {
         ("opacity_start", Some(starting)),
         ("opacity_offer", offering),
         ("opacity_first_leak", finding.into_iter().flatten().max()),
+        ("opacity_canonical", writing),
     ]
 }

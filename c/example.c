@@ -2,8 +2,9 @@
    and prints a line for each event: its place, its symbol, the weak and the strong verdict, the estimate size, the released symbols. (P lists no
    symbols: each observable event has its own number.) Then the same with a further secret, whose verdicts follow those of P's own: it keeps back the
    last event. Then the first leaks of offered symbols, some of which are refused, by each notion and with further secrets: the place among the accepted
-   ones, or that there is none. At last explorations of P, with other K and further secrets: how many configurations there are and the largest waits,
-   weak and strong, or that the budget is spent. c/run compares the lines. */
+   ones, or that there is none. Then explorations of P, with other K and further secrets: how many configurations there are and the largest waits, weak
+   and strong, or that the budget is spent. At last the canonical form of P as another engineer saved it: how many bytes it has and these, which are
+   those below, or that the output has too few. c/run compares the lines. */
 #include <stdio.h>
 
 #include "opacity.h"
@@ -11,6 +12,10 @@
 /* Four states, events 0 to 2, K 2, initial state 0, secret {1}, observable {1, 2}; transitions (0,0,2) (0,1,1) (1,2,0) (2,1,3) (3,1,3). */
 static const uint8_t encoding[] = {0x0c, 0x44, 0x00, 0x0a, 0x46, 0x00, 0x02, 0x00, 0x20, 0x82, 0x20, 0x02, 0x08, 0x61, 0x84, 0x30};
 static const uint8_t trace[] = {1, 2, 1, 1};
+
+/* P with its transitions in the order (3,1,3) (1,2,0) (0,1,1) (2,1,3) (0,0,2), and with symbols, which it does not need: 7 for event 0, which is not
+   observable, and their own numbers for the others. */
+static const uint8_t saved[] = {0x0c, 0x44, 0x00, 0x0b, 0x46, 0x70, 0x88, 0x30, 0x86, 0x08, 0x80, 0x00, 0x20, 0x84, 0x10, 0xc0, 0x00, 0x40};
 
 /* No further secret; and one, number 1: state 3, with K 1. */
 static const uint8_t none[OPACITY_FURTHER_BYTES];
@@ -59,11 +64,23 @@ static uint8_t output[OPACITY_OUTPUT_BYTES];
 static uint8_t release[OPACITY_RELEASE_BYTES];
 static uint8_t place[OPACITY_PLACE_BYTES];
 static uint8_t exploration[OPACITY_EXPLORATION_BYTES];
+static uint8_t form[OPACITY_ENCODING_MAX_BYTES];
+static uint8_t size[OPACITY_SIZE_BYTES];
 
 static int refused(uint8_t number)
 {
     printf("refused %d\n", number);
     return 1;
+}
+
+/* The number of 8 bytes. */
+static unsigned long long number_of(const uint8_t *bytes)
+{
+    unsigned long long number = 0;
+
+    for (int j = 8; 0 < j; j--)
+        number = number << 8 | bytes[j - 1];
+    return number;
 }
 
 static void print_verdict(uint8_t verdict)
@@ -122,7 +139,7 @@ static void find_leaks(void)
 {
     for (size_t i = 0; i < sizeof leaks / sizeof leaks[0]; i++) {
         const uint8_t *further = leaks[i].further, *symbols = leaks[i].symbols;
-        uint64_t found = 0;
+        unsigned long long found;
         uint8_t answer;
 
         answer = opacity_first_leak(table, OPACITY_TABLE_WORDS, header, sizeof header, leaks[i].notion, further, OPACITY_FURTHER_BYTES, symbols,
@@ -135,12 +152,11 @@ static void find_leaks(void)
             refused(answer);
             continue;
         }
-        for (int j = OPACITY_PLACE_BYTES; 0 < j; j--)
-            found = found << 8 | place[j - 1];
+        found = number_of(place);
         if (found == 0)
             printf("no leak\n");
         else
-            printf("first leak at %llu\n", (unsigned long long)found);
+            printf("first leak at %llu\n", found);
     }
 }
 
@@ -165,6 +181,22 @@ static void explore_all(void)
     }
 }
 
+/* The canonical form, with so many bytes of space. */
+static void write_form(size_t space)
+{
+    uint8_t answer = opacity_canonical(saved, sizeof saved, form, space, size, sizeof size);
+
+    printf("form of %lu bytes, output %lu: ", (unsigned long)sizeof saved, (unsigned long)space);
+    if (answer != OPACITY_OK) {
+        refused(answer);
+        return;
+    }
+    printf("%llu bytes,", number_of(size));
+    for (unsigned long long j = 0; j < number_of(size); j++)
+        printf(" %02x", form[j]);
+    printf("\n");
+}
+
 int main(void)
 {
     uint8_t answer = opacity_decode(encoding, sizeof encoding, table, OPACITY_TABLE_WORDS, header, sizeof header);
@@ -174,5 +206,7 @@ int main(void)
         return 1;
     find_leaks();
     explore_all();
+    write_form(sizeof form);
+    write_form(sizeof encoding - 1);
     return 0;
 }

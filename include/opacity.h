@@ -3,7 +3,7 @@
  *
  * Link with target/staticlib/libgateway.a, which `rt staticlib gateway` writes (x86-64). Nothing is allocated and nothing is kept between calls:
  * the caller lends all memory, and a header or a saved state is bytes of a fixed layout that may be stored, sent and copied. The contracts of the
- * seven functions are `crates/gateway/specs/Interface.antt` (what each answers and leaves) and `crates/layout/specs` (the layouts); they are proved for
+ * eight functions are `crates/gateway/specs/Interface.antt` (what each answers and leaves) and `crates/layout/specs` (the layouts); they are proved for
  * every content of the bytes and every length. Words of the requirements, where ours differ: docs/GLOSSARY.md.
  *
  * Slices. A slice passes as a pointer and the number of its elements. C asks three things, which no function can test:
@@ -24,18 +24,20 @@
  * In the gateway, before delivery, and afterwards. Five functions run in a gateway: `opacity_decode`, `opacity_fresh`, `opacity_accept`,
  * `opacity_start` and `opacity_offer`; they need at most 4,140 bytes of stack (docs/FIGURES.md). `opacity_explore` is run before delivery, on an
  * engineer's machine: it visits every configuration that an accepted list leads to, within a budget, and says how long an event can ever wait. It needs
- * 42 KB of stack (below). `opacity_first_leak` is for support: it says where the first leak of a log is, and needs 4,300 bytes. None of the five calls
- * either, and a program that does not call them and is linked with `-Wl,--gc-sections` does not contain them.
+ * 42 KB of stack (below). `opacity_first_leak` is for support: it says where the first leak of a log is, and needs 4,300 bytes. `opacity_canonical` is
+ * for the files of engineers, so that those of one automaton compare equal: it writes the one encoding of an automaton, and needs 937 bytes. A
+ * controller needs none of these three: the five do not call them, and a program that does not either and is linked with `-Wl,--gc-sections` does not
+ * contain them.
  *
  * Answers. Each function answers 0, or the number of a refusal, and after a refusal every slice is as it was before the call. Of several
  * refusals whose conditions hold, the answer is the one that the function's comment lists first. A slice of another length than its layout has gets
- * 9, and an output of fewer than 17 bytes 10.
+ * 9, and an output that lacks space 10.
  *
  *   No.  Constant                      When                                                          From
- *   1    OPACITY_TRUNCATED             the encoding ends before or inside a field                    decode
- *   3    OPACITY_STATE_OUT_OF_RANGE    an initial, source or target state is above the top state     decode
- *   4    OPACITY_EVENT_OUT_OF_RANGE    a transition's event is above the top event                   decode
- *   5    OPACITY_TRAILING_DATA         a padding bit is 1, or a byte follows                         decode
+ *   1    OPACITY_TRUNCATED             the encoding ends before or inside a field                    decode, canonical
+ *   3    OPACITY_STATE_OUT_OF_RANGE    an initial, source or target state is above the top state     decode, canonical
+ *   4    OPACITY_EVENT_OUT_OF_RANGE    a transition's event is above the top event                   decode, canonical
+ *   5    OPACITY_TRAILING_DATA         a padding bit is 1, or a byte follows                         decode, canonical
  *   6    OPACITY_NOT_OBSERVABLE        no observable event of the header has this symbol             accept, offer
  *   7    OPACITY_INCOMPATIBLE          no run of the automaton is compatible with the trace and the
  *                                      symbol behind it (of a state that did not grow from a fresh
@@ -46,8 +48,9 @@
  *                                      is above 15, its initial state above 63, an observable
  *                                      event's symbol above 31, the notion above 1, or a saved
  *                                      state is outside its limits                                   all
- *   10   OPACITY_OUTPUT_TOO_SMALL      the output has fewer than 17 bytes                            offer
- *   12   OPACITY_REPEATED_TRANSITION   a transition is listed a second time                          decode
+ *   10   OPACITY_OUTPUT_TOO_SMALL      the output has fewer than 17 bytes (offer), or fewer than
+ *                                      the bytes to be written (canonical)                           offer, canonical
+ *   12   OPACITY_REPEATED_TRANSITION   a transition is listed a second time                          decode, canonical
  *   13   OPACITY_TOO_MANY_SECRETS      more than three further secrets                               fresh, start, explore,
  *                                                                                                    first_leak
  *   14   OPACITY_LOOK_BACK_TOO_LARGE   the K of a further secret that is given is above 15           fresh, start, explore,
@@ -107,7 +110,7 @@
  *   1        the estimate size, 1 to 64: of all accepted symbols, pending ones among them, and not of the released ones alone. So it says how narrow
  *            the view would be of one who had them all
  *
- * Output: at least 17 bytes. The released symbols stand at its front; what stands behind keeps its bytes.
+ * Output of an offer: at least 17 bytes. The released symbols stand at its front; what stands behind keeps its bytes.
  *
  * Configuration (02: situation): what a trace leads to. The last symbols, as many as the largest K or all if fewer; the sets of states in which runs
  * can be right after each of them, judged by the symbols up to it, before any further unobservable transition; and that set for the symbol before them
@@ -123,6 +126,12 @@
  *
  * Place of a first leak: 8 bytes.
  *   0..7     the place, from 1, of an event among the accepted ones, the least significant byte first; 0 where no accepted one leaks
+ *
+ * Canonical form (02: S-9): of all encodings of one automaton the one whose transitions rise by from, event, to; that lists symbols only if some
+ * observable event has another than its own number; and whose symbol of an unobservable event, where it lists any, is 0. docs/FORMATS.md has the bits.
+ *
+ * Size of a canonical form: 8 bytes.
+ *   0..7     how many bytes were written, at most 2,210, the least significant byte first
  */
 #ifndef OPACITY_H
 #define OPACITY_H
@@ -137,10 +146,11 @@
 #define OPACITY_ENFORCER_BYTES 206
 #define OPACITY_JUDGEMENT_BYTES 9
 #define OPACITY_RELEASE_BYTES 2
-#define OPACITY_OUTPUT_BYTES 17           /* the least; more is taken */
+#define OPACITY_OUTPUT_BYTES 17           /* of an offer the least; more is taken */
 #define OPACITY_EXPLORATION_BYTES 4
 #define OPACITY_PLACE_BYTES 8
-#define OPACITY_ENCODING_MAX_BYTES 2210   /* the longest encoding */
+#define OPACITY_SIZE_BYTES 8
+#define OPACITY_ENCODING_MAX_BYTES 2210   /* the longest encoding, and the longest canonical form */
 
 #define OPACITY_HEADER_K 1                /* the place of K in a header */
 
@@ -324,6 +334,23 @@ uint8_t opacity_first_leak(const uint64_t *table, size_t table_length,
                            const uint8_t *further, size_t further_length,
                            const uint8_t *events, size_t events_length,
                            uint8_t *place, size_t place_length);
+
+/*
+ * Writes an encoded automaton in its canonical form (02: S-9: one description for one plan).
+ * Takes:   the encoding, an output that does not overlap it, and 8 bytes for the size, whatever these two hold. An output as long as the encoding has
+ *          space for its form, and one of 2,210 bytes for every form.
+ * Answers: 0: the form stands at the front of the output, and what stands behind keeps its bytes; the size is the number of its bytes. Two encodings
+ *             that are accepted give equal bytes exactly where their top states, top events, K, initial states, secret states, observable events, the
+ *             symbols of observable events and, in whatever order, the transitions are equal. `opacity_decode` reads from the form the table and the
+ *             header that it reads from the encoding, and the form's own form is itself.
+ *          9: the size has not 8 bytes.
+ *          1, 3, 4, 5, 12: what `opacity_decode` answers to the encoding.
+ *          10: the output has fewer bytes than the form. How many these are is not said: 2,210 are always enough.
+ * It needs no table. The longest encoding takes a millisecond or two (docs/FIGURES.md).
+ */
+uint8_t opacity_canonical(const uint8_t *encoding, size_t encoding_length,
+                          uint8_t *output, size_t output_length,
+                          uint8_t *size, size_t size_length);
 
 #ifdef __cplusplus
 }

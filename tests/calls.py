@@ -6,24 +6,24 @@ whose answer 01 leaves open are written by `open`. Past the count of its further
 and a call hands them back.
 """
 
+from canonical import written
 from explorations import MOST, explored
 from first_leaks import first_leak
-from logs import INCOMPATIBLE, INITIAL_LEAK, NOT_OBSERVABLE, Refused, decoded
+from logs import INCOMPATIBLE, INITIAL_LEAK, MALFORMED, NOT_OBSERVABLE, OUTPUT_TOO_SMALL, Refused, decoded
 from runs import Listing
 from saved import (
     ENFORCER_BYTES, ESTIMATOR_BYTES, EXPLORATION_BYTES, FURTHER, FURTHER_BYTES, HEADER_BYTES, JUDGEMENT_BYTES, NOTION, PENDING, PLACE_BYTES,
-    RELEASE_BYTES, SECRETS, SYMBOLS, WORDS, automaton_of, cleared, exploration_bytes, given_of, grown_enforcer, grown_estimator, header_of,
-    judgement_bytes, observable_of, place_bytes, safe_of, symbol_at, table_of, with_past,
+    RELEASE_BYTES, SECRETS, SIZE_BYTES, SYMBOLS, WORDS, automaton_of, cleared, exploration_bytes, given_of, grown_enforcer, grown_estimator,
+    header_of, judgement_bytes, observable_of, place_bytes, safe_of, symbol_at, table_of, with_past,
 )
 
-MALFORMED, OUTPUT_TOO_SMALL = 9, 10
 TOO_MANY_SECRETS, LOOK_BACK_TOO_LARGE, BUDGET_SPENT = 13, 14, 15
 # of the slices that have one size
 SIZES = {
     "header": HEADER_BYTES, "further": FURTHER_BYTES, "estimator": ESTIMATOR_BYTES, "judgement": JUDGEMENT_BYTES, "enforcer": ENFORCER_BYTES,
-    "release": RELEASE_BYTES, "exploration": EXPLORATION_BYTES, "place": PLACE_BYTES,
+    "release": RELEASE_BYTES, "exploration": EXPLORATION_BYTES, "place": PLACE_BYTES, "size": SIZE_BYTES,
 }
-# what each function but decode is lent of them, beside the header
+# what each function but decode and canonical is lent of them, beside the header
 LENT = {
     "fresh": ("further", "estimator", "judgement"), "accept": ("estimator", "judgement"), "start": ("further", "enforcer"),
     "offer": ("enforcer", "release"), "explore": ("further", "exploration"), "first_leak": ("further", "place"),
@@ -56,7 +56,7 @@ class Calls:
     def __init__(self):
         self.lines, self.printed = [], []
         self.table = ()
-        names = "encoding", "header", "further", "estimator", "judgement", "enforcer", "output", "release", "exploration", "events", "place"
+        names = "encoding", "header", "further", "estimator", "judgement", "enforcer", "output", "release", "exploration", "events", "place", "size"
         self.slices = {name: b"" for name in names}
         self.grown = {}  # an automaton and the bytes of a state, its further secrets among them, 0 past their count: the listing of its trace
         self.openings = {}  # an automaton and the further secrets that are given: the listing of the empty trace
@@ -115,6 +115,15 @@ class Calls:
         self.table = tuple(table_of(automaton))
         self.slices["header"] = header_of(automaton)
         return 0
+
+    def canonical(self):
+        """Writes the canonical form of the encoding."""
+        return self.call("canonical", self.writing(), "output", "size")
+
+    def writing(self):
+        """The answer of canonical."""
+        answer, self.slices["output"], self.slices["size"] = written(*(self.slices[name] for name in ("encoding", "output", "size")))
+        return answer
 
     def fresh(self):
         """Makes a fresh estimator."""

@@ -1,7 +1,7 @@
 """The automata P, Q, T and U of 01, with the answers that it gives, and automata with symbols (S-2), with answers worked out by hand. In each line of
 an accepted event or of the opening the fifth field is the estimate size (S-5): for P's trace 2, 2, 2, 1 as S-5 has it, elsewhere counted by hand.
 And further secrets (S-6), with verdicts and releases worked out by hand; and explorations (S-7), with what they find worked out by hand; and first
-leaks (S-8), with their places worked out by hand."""
+leaks (S-8), with their places worked out by hand; and canonical forms (S-9), written out bit by bit."""
 
 from runs import Automaton, Secret
 
@@ -35,6 +35,14 @@ NONE_SECRET = Automaton(63, 31, 15, 63, set(), set(range(32)), EVERY)
 # the reader's view closes in: 64 states fit the opening, each symbol takes one away, and the last that is left is secret; and it opens state by state
 CLOSING = Automaton(63, 1, 1, 0, {63}, {1}, [(0, 0, q) for q in range(1, 64)] + [(q, 1, q + 1) for q in range(63)])
 WIDENING = Automaton(63, 1, 1, 0, {5}, {1}, [(q, 1, q) for q in range(64)] + [(q, 1, q + 1) for q in range(63)])
+
+
+def by_bits(*fields):
+    """The bytes of fields that are written out bit by bit, and zero bits to the end of the last one."""
+    bits = "".join(fields).replace(" ", "")
+    size = -(-len(bits) // 8)
+    return int(bits.ljust(8 * size, "0"), 2).to_bytes(size, "big")
+
 
 P_ENCODING = bytes.fromhex("0C44000A460002002082200208618430")
 Q_ENCODING = bytes.fromhex("082200044801041004")
@@ -266,4 +274,43 @@ FIRST_LEAKS = (
     (PASSING, (secret(0, 0),), (0, 0), None, None),
     (PASSING, (secret(0, 0), secret(0, 2)), (1, 0, 0, 0), 2, 2),
     (PASSING, (secret(0, 0), secret(0), secret(0, 1)), (0, 0, 0), 1, 1),
+)
+
+
+# an encoding and its canonical form. The fields: top state, top event, K, initial state, number of transitions, whether symbols follow; secret and
+# observable flags; symbols; transitions
+FORMS = (
+    (P_ENCODING, P_ENCODING),
+    (Q_ENCODING, Q_ENCODING),
+    # Q, its transitions turned round
+    (by_bits("000010 00001 0001 000000 0000000010 0", "010 01", "000001 00000 000010", "000000 00001 000001"), Q_ENCODING),
+    # P with symbols that are not needed: 31 for event 0, which is not observable, and the others' own numbers
+    (
+        by_bits(
+            "000011 00010 0010 000000 0000000101 1", "0100 011", "11111 00001 00010",
+            "000000 00000 000010", "000000 00001 000001", "000001 00010 000000", "000010 00001 000011", "000011 00001 000011",
+        ),
+        P_ENCODING,
+    ),
+    # two of its transitions, the last first, with a symbol that is needed: 0 for event 2
+    (
+        by_bits("000011 00010 0010 000000 0000000010 1", "0100 011", "11111 00001 00000", "000011 00001 000011", "000001 00010 000000"),
+        by_bits("000011 00010 0010 000000 0000000010 1", "0100 011", "00000 00001 00000", "000001 00010 000000", "000011 00001 000011"),
+    ),
+    # two states and two events: by from, then by event, then by to
+    (
+        by_bits(
+            "000001 00001 1111 000001 0000000100 0", "10 11",
+            "000001 00000 000000", "000000 00001 000001", "000000 00001 000000", "000000 00000 000001",
+        ),
+        by_bits(
+            "000001 00001 1111 000001 0000000100 0", "10 11",
+            "000000 00000 000001", "000000 00001 000000", "000000 00001 000001", "000001 00000 000000",
+        ),
+    ),
+    # one state and one event: observable with its own number, then not observable, then observable with another symbol, secret and not
+    (by_bits("000000 00000 0000 000000 0000000000 1", "1 1", "00000"), by_bits("000000 00000 0000 000000 0000000000 0", "1 1")),
+    (by_bits("000000 00000 0000 000000 0000000000 1", "1 0", "11111"), by_bits("000000 00000 0000 000000 0000000000 0", "1 0")),
+    (by_bits("000000 00000 0000 000000 0000000000 1", "1 1", "11111"), bytes.fromhex("00000001FE")),
+    (by_bits("000000 00000 0000 000000 0000000000 1", "0 1", "00001"), bytes.fromhex("0000000142")),
 )

@@ -4,36 +4,39 @@ With `--check` nothing is written, and the exit status is 1 where the stored fil
 """
 
 import copy
+import itertools
 import pathlib
 import random
 import sys
 
 from calls import SIZES, Calls
+from canonical import canonical, meaning
 from examples import (
     AFTER_ANY, ALL_SECRET, CLOSING, CORNERS, EXPLORATIONS, FIRST_LEAKS, LATER, NONE_SECRET, ONE, ONE_SYMBOL, OPENING, OWN_NUMBERS, P, P0, P1,
     P_ENCODING, P_SECRETS, P_SYMBOLS, PASSING, Q, Q_ENCODING, STRONG_ONLY, T, U, WEAK_LATER, WIDENING, hops, rings, secret, subsets,
 )
 from explorations import explored
 from generate import (
-    any_bytes, cut_symbols, flipped_bits, further_bytes, many_transitions, out_of_range, padding_bits, random_automaton, random_offers, random_secrets,
-    repeated, repeated_and_damaged, short_encoding, symbol_bit, with_repeat, with_symbols, with_transitions, wrong_count,
+    ENCODING_DAMAGES, many_transitions, random_automaton, random_offers, random_secrets, spelled, wide_automaton, with_other, with_repeat,
+    with_symbols, with_transitions,
 )
-from logs import encoded
+from logs import decoded, encoded
 from mistakes import OF_ONE, OF_SEVERAL, mistaken, mistaken_exploration, search_case
 from runs import Automaton, Listing, Secret, TooManyRuns
 from saved import (
     ENFORCER_BYTES, ESTIMATOR_BYTES, EXPLORATION_BYTES, FURTHER_BYTES, HEADER_BYTES, JUDGEMENT_BYTES, NOTION, PENDING, PLACE_BYTES, RELEASE_BYTES,
-    SECRETS, SYMBOLS, WORDS, bits, estimator_bytes, header_of, secrets_bytes, table_of,
+    SECRETS, SIZE_BYTES, SYMBOLS, WORDS, bits, estimator_bytes, header_of, secrets_bytes, size_bytes, table_of,
 )
 from stored import store
 
-RANDOM, SEVERAL, DAMAGED, OPEN, EXPLORED, SEARCHED = 150, 48, 80, 40, 40, 304
+RANDOM, SEVERAL, DAMAGED, OPEN, EXPLORED, SEARCHED, WRITTEN = 150, 48, 80, 40, 40, 304, 12
 SEED = 5
 FOLDER = pathlib.Path(__file__).resolve().parent.parent / "crates" / "gateway_calls"
 
 # what is lent to be written over: bytes that no function writes, and for an output a different one in each place
-HEADER, ESTIMATOR, JUDGEMENT, ENFORCER, RELEASE, EXPLORATION, PLACE = (
-    b"\xee" * size for size in (HEADER_BYTES, ESTIMATOR_BYTES, JUDGEMENT_BYTES, ENFORCER_BYTES, RELEASE_BYTES, EXPLORATION_BYTES, PLACE_BYTES)
+HEADER, ESTIMATOR, JUDGEMENT, ENFORCER, RELEASE, EXPLORATION, PLACE, SIZE = (
+    b"\xee" * size
+    for size in (HEADER_BYTES, ESTIMATOR_BYTES, JUDGEMENT_BYTES, ENFORCER_BYTES, RELEASE_BYTES, EXPLORATION_BYTES, PLACE_BYTES, SIZE_BYTES)
 )
 OUTPUT = bytes(range(0xA0, 0xB1))
 # the longest encoding there is: symbols, and 1,023 different transitions, the last with every bit 1
@@ -156,13 +159,11 @@ def repeats(calls):
 
 def random_decodings(calls):
     """Random encodings, whole and damaged."""
-    damages = (symbol_bit, cut_symbols, wrong_count, padding_bits, further_bytes, short_encoding, flipped_bits, flipped_bits, out_of_range)
-    damages += (any_bytes, repeated, repeated_and_damaged)
     calls.say("decode: random encodings, whole and damaged")
     for i in range(DAMAGED):
         rng = random.Random(f"encoding {SEED} {i}")
         automaton = random_automaton(rng)
-        log = rng.choice(damages)(rng, automaton, b"")
+        log = rng.choice(ENCODING_DAMAGES)(rng, automaton, b"")
         calls.put(encoding=log[2:], header=HEADER)
         calls.decode()
 
@@ -1031,6 +1032,210 @@ def random_first_leaks(calls):
         search(calls, opening.automaton, opening.secrets[1:], offered)
 
 
+# canonical forms
+
+
+def lent_output(size):
+    """An output of so many bytes, none of them 0: a different one in each place, or one for all of a long output."""
+    return bytes(255 - place for place in range(size)) if size < 255 else b"\xee" * size
+
+
+def write(calls, data, *sizes):
+    """The canonical form of an encoding, into outputs of these sizes, each over what the function does not write."""
+    calls.put(encoding=data)
+    for size in sizes:
+        if calls.slices["size"] != SIZE:
+            calls.put(size=SIZE)
+        calls.put(output=lent_output(size))
+        calls.canonical()
+
+
+def write_form(calls, data, *more):
+    """The same into an output of just enough bytes, and into ones with so many more; then of what was written, which is the same. Hands it back."""
+    form = canonical(data)
+    write(calls, data, *(len(form) + count for count in (0, *more)))
+    assert calls.slices["output"][: len(form)] == form and calls.slices["size"] == size_bytes(len(form))
+    if data != form:
+        write(calls, form, len(form))
+        assert calls.slices["output"] == form and calls.slices["size"] == size_bytes(len(form))
+    return form
+
+
+# P with more transitions, some of which differ in the last state alone, in no order
+FORKED = with_transitions(P, [(2, 1, 3), (0, 1, 3), (1, 2, 0), (0, 1, 0), (3, 1, 3), (0, 0, 2), (0, 1, 1)])
+
+
+def canonical_orders(calls):
+    """Transitions in several orders, and outputs of several sizes."""
+    calls.say("canonical: P and Q, whose transitions rise; outputs with just enough bytes, one fewer, one more, many more, and none")
+    for data in (P_ENCODING, Q_ENCODING):
+        write(calls, data, *(len(data) + count for count in (0, -1, 1, 30, -len(data))))
+        assert canonical(data) == data
+    calls.say("canonical: P and Q with their transitions in other orders")
+    by_event = sorted(P.transitions, key=lambda transition: transition[1])
+    for listed in (P.transitions[::-1], P.transitions[2:] + P.transitions[:2], by_event):
+        assert write_form(calls, encoded(with_transitions(P, listed))) == P_ENCODING
+    assert write_form(calls, encoded(with_transitions(Q, Q.transitions[::-1]))) == Q_ENCODING
+    calls.say("canonical: three transitions in every order: of one state and event, and of several; then seven")
+    for listed in ([(0, 1, 0), (0, 1, 1), (0, 1, 3)], [(0, 2, 1), (1, 0, 0), (1, 1, 0)]):
+        for order in itertools.permutations(listed):
+            write(calls, encoded(with_transitions(P, order)), 12)
+    for listed in (FORKED.transitions, FORKED.transitions[::-1]):
+        write_form(calls, encoded(with_transitions(FORKED, listed)), 3)
+    calls.say("canonical: a form is decoded as the encoding is")
+    for automaton in (FORKED, with_symbols(FORKED, [31, 1, 0])):
+        decode(calls, automaton)
+        left = calls.table, calls.slices["header"]
+        calls.put(encoding=canonical(encoded(automaton)), header=HEADER)
+        calls.decode()
+        assert (calls.table, calls.slices["header"]) == left
+
+
+def canonical_symbols(calls):
+    """Symbols that are needed, by every event or by one alone, and symbols that are not; and those of unobservable events."""
+    calls.say("canonical: P with symbols of which none is needed, whatever event 0 has, which is not observable")
+    for first in (0, 1, 31):
+        assert write_form(calls, encoded(with_symbols(P, [first, 1, 2]))) == P_ENCODING
+    calls.say("canonical: P with symbols that are needed, by both of its observable events or by one")
+    for listed in ([31, 2, 0], [0, 2, 1], [5, 1, 0], [0, 1, 31], [17, 2, 2], [1, 0, 2]):
+        assert decoded(write_form(calls, encoded(with_symbols(P, listed)))).symbols == [0] + listed[1:]
+    write(calls, encoded(P_SYMBOLS), 17, 0, 40)
+    calls.say("canonical: 32 events, some of them observable: a symbol is needed by the last one alone, by the first, by one between them, by none")
+    some = {0, 9, 16, 31}
+    for event in (31, 0, 16, 9, None):
+        listed = [30 - e // 2 if e == event else e if e in some else 31 - e for e in range(32)]
+        form = write_form(calls, encoded(Automaton(0, 31, 7, 0, (), some, [(0, 31, 0), (0, 3, 0)], listed)))
+        assert (event is None) == (decoded(form).symbols is None)
+    calls.say("canonical: 32 events, of which the last is not observable, or all are")
+    for observable, listed in ((range(31), [*range(31), 30]), (range(32), range(32)), (range(32), [*range(31), 30]), (range(32), [1, *range(1, 32)])):
+        write_form(calls, encoded(Automaton(0, 31, 7, 0, (), observable, [(0, 31, 0), (0, 3, 0)], listed)))
+    calls.say("canonical: symbols without an observable event")
+    for listed in ([31, 0, 9], [0, 1, 2]):
+        write_form(calls, encoded(Automaton(3, 2, 9, 1, {1, 3}, (), P.transitions[::-1], listed)))
+    calls.say("canonical: all events observable, two of them with one symbol, or each with the other's")
+    for listed in ([0, 0, 2], [1, 0, 2], [2, 1, 2], [7, 7, 2]):
+        write(calls, encoded(with_symbols(OWN_NUMBERS, listed)), 16)
+
+
+def canonical_sizes(calls):
+    """The smallest forms, forms without padding, and the longest."""
+    calls.say("canonical: the smallest encodings, without symbols and with them")
+    for fourth, last in ((0, 0x00), (0, 0xC0), (1, 0xC0), (1, 0xBE), (1, 0x3E), (1, 0x7E), (1, 0xFE)):
+        write_form(calls, bytes((0, 0, 0, fourth, last)))
+    write(calls, bytes((0, 0, 0, 1, 0xC0)), 4, 6, 0)
+    calls.say("canonical: 64 states, 32 events and no transition: there is no padding")
+    for listed, size in ((None, 16), (range(32), 16), (range(31, -1, -1), 36)):
+        write(calls, encoded(Automaton(63, 31, 15, 63, {0, 31, 32, 63}, range(32), (), listed)), size, size - 1, size + 1)
+    calls.say("canonical: the longest encoding; with symbols that are not needed, so that the form has 20 bytes fewer; with one that is")
+    write(calls, encoded(LONGEST), 2210, 2209, 4096)
+    write(calls, canonical(encoded(LONGEST)), 2210)
+    write(calls, encoded(with_symbols(LONGEST, range(32))), 2190, 2189, 2210)
+    write(calls, encoded(with_other(LONGEST, observable={7, 31}, symbols=[7] * 31 + [30])), 2210)
+
+
+# encodings that are refused, with their numbers: cut, a state or an event out of range, a padding bit, a byte behind, a transition twice
+REFUSED = (
+    (b"", 1),
+    (P_ENCODING[:15], 1),
+    (encoded(P_SYMBOLS)[:6], 1),
+    (changed(Q_ENCODING, 2, 0x18), 3),
+    (encoded(with_transitions(P, [(4, 3, 0)])), 3),
+    (encoded(with_transitions(P, P.transitions[::-1] + [(0, 0, 4)])), 3),
+    (encoded(with_transitions(P, [(0, 3, 4)])), 4),
+    (encoded(with_transitions(P_SYMBOLS, P.transitions[::-1] + [(0, 31, 0)]))[:-1], 4),
+    (encoded(with_transitions(P_SYMBOLS, P.transitions[::-1] + [(0, 31, 0)])), 4),
+    (changed(Q_ENCODING, 8, 0x05), 5),
+    (Q_ENCODING + b"\0", 5),
+    (encoded(with_symbols(P, range(3))) + b"\0", 5),
+    (encoded(with_repeat(P, 1, 3)), 12),
+    (encoded(with_repeat(with_symbols(P, [31, 1, 2]), 0, 2))[:-1], 12),
+)
+
+
+def canonical_refusals(calls):
+    """9, the refusals of the encoding and 10, each before the next. The output and the size stay as they were."""
+    calls.say("canonical: the refusals of the encoding, with an output of enough bytes, of too few, and of none")
+    for data, number in REFUSED:
+        calls.put(encoding=data, size=SIZE)
+        for size in (40, 3) if data else (40, 0):
+            calls.put(output=lent_output(size))
+            assert calls.canonical() == number
+    write(calls, encoded(LONGEST)[:2209], 2210)
+    write(calls, encoded(LONGEST) + b"\0", 2211, 0)
+    write(calls, changed(b"\xff" * 2210, 2209, 0xFE), 2210, 2209)
+    calls.say("canonical: a size of other lengths, before the refusals of the encoding and before 10")
+    for data in [P_ENCODING, encoded(with_symbols(P, [9, 2, 1]))] + [data for data, _ in REFUSED[1::3]]:
+        calls.put(encoding=data)
+        for size, room in ((7, 40), (9, 40), (0, 3)):
+            calls.put(size=resized(SIZE, size), output=lent_output(room))
+            assert calls.canonical() == 9
+    calls.put(encoding=P_ENCODING, output=lent_output(20))
+    for size in (1, 2, 4, 16, 4096):
+        calls.put(size=b"\xee" * size)
+        assert calls.canonical() == 9
+    calls.say("canonical: what was written stays where the next call is refused")
+    write(calls, encoded(FORKED), 24)
+    for data, size, number in ((Q_ENCODING[:8], 8, 1), (Q_ENCODING + b"\0", 8, 5), (Q_ENCODING, 9, 9), (encoded(CORNERS), 8, 10), (Q_ENCODING, 8, 0)):
+        calls.put(encoding=data, size=resized(calls.slices["size"], size))
+        assert calls.canonical() == number
+    calls.say("canonical: lines that are not understood")
+    for line in ("canonical 1", "canonical ", " canonical", "canonical x", "canonicals", "open canonical", "size", "size 4097", "size 8 0:100"):
+        calls.misread(line)
+    calls.put(size=b"")
+    write(calls, P_ENCODING, 16)
+
+
+def others_of(automaton):
+    """Automata that differ from one in one thing: whether it counts, and the other. (Its top event is 3, and event 0 is not observable.)"""
+    listed, symbols = automaton.transitions, automaton.symbols or list(range(4))
+    for counts, others in (
+        (True, {"top_state": automaton.top_state + 1}),
+        (True, {"top_event": 4, "symbols": symbols + [0]}),
+        (True, {"k": automaton.k + 1}),
+        (True, {"initial": automaton.initial - 1}),
+        (True, {"secret": automaton.secret | {0}}),
+        (True, {"secret": automaton.secret - {automaton.top_state}}),
+        (True, {"observable": automaton.observable | {0}}),
+        (True, {"observable": automaton.observable - {3}}),
+        (True, {"symbols": symbols[:3] + [9]}),
+        (True, {"transitions": listed[:-1]}),
+        (True, {"transitions": [*listed, (0, 0, 0)]}),
+        (True, {"transitions": [(1, 1, 3), *listed[1:]]}),
+        (True, {"transitions": [(2, 0, 3), *listed[1:]]}),
+        (True, {"transitions": [(2, 1, 2), *listed[1:]]}),
+        (False, {"transitions": listed[::-1]}),
+        (False, {"symbols": [8] + symbols[1:]}),
+        (False, {"symbols": [30] + symbols[1:], "transitions": sorted(listed)}),
+    ):
+        yield counts, with_other(automaton, **others)
+
+
+def canonical_pairs(calls):
+    """Automata that differ in one thing: other bytes where it counts, and the same where it does not."""
+    for symbols in ([31, 2, 0, 3], None):
+        calls.say(f"canonical: automata that differ in one thing, {'with' if symbols else 'without'} symbols")
+        first = Automaton(4, 3, 2, 1, {1, 4}, {1, 2, 3}, FORKED.transitions, symbols)
+        form = write_form(calls, encoded(first))
+        for counts, other in others_of(first):
+            data = encoded(other)
+            write(calls, data, len(canonical(data)))
+            assert counts == (calls.slices["output"] != form) == (meaning(data) != meaning(form))
+
+
+def random_canonical(calls):
+    """Random automata, each in two encodings that have one form, and damaged ones, some into an output of a few bytes."""
+    calls.say("canonical: random automata, each in two encodings; and damaged ones")
+    for i in range(WRITTEN):
+        rng = random.Random(f"canonical {SEED} {i}")
+        automaton = wide_automaton(rng) if i % 4 == 3 else random_automaton(rng)
+        first, second = (encoded(spelled(rng, automaton)) for _ in range(2))
+        form = canonical(first)
+        write(calls, first, len(form) + rng.choice((0, 0, 1, 20)))
+        write(calls, second, len(form) - rng.choice((0, 0, 0, 1)))
+        assert canonical(second) == form
+        write(calls, rng.choice(ENCODING_DAMAGES)(rng, spelled(rng, automaton), b"")[2:], rng.choice((250, 250, 8)))
+
+
 # answers that are left open
 
 
@@ -1235,6 +1440,10 @@ def misread(calls):
         getattr(calls, function)(1)
 
 
+# the parts that write canonical forms
+CANONICAL = canonical_orders, canonical_symbols, canonical_sizes, canonical_refusals, canonical_pairs, random_canonical
+
+
 def stored():
     """The input and the output."""
     calls = Calls()
@@ -1267,6 +1476,7 @@ def stored():
         random_several,
         random_explorations,
         random_first_leaks,
+        *CANONICAL,
     ):
         part(calls)
     return {"stdin": "".join(line + "\n" for line in calls.lines).encode(), "stdout": "".join(line + "\n" for line in calls.printed).encode()}

@@ -235,6 +235,20 @@ def with_secret(automaton, secret):
     return Automaton(*tops, automaton.k, automaton.initial, secret, automaton.observable, automaton.transitions, automaton.symbols)
 
 
+def with_other(automaton, **others):
+    """The automaton with something else in it, by its name."""
+    names = "top_state", "top_event", "k", "initial", "secret", "observable", "transitions", "symbols"
+    return Automaton(**({name: getattr(automaton, name) for name in names} | others))
+
+
+def spelled(rng, automaton):
+    """The same automaton, with its transitions in any order, perhaps with symbols that need not be listed, and any symbols of unobservable events."""
+    symbols = automaton.symbols or rng.choice((None, range(automaton.top_event + 1)))
+    if symbols is not None:
+        symbols = [symbol if event in automaton.observable else rng.randrange(32) for event, symbol in enumerate(symbols)]
+    return with_other(automaton, transitions=rng.sample(automaton.transitions, len(automaton.transitions)), symbols=symbols)
+
+
 def out_of_range(rng, automaton, offered):
     """A state or an event is above the top one, where its field has room for such a number."""
     initial, transitions = automaton.initial, [list(t) for t in automaton.transitions]
@@ -296,6 +310,48 @@ DAMAGES = (
     repeated_and_damaged,
     any_bytes,
 )
+
+
+# those of the encoding alone
+ENCODING_DAMAGES = (
+    symbol_bit,
+    cut_symbols,
+    wrong_count,
+    padding_bits,
+    further_bytes,
+    short_encoding,
+    flipped_bits,
+    flipped_bits,
+    out_of_range,
+    any_bytes,
+    repeated,
+    repeated_and_damaged,
+)
+
+
+def large_automaton(rng):
+    """An automaton with up to 64 states and 32 events, and up to 1,023 transitions, more often as many as there can be."""
+    states, events = rng.choice((64, 64, 33, 5)), rng.choice((32, 32, 17, 3))
+    most = min(1023, states * events * states)
+    numbers = rng.sample(range(states * events * states), rng.choice((most, most, rng.randrange(most))))
+    transitions = [(number // states // events, number // states % events, number % states) for number in numbers]
+    secret, observable = (set(rng.sample(range(count), rng.randrange(count + 1))) for count in (states, events))
+    symbols = random_symbols(rng, events - 1, observable)
+    return Automaton(states - 1, events - 1, rng.randrange(16), rng.randrange(states), secret, observable, transitions, symbols)
+
+
+def too_long(rng, encoding):
+    """An encoding with so many bytes behind it that there are more than the longest one has."""
+    more = max(1, rng.choice((2211, 2211, 2212, 4096, 4097, 8192, 8193, rng.randrange(2211, 9001))) - len(encoding))
+    return encoding + rng.choice((bytes(more), b"\xff" * more, rng.randbytes(more)))
+
+
+def random_encoding(rng):
+    """An encoding by itself, of an automaton that is small, wide or large. One of four is damaged, and one of eight is too long."""
+    kind = rng.random()
+    automaton = spelled(rng, (large_automaton if kind < 0.125 else wide_automaton if kind < 0.25 else random_automaton)(rng))
+    encoding = rng.choice(ENCODING_DAMAGES)(rng, automaton, b"")[2:] if rng.random() < 0.25 else encoded(automaton)
+    return too_long(rng, encoding) if rng.random() < 0.125 else encoding
 
 
 def idle_log(rng):

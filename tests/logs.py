@@ -3,7 +3,7 @@
 from runs import Automaton, Listing
 
 TRUNCATED = 1
-STATE, EVENT, TRAILING, NOT_OBSERVABLE, INCOMPATIBLE, INITIAL_LEAK = range(3, 9)
+STATE, EVENT, TRAILING, NOT_OBSERVABLE, INCOMPATIBLE, INITIAL_LEAK, MALFORMED, OUTPUT_TOO_SMALL = range(3, 11)
 REPEATED = 12
 
 
@@ -76,7 +76,7 @@ def decoded(data):
     listed = fields.field(1)
     secret, observable = fields.flags(top_state + 1), fields.flags(top_event + 1)
     symbols = [fields.field(5) for _ in range(top_event + 1)] if listed else None
-    transitions = []
+    transitions = {}  # in their order
     for _ in range(count):
         source = fields.field(6)
         demand(source <= top_state, STATE)
@@ -85,7 +85,7 @@ def decoded(data):
         target = fields.field(6)
         demand(target <= top_state, STATE)
         demand((source, event, target) not in transitions, REPEATED)
-        transitions.append((source, event, target))
+        transitions[source, event, target] = True
     fields.end()
     return Automaton(top_state, top_event, k, initial, secret, observable, transitions, symbols)
 

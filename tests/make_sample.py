@@ -2,15 +2,16 @@
 
 crates/log_sample/stdin has the logs one after another, each with its length in two bytes, high first, before it; crates/log_sample/stdout
 has what each prints. crates/leak_sample has logs in which a first leak is looked for (S-8), each with a notion, 0 weak or 1 strong, in one more byte in
-front; crates/first_leak and crates/first_strong_leak have one such log each. With `--check` nothing is written, and the exit status is 1 where the files
-differ from what would be written.
+front; crates/first_leak and crates/first_strong_leak have one such log each. crates/canonical_encoding has an encoding, and its canonical form (S-9).
+With `--check` nothing is written, and the exit status is 1 where the files differ from what would be written.
 """
 
 import pathlib
 import random
 import sys
 
-from examples import AFTER_ANY, CLOSING, ENCODINGS, EXAMPLES, FIRST_LEAKS, ONE_SYMBOL, P_ENCODING, P_SYMBOLS, T, WEAK_LATER, WIDENING
+from canonical import canonical_output
+from examples import AFTER_ANY, CLOSING, ENCODINGS, EXAMPLES, FIRST_LEAKS, ONE_SYMBOL, P, P_ENCODING, P_SYMBOLS, T, WEAK_LATER, WIDENING
 from first_leaks import leak_output
 from generate import many_transitions, random_log, with_length, with_repeat, with_symbols, with_transitions
 from logs import encoded, output
@@ -24,6 +25,8 @@ CRATES = pathlib.Path(__file__).resolve().parent.parent / "crates"
 # the programs that look for a first leak, each with its notion, and the log that is stored for both: there are refused bytes among its events, and the first
 # strong leak comes before the first weak one
 SEARCHES = {name: (notion, WEAK_LATER, (2, 2, 0, 1, 1, 200, 3)) for notion, name in enumerate(("first_leak", "first_strong_leak"))}
+# P with one transition more, in no order, and with symbols: that of event 0, which is not observable, says nothing, and that of event 2 is needed
+UNSORTED = with_symbols(with_transitions(P, [(3, 1, 3), (0, 1, 3), (1, 2, 0), (0, 1, 1), (2, 1, 3), (0, 0, 2)]), [31, 1, 0])
 
 
 def longest_release():
@@ -243,6 +246,7 @@ def one_leak(notion, automaton, offered):
 def main():
     """Writes all, or compares all: the exit status."""
     files = {"log_sample": sample(), "leak_sample": leak_sample(), **{name: one_leak(*search) for name, search in SEARCHES.items()}}
+    files["canonical_encoding"] = {"stdin": encoded(UNSORTED), "stdout": canonical_output(encoded(UNSORTED))}
     return max([store(CRATES / name, stored) for name, stored in files.items()])
 
 

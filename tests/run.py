@@ -5,7 +5,8 @@ have to come with their symbols, the first bytes one by one, and reads and write
 at each of its 1,022 distances. The first mismatch is printed, with what is needed to repeat it, and the exit status is 1.
 
 With `--kind weak` or `--kind strong` the program is one that looks for the first leak of a log (S-8). Its line has to come with the event that leaks, and
-the program has to end then, though the feed goes on.
+the program has to end then, though the feed goes on. With `--kind canonical` it is the one that writes canonical forms (S-9), and gets encodings by
+themselves: whole, damaged, and longer than any can be.
 """
 
 import argparse
@@ -19,16 +20,22 @@ import sys
 import tempfile
 import time
 
-from examples import AFTER_ANY, ENCODINGS, EXAMPLES, FIRST_LEAKS, P_ENCODING
+from canonical import canonical_output
+from examples import AFTER_ANY, ENCODINGS, EXAMPLES, FIRST_LEAKS, FORMS, P_ENCODING, P_SYMBOLS
 from first_leaks import first_leak, leak_output
-from generate import cut_to_size, many_transitions, random_log, random_trace, with_length, with_transitions
+from generate import cut_to_size, many_transitions, random_encoding, random_log, random_trace, spelled, with_length, with_symbols, with_transitions
 from logs import encoded, output
 from mistakes import OF_ONE, search_case
 from runs import Automaton, Listing
 
-# what each kind of program prints for a log; those that look for a first leak have a notion
-NOTIONS = {"log": None, "weak": 0, "strong": 1}
-PRINTED = {"log": output, "weak": lambda log: leak_output(log, 0), "strong": lambda log: leak_output(log, 1)}
+# what each kind of program prints for a log, or the one that writes canonical forms for an encoding; those that look for a first leak have a notion
+NOTIONS = {"log": None, "weak": 0, "strong": 1, "canonical": None}
+PRINTED = {
+    "log": output, "weak": lambda log: leak_output(log, 0), "strong": lambda log: leak_output(log, 1),
+    "canonical": lambda data: canonical_output(data).decode("latin-1"),
+}
+# in how many pieces inputs come, one after another; in no pieces: from a file
+PIECES = 1, 1, 0, 0, 1, 1, 1, 1, 3, 3
 
 # the symbols of this one need several reads and writes
 LONG = 600000
@@ -55,9 +62,9 @@ def edge_logs(notion):
 
 
 def printed(program, log):
-    """What the program prints for a log, and its exit status."""
+    """What the program prints for a log, a character for each byte, and its exit status."""
     done = subprocess.run([program], input=log, stdout=subprocess.PIPE, stderr=subprocess.PIPE, timeout=60, check=False)
-    return done.stdout.decode("ascii", "replace"), done.returncode
+    return done.stdout.decode("latin-1"), done.returncode
 
 
 def printed_whole(program, log):
@@ -66,7 +73,7 @@ def printed_whole(program, log):
         file.write(log)
         file.seek(0)
         done = subprocess.run([program], stdin=file, stdout=subprocess.PIPE, stderr=subprocess.PIPE, timeout=60, check=False)
-    return done.stdout.decode("ascii", "replace"), done.returncode
+    return done.stdout.decode("latin-1"), done.returncode
 
 
 def printed_slowly(program, log, pieces):
@@ -81,7 +88,7 @@ def printed_slowly(program, log, pieces):
             pass
         process.stdin.close()
         out = process.stdout.read()
-        return out.decode("ascii", "replace"), process.wait(timeout=60)
+        return out.decode("latin-1"), process.wait(timeout=60)
 
 
 def line_of(process, seconds=5):
@@ -220,13 +227,13 @@ def failures(program, notion):
     return None
 
 
-def distances(program):
-    """The longest encoding, whose last transition is an earlier one, at every distance. Says what is wrong, or nothing."""
+def distances(program, log=True):
+    """The longest encoding, in a log or by itself, whose last transition is an earlier one, at every distance. Says what is wrong, or nothing."""
     automaton = Automaton(63, 31, 15, 0, set(), set(range(32)), many_transitions(random.Random("distances"), 1023), range(31, -1, -1))
     assert len(encoded(automaton)) == 2210
     for first in range(1022):
         again = with_transitions(automaton, automaton.transitions[:1022] + [automaton.transitions[first]])
-        got = printed(program, with_length(encoded(again), b"\x01"))
+        got = printed(program, with_length(encoded(again), b"\x01") if log else encoded(again))
         if got != ("refused 12\n", 0):
             return f"the transition {first} of 1,023 again as the last: {got}"
     return None
@@ -237,7 +244,13 @@ def mismatch(program, log, expected, pieces):
     got, status = (printed_whole, printed)[pieces](program, log) if pieces < 2 else printed_slowly(program, log, pieces)
     if (got, status) == (expected, 0):
         return None
-    return f"log ({len(log)} bytes, in {pieces} pieces): {log[:600].hex(' ')}\nexpected:\n{expected[:3000]}\nprinted (status {status}):\n{got[:3000]}"
+    said = f"input ({len(log)} bytes, in {pieces} pieces): {log[:600].hex(' ')}"
+    return f"{said}\nexpected:\n{readable(expected)}\nprinted (status {status}):\n{readable(got)}"
+
+
+def readable(text):
+    """The lines that a program printed, or the bytes of an encoding."""
+    return text[:3000] if text.replace("\n", "").isprintable() else text[:1000].encode("latin-1").hex(" ")
 
 
 def searched_log(rng, printed):
@@ -255,17 +268,64 @@ def cases(kind, seed, count):
         yield -1 - i, log, expected(log), pieces
     for i in range(count):
         rng = random.Random(f"{seed} {i}")
-        yield i, *(random_log(rng, expected) if notion is None or i % 2 else searched_log(rng, expected)), (1, 1, 0, 0, 1, 1, 1, 1, 3, 3)[i % 10]
+        yield i, *(random_log(rng, expected) if notion is None or i % 2 else searched_log(rng, expected)), PIECES[i % 10]
+
+
+def edge_encodings(rng):
+    """Encodings that were thought out: no byte at all, examples, one that is cut at every byte, the longest, with symbols that are needed and others;
+    and what is longer than any, around the ends of reads, whose front is whole, cut, out of range, or lists a transition twice."""
+    automaton = Automaton(63, 31, 9, 40, set(range(0, 64, 3)), set(range(1, 32, 2)), many_transitions(rng, 1023), [5] * 32)
+    longest, plain = (encoded(spelled(rng, with_symbols(automaton, symbols))) for symbols in ([5] * 32, range(32)))
+    whole = [b"", *(data for pair in FORMS for data in pair), longest, plain, encoded(with_symbols(automaton, None))]
+    repeated = encoded(with_transitions(automaton, automaton.transitions[:1022] + automaton.transitions[7:8]))
+    stray = encoded(Automaton(40, 31, 9, 40, (), (), [(number % 41, number // 41 % 32, 7) for number in range(1022)] + [(40, 31, 41)], [5] * 32))
+    ones, symbols = b"\xff" * 2210, encoded(P_SYMBOLS)
+    fronts = [b"", symbols, symbols[:9], *(data for data, _ in ENCODINGS), plain, longest[:-1], repeated, stray, P_ENCODING, longest, ones]
+    long = [(front, size) for front in fronts for size in (2209, 2210, 2211, 2212, 4095, 4096, 4097, 8192, 8193)]
+    long += [(front, size) for front in fronts[-3:] for size in (65535, 65536, 65537, 131073, 300000)]
+    cut = [symbols[:size] for size in range(len(symbols))]
+    return whole + cut + fronts + [front.ljust(size, b"\0") for front, size in long if len(front) < size]
+
+
+def encoding_cases(seed, count):
+    """The encodings that were thought out, and random ones: a number, the encoding, what is printed for it, and in how many pieces it comes."""
+    expected = PRINTED["canonical"]
+    for i, data in enumerate(edge_encodings(random.Random(f"{seed} -1"))):
+        yield -1 - i, data, expected(data), i % 2
+    for i in range(count):
+        data = random_encoding(random.Random(f"{seed} {i}"))
+        yield i, data, expected(data), PIECES[i % 10]
+
+
+def run_encodings(program, seed, count):
+    """Runs the encodings of a seed: the exit status."""
+    found = distances(program, log=False)
+    if found:
+        print(found)
+        return 1
+    refused = same = 0
+    for i, data, expected, pieces in encoding_cases(seed, count):
+        found = mismatch(program, data, expected, pieces)
+        if found:
+            print(f"seed {seed}, encoding {i}: mismatch\n{found}")
+            return 1
+        refused += expected.startswith("refused")
+        same += expected.encode("latin-1") == data
+    forms = f"{refused} of them refused and {same} that were canonical before"
+    print(f"seed {seed}: {count} random encodings and others, {forms}, 0 mismatches; repeats as expected")
+    return 0
 
 
 def main():
-    """Runs the logs."""
+    """Runs the logs, or the encodings."""
     words = argparse.ArgumentParser(description=__doc__, formatter_class=argparse.RawDescriptionHelpFormatter)
     words.add_argument("--program", default="target/bin/opacity_log")
     words.add_argument("--kind", choices=sorted(NOTIONS), default="log")
     words.add_argument("--count", type=int, default=2000)
     words.add_argument("--seed", type=int, default=1)
     chosen = words.parse_args()
+    if chosen.kind == "canonical":
+        return run_encodings(chosen.program, chosen.seed, chosen.count)
     notion = NOTIONS[chosen.kind]
     found = live_feed(chosen.program) if notion is None else live_search(chosen.program, notion)
     found = found or failures(chosen.program, notion) or distances(chosen.program)

@@ -4,7 +4,7 @@ from runs import Automaton, Secret
 
 WORDS = 2048
 HEADER_BYTES, FURTHER_BYTES, ESTIMATOR_BYTES, JUDGEMENT_BYTES, ENFORCER_BYTES, RELEASE_BYTES, EXPLORATION_BYTES = 46, 28, 172, 9, 206, 2, 4
-PLACE_BYTES = 8
+PLACE_BYTES, SIZE_BYTES = 8, 8
 SYMBOLS = 14  # where a header has the symbols
 SECRETS = 144  # where an estimator has its further secrets
 NOTION, PENDING = 172, 173  # where an enforcer has its notion, and the number of its pending symbols, which follow it
@@ -119,6 +119,11 @@ def exploration_bytes(found):
 def place_bytes(place):
     """The place of a first leak, lowest byte first; 0 where there is none."""
     return (0 if place is None else place).to_bytes(PLACE_BYTES, "little")
+
+
+def size_bytes(count):
+    """How many bytes a canonical form has, lowest byte first."""
+    return count.to_bytes(SIZE_BYTES, "little")
 
 
 def safe_of(listing, notion):

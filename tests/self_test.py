@@ -4,29 +4,35 @@
 run as its list of transitions; automata with symbols against automata without, whose events are the symbols; and further secrets (S-6) against
 answers worked out by hand, against runs that are listed one by one as their states, and against automata whose own secret they are; explorations
 (S-7) against what was worked out by hand, against every trace up to a length, and against how long the last symbols of traces are held; first leaks
-(S-8) against what was worked out by hand, against the lines of logs, and against runs that are listed one by one.
+(S-8) against what was worked out by hand, against the lines of logs, and against runs that are listed one by one; canonical forms (S-9) against what
+was written out by hand, against what encodings say, of all small ones and of random ones with each bit turned over; and the stored calls that write
+them against mistaken writers.
 """
 
+import itertools
 import pathlib
 import random
 import sys
 
-from calls import elements
+from calls import Calls, elements
+from canonical import canonical, canonical_output, meaning, written
 from examples import (
-    ENCODINGS, ESTIMATES, EXAMPLES, EXPLORATIONS, FIRST_LEAKS, OPENINGS, P, P_ENCODING, P_SECRETS, P_SYMBOLS, Q, Q_ENCODING, SEVERAL, T, hops, rings,
-    secret, subsets,
+    ENCODINGS, ESTIMATES, EXAMPLES, EXPLORATIONS, FIRST_LEAKS, FORMS, OPENINGS, P, P_ENCODING, P_SECRETS, P_SYMBOLS, Q, Q_ENCODING, SEVERAL, T,
+    by_bits, hops, rings, secret, subsets,
 )
 from explorations import Exploration, explored, reached, waits_of
 from first_leaks import first_leak, leak_output
+from gateway_calls import CANONICAL
 from generate import (
-    many_transitions, random_automaton, random_byte, random_log, random_offers, random_secrets, random_trace, with_length, with_repeat, with_symbols,
-    with_transitions,
+    ENCODING_DAMAGES, large_automaton, many_transitions, random_automaton, random_byte, random_log, random_offers, random_secrets, random_trace,
+    spelled, wide_automaton, with_length, with_repeat, with_symbols, with_transitions,
 )
-from logs import Refused, decoded, encoded, output, steps
+from logs import Refused, decoded, encoded, output, refused_line, steps
+from mistaken_writers import MISTAKEN_WRITERS, as_listed, told
 from runs import Automaton, Listing, TooManyRuns
 from saved import (
-    automaton_of, exploration_bytes, given_of, grown_enforcer, grown_estimator, header_of, judgement_bytes, place_bytes, safe_of, secrets_bytes, table_of,
-    wait,
+    automaton_of, exploration_bytes, given_of, grown_enforcer, grown_estimator, header_of, judgement_bytes, place_bytes, safe_of, secrets_bytes,
+    size_bytes, table_of, wait,
 )
 
 
@@ -97,10 +103,23 @@ def explored_lines():
     return "".join(explored_line(*call) for call in asked)
 
 
+def form_lines():
+    """Those of the example in C: P with its transitions in another order and symbols that are not needed, into an output with space and one without."""
+    shuffled = by_bits(
+        "000011 00010 0010 000000 0000000101 1", "0100 011", "00111 00001 00010",
+        "000011 00001 000011", "000001 00010 000000", "000000 00001 000001", "000010 00001 000011", "000000 00000 000010",
+    )
+    form = canonical(shuffled)
+    assert form == P_ENCODING
+    said = f"form of {len(shuffled)} bytes, output"
+    return f"{said} 2210: {len(form)} bytes, {form.hex(' ')}\n{said} {len(form) - 1}: refused 10\n"
+
+
 def test_programs():
     """The stored runs of the log program, 01's listing and 02's idle log with S-5's column: the lister gives them, and they are among the answers
-    that were written by hand. Those of the programs that look for a first leak, with each notion's place by hand. The documents and the example in C have
-    the same as the log program, and the example goes on with a further secret, first leaks and explorations."""
+    that were written by hand. Those of the programs that look for a first leak, with each notion's place by hand, and of the one that writes a
+    canonical form, bit by bit. The documents and the example in C have the same as the log program, and the example goes on with a further secret,
+    first leaks, explorations and canonical forms."""
     top = pathlib.Path(__file__).resolve().parent.parent
     stored = {}
     for name in ("opacity_log", "idle_log"):
@@ -113,8 +132,12 @@ def test_programs():
         folder = top / "crates" / name
         assert [leak_output((folder / "stdin").read_bytes(), notion) for notion in (0, 1)] == printed, name
         assert (folder / "stdout").read_text("ascii") == printed[own], name
+    folder = top / "crates" / "canonical_encoding"
+    rising = "000000 00000 000010", "000000 00001 000001", "000000 00001 000011", "000001 00010 000000", "000010 00001 000011", "000011 00001 000011"
+    form = by_bits("000011 00010 0010 000000 0000000110 1", "0100 011", "00000 00001 00000", *rising)
+    assert canonical_output((folder / "stdin").read_bytes()) == (folder / "stdout").read_bytes() == form != (folder / "stdin").read_bytes()
     several = several_lines(P, (secret(1, 3),), (1, 2, 1, 1))
-    assert (top / "c" / "listing.txt").read_text("ascii") == stored["opacity_log"] + several + leak_lines() + explored_lines()
+    assert (top / "c" / "listing.txt").read_text("ascii") == stored["opacity_log"] + several + leak_lines() + explored_lines() + form_lines()
     further = next(line for line in (top / "docs/FORMATS.md").read_text("utf-8").splitlines() if line.startswith("    02  02 00"))
     assert bytes.fromhex(further) == secrets_bytes([secret(2, 1, 63), secret(15)])
     for name in ("README.md", "docs/FORMATS.md"):
@@ -601,6 +624,98 @@ def test_places(count, seed):
     return compared
 
 
+def test_forms():
+    """S-9, by hand: canonical forms, each of which is its own; their number of bytes; and that no line of a refusal is an encoding."""
+    for encoding, form in FORMS:
+        assert canonical(encoding) == canonical(form) == canonical_output(encoding) == form, encoding.hex()
+        n = len(form)
+        assert written(encoding, b"\xdd" * n, bytes(8)) == (0, form, size_bytes(n)), encoding.hex()
+        assert written(encoding, b"\xdd" * (n + 2), bytes(8)) == (0, form + b"\xdd\xdd", size_bytes(n)), encoding.hex()
+        assert written(encoding, b"\xdd" * (n - 1), bytes(8)) == (10, b"\xdd" * (n - 1), bytes(8)), encoding.hex()
+        assert written(encoding, b"", bytes(7)) == (9, b"", bytes(7)), encoding.hex()
+    for encoding, number in ENCODINGS:
+        assert canonical_output(encoding) == f"refused {number}\n".encode("ascii"), number
+        assert [written(encoding, bytes(size), bytes(8))[0] for size in (0, 40)] == [number, number], number
+    assert size_bytes(2210) == bytes((0xA2, 8, 0, 0, 0, 0, 0, 0))
+    assert [refusal_of(refused_line(Refused(number)).encode("ascii")) for number in (1, 3, 4, 5, 12)] == [3] * 5
+
+
+def small_encodings():
+    """Every encoding with one state or two, one event or two, K 0, symbols up to 2, and at most two transitions, in each order."""
+    for states, events in itertools.product((1, 2), (1, 2)):
+        every = list(itertools.product(range(states), range(events), range(states)))
+        lists = [listed for count in (0, 1, 2) for listed in itertools.permutations(every, count)]
+        symbols = [None, *itertools.product(range(3), repeat=events)]
+        flags = itertools.product(itertools.product((0, 1), repeat=states), itertools.product((0, 1), repeat=events))
+        for (secret, observable), initial, listed, transitions in itertools.product(flags, range(states), symbols, lists):
+            sets = [[number for number, flag in enumerate(each) if flag] for each in (secret, observable)]
+            yield encoded(Automaton(states - 1, events - 1, 0, initial, *sets, transitions, listed))
+
+
+def test_small_forms():
+    """Of all small encodings those that say the same have one form, and those that do not have others. How many there are, and how many forms."""
+    forms, meanings, count = {}, {}, 0
+    for data in small_encodings():
+        form, said = canonical(data), meaning(data)
+        assert forms.setdefault(form, said) == said and meanings.setdefault(said, form) == form, data.hex()
+        count += 1
+    return count, len(forms)
+
+
+def turned(data, bit):
+    """The bytes with one bit turned over."""
+    return (int.from_bytes(data, "big") ^ 1 << 8 * len(data) - 1 - bit).to_bytes(len(data), "big")
+
+
+def test_spellings(count, seed):
+    """Two encodings of an automaton have one form, which says the same, is decoded to the same table and header, is its own form, is no longer than
+    either, and is what another way of writing it gives. With any bit turned over, an encoding has that form exactly if it still says the same."""
+    compared = [0, 0, 0]
+    for i in range(count):
+        rng = random.Random(f"spellings {seed} {i}")
+        automaton = (wide_automaton if i % 16 == 7 else large_automaton if i % 64 == 15 else random_automaton)(rng)
+        first, second = (encoded(spelled(rng, automaton)) for _ in range(2))
+        form = canonical(first)
+        assert canonical(second) == canonical(form) == form == encoded(as_listed(automaton, {})), (seed, i)
+        assert meaning(first) == meaning(second) == meaning(form), (seed, i)
+        assert (table_of(decoded(form)), header_of(decoded(form))) == (table_of(automaton), header_of(automaton)), (seed, i)
+        assert len(form) <= min(len(first), len(second)), (seed, i)
+        compared[0] += first != form
+        bits = range(8 * len(first))
+        for bit in bits if len(first) < 40 else rng.sample(bits, 40):
+            other = turned(first, bit)
+            if refusal_of(other) == 0:
+                assert (canonical(other) == form) == (meaning(other) == meaning(first)), (seed, i, bit)
+                compared[1 if canonical(other) == form else 2] += 1
+        damaged = rng.choice(ENCODING_DAMAGES)(rng, automaton, b"")[2:]
+        if refusal_of(damaged):
+            assert canonical_output(damaged) == f"refused {refusal_of(damaged)}\n".encode("ascii"), (seed, i)
+    return compared
+
+
+class Lent(Calls):
+    """Calls that remember what each call of canonical was lent."""
+
+    def __init__(self):
+        super().__init__()
+        self.lent = []
+
+    def writing(self):
+        """The answer of canonical, as it is."""
+        self.lent.append(tuple(self.slices[name] for name in ("encoding", "output", "size")))
+        return super().writing()
+
+
+def test_writers(least):
+    """Each mistaken writer is told by so many of the stored calls. How many calls there are, and the fewest by which one is told."""
+    calls = Lent()
+    for part in CANONICAL:
+        part(calls)
+    found = told(calls.lent)
+    assert least <= min(found.values()), [name for name, count in found.items() if count < least]
+    return len(calls.lent), min(found.values())
+
+
 if __name__ == "__main__":
     test_examples()
     test_sizes()
@@ -611,6 +726,7 @@ if __name__ == "__main__":
     test_several()
     test_explorations()
     test_first_leaks()
+    test_forms()
     compared = test_merging(400, 1)
     separate, shared = test_meaning(600, 1)
     print(f"examples as expected, {compared} listings compared run by run; as without symbols: {separate} symbols of one event each, {shared} others")
@@ -621,4 +737,9 @@ if __name__ == "__main__":
     printed = test_printed_leaks(1200, 1)
     places, none, behind = test_places(800, 1)
     print(f"first leaks: {printed} as the lines of logs; {places} compared run by run, {behind} of them behind refused bytes, and {none} lists without")
+    small, forms = test_small_forms()
+    spellings, kept, others = test_spellings(250, 1)
+    print(f"canonical forms: {forms} of {small} small encodings, {spellings} of random ones; a bit turned over: {kept} the same, {others} others")
+    calls, fewest = test_writers(5)
+    print(f"canonical forms: {len(MISTAKEN_WRITERS)} mistaken writers are told, each by {fewest} or more of {calls} stored calls")
     sys.exit(0)

@@ -6,8 +6,8 @@ mod Carried
 mod Filling
 mod Again
 mod Turns
--- Theorems about the definitions: which refusals there are, one decoding only, no transition twice, and what a decoded table and a decoded header's
--- symbols mean. (01's starred encodings are rows of the table in `examples`.)
+-- Theorems about the definitions: which refusals there are, one decoding only, no transition twice, what a decoded table and a decoded header's
+-- symbols mean, how long an encoding can be, and how longer bytes are refused. (01's starred encodings are rows of the table in `examples`.)
 pub mod Refusing
 pub mod Only
 pub mod Distinct
@@ -16,3 +16,4 @@ pub mod Cases
 pub mod Listing
 pub mod DecodedSymbols
 pub mod Longest
+pub mod Longer

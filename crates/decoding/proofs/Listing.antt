@@ -62,7 +62,7 @@ encoding-placed bs {d} e =
     let r = encoding-read (bitsOf bs) e in
     transitions-placed (d .front .fixed .topstate) (d .front .fixed .topevent) bs (r .start) (d .front .fixed .count) (r .listed-read)
 
-one-true : (b : Bool) → oneIf b ≡ 1 → b ≡ true
+pub one-true : (b : Bool) → oneIf b ≡ 1 → b ≡ true
 one-true true e = refl
 one-true false e = absurd (omega arith)
 

@@ -14,11 +14,12 @@ use Rattle.bitfields.proofs.Bits.{length-bits}
 use Rattle.bitfields.proofs.Parsing.{on-done, demand-done, same-done, field-in, flags-in}
 use Rattle.encoding.specs.declared.ListedTransition.{ListedTransition}
 use Rattle.encoding.specs.Encoding.{Encoding, encoding, ending, fixed, front, symbols, symbolCount, Preamble, preamble, transition, transitions}
-use Rattle.encoding.specs.Answers.{FrontSmall, preambleEnd}
+use Rattle.encoding.specs.Answers.{FrontSmall, frontEnd, preambleEnd}
 use Rattle.encoding.specs.declared.Fixed.{Fixed}
+use Rattle.encoding.specs.declared.Front.{Front}
 use Rattle.encoding.proofs.Ended.{symbols-few, transitions-read, encoding-in}
 
-fixed-ends : (bits : List ℕ) {f : Fixed} {n : ℕ} → fixed bits 0 ≡ done f n → n ≡ 32
+pub fixed-ends : (bits : List ℕ) {f : Fixed} {n : ℕ} → fixed bits 0 ≡ done f n → n ≡ 32
 unfolding fixed
 fixed-ends bits e =
     on-done (field 6 bits 0) _ e λ topstate n1 e1 r1.
@@ -40,7 +41,7 @@ fixed-ends bits e =
       same-done r7 .1,
     )
 
-symbols-end : (bits : List ℕ) (at n : ℕ) {given : List ℕ} {next : ℕ} → symbols n bits at ≡ done given next → next ≡ at + n * 5
+pub symbols-end : (bits : List ℕ) (at n : ℕ) {given : List ℕ} {next : ℕ} → symbols n bits at ≡ done given next → next ≡ at + n * 5
 unfolding symbols
 symbols-end bits at zero r = omega (arith, same-done r .1)
 symbols-end bits at (suc n) r =
@@ -48,29 +49,31 @@ symbols-end bits at (suc n) r =
     on-done (field 5 bits n1) _ r1 λ last n2 e2 r2.
     omega (arith, symbols-end bits at n e1, field-in 5 bits n1 e2 .2, same-done r2 .1)
 
-preamble-ends : (bits : List ℕ) {d : Preamble} {n : ℕ} → preamble bits 0 ≡ done d n → n ≡ preambleEnd (d .front)
-unfolding preamble front
+pub front-ends : (bits : List ℕ) {f : Front} {n : ℕ} → front bits 0 ≡ done f n → n ≡ frontEnd f
+unfolding front
+front-ends bits {f} e =
+    on-done (fixed bits 0) _ e λ g n1 e1 r1.
+    on-done (flags (g .topstate + 1) bits n1) _ r1 λ secret n2 e2 r2.
+    on-done (flags (g .topevent + 1) bits n2) _ r2 λ observable n3 e3 r3.
+    let same : record { fixed = g; secret = secret; observable = observable } ≡ f = same-done r3 .0 in
+    let states : g .topstate ≡ f .fixed .topstate = λ i. same i .fixed .topstate in
+    let events : g .topevent ≡ f .fixed .topevent = λ i. same i .fixed .topevent in
+    omega (
+      arith,
+      fixed-ends bits e1,
+      flags-in (g .topstate + 1) bits n1 e2 .2,
+      flags-in (g .topevent + 1) bits n2 e3 .2,
+      same-done r3 .1,
+    )
+
+pub preamble-ends : (bits : List ℕ) {d : Preamble} {n : ℕ} → preamble bits 0 ≡ done d n → n ≡ preambleEnd (d .front)
+unfolding preamble
 preamble-ends bits {d} e =
     on-done (front bits 0) _ e λ f n1 e1 r1.
     on-done (symbols (symbolCount (f .fixed)) bits n1) _ r1 λ given n2 e2 r2.
-    on-done (fixed bits 0) _ e1 λ g m1 d1 s1.
-    on-done (flags (g .topstate + 1) bits m1) _ s1 λ secret m2 d2 s2.
-    on-done (flags (g .topevent + 1) bits m2) _ s2 λ observable m3 d3 s3.
-    let same : record { fixed = g; secret = secret; observable = observable } ≡ f = same-done s3 .0 in
-    let top : g ≡ f .fixed = λ i. same i .fixed in
-    let states : g .topstate ≡ f .fixed .topstate = λ i. top i .topstate in
-    let events : g .topevent ≡ f .fixed .topevent = λ i. top i .topevent in
     let all : record { front = f; symbols = given } ≡ d = same-done r2 .0 in
     let ends : preambleEnd f ≡ preambleEnd (d .front) = λ i. preambleEnd (all i .front) in
-    omega (
-      arith,
-      fixed-ends bits d1,
-      flags-in (g .topstate + 1) bits m1 d2 .2,
-      flags-in (g .topevent + 1) bits m2 d3 .2,
-      same-done s3 .1,
-      symbols-end bits n1 (symbolCount (f .fixed)) e2,
-      same-done r2 .1,
-    )
+    omega (arith, front-ends bits e1, symbols-end bits n1 (symbolCount (f .fixed)) e2, same-done r2 .1)
 
 transition-ends : (s e : ℕ) (bits : List ℕ) (at : ℕ) {t : ListedTransition} {next : ℕ} → transition s e bits at ≡ done t next → next ≡ at + 17
 unfolding transition
@@ -92,7 +95,8 @@ transition-ends s e bits at h =
       same-done r6 .1,
     )
 
-transitions-end : (s e : ℕ) (bits : List ℕ) (at n : ℕ) {ts : List ListedTransition} {next : ℕ} → transitions s e n bits at ≡ done ts next → next ≡ at + n * 17
+pub transitions-end : (s e : ℕ) (bits : List ℕ) (at n : ℕ) {ts : List ListedTransition} {next : ℕ} → transitions s e n bits at ≡ done ts next
+    → next ≡ at + n * 17
 unfolding transitions
 transitions-end s e bits at zero r = omega (arith, same-done r .1)
 transitions-end s e bits at (suc n) r =

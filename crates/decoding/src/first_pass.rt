@@ -147,8 +147,8 @@ fn check<'a>(reader: Reader<'a>) -> FrontAnswer
     ending::checked_from(front, listed, ended)
 }
 
-// The reader is made where the encoding begins.
-pub(crate) fn check_bytes(bytes: &[u8]) -> FrontAnswer
+// The whole first pass: the front of an encoding that is in order, or its first refusal. The reader is made where the encoding begins.
+pub fn check_bytes(bytes: &[u8]) -> FrontAnswer
     ensures { λ r. ⌜ encodingMeans (bitsOf (now (bytes .entry))) r ≡ encoding (bitsOf (now (bytes .entry))) 0 ⌝ }
 {
     let reader = bitfields::reader_at(bytes, 0);

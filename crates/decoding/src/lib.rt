@@ -1,8 +1,8 @@
 // Decodes an automaton (01: description): its header, and its transitions into a lent table of 2,048 words.
 // The whole encoding is checked first (`first_pass`), so that a refusal leaves the table as it was; then the table is cleared and filled (`second_pass`).
 // Each pass makes one Reader of `bitfields` where it begins, which goes from field to field; what the fields answer is judged by `encoding` below. Only
-// `decode` is an entry: it demands nothing of its caller.
-mod first_pass; // all of an encoding is in order
+// `decode` is an entry: it demands nothing of its caller, and nor does `check_bytes`, the first pass alone, which is inner, for `canonical` above.
+pub mod first_pass; // all of an encoding is in order
 mod second_pass; // what it says is stored
 
 use automaton::Header;

@@ -14,10 +14,9 @@ use Rattle.automaton.proofs.Spelling.{each-at, each-length}
 use Rattle.bitfields.specs.Bits.{numberAt}
 use Rattle.encoding.specs.Transitions.{symbolsAt}
 use Rattle.encoding.specs.Encoding.{countIf, symbolCount}
-use Rattle.encoding.specs.Answers.{givenSymbol, symbolIf, symbolFor, headerSymbols, frontEnd, givenSymbols, headerOf}
+use Rattle.encoding.specs.Answers.{FiveBits, givenSymbol, symbolIf, symbolFor, headerSymbols, frontEnd, givenSymbols, headerOf}
 use Rattle.encoding.specs.declared.Front.{Front}
 use Rattle.automaton.specs.declared.Header.{Header}
-use Rattle.encoding.proofs.Ended.{FiveBits}
 
 pub header-at : (observable : ℕ) (given : List ℕ) (e : ℕ) → e < 32 → getD (headerSymbols observable given) e 0 ≡ symbolFor observable given e
 unfolding headerSymbols
@@ -44,7 +43,7 @@ symbol-unobservable observable given e n =
     let z : bit e observable ≡ 0 = omega (arith, bit-lt e observable) in
     ap (λ (b : ℕ). symbolIf b (givenSymbol given e)) z
 
-symbol-small : (given : List ℕ) → FiveBits given → (e : ℕ) → e < 32 → givenSymbol given e ≤ 31
+pub symbol-small : (given : List ℕ) → FiveBits given → (e : ℕ) → e < 32 → givenSymbol given e ≤ 31
 symbol-small [] all e h = omega arith
 symbol-small (x ∷ xs) all e h = all e
 
@@ -75,7 +74,7 @@ symbols-at bits at (suc n) e h = go (decLt e n) (λ l. symbols-at bits at n e l)
         ∙ getD-append-add (symbolsAt bits at n) (numberAt bits (at + n * 5) 5 ∷ []) 0 0
         ∙ ap (λ (k : ℕ). numberAt bits (at + k * 5) 5) same
 
-symbol-some : (given : List ℕ) (e : ℕ) → 0 < length given → givenSymbol given e ≡ getD given e 0
+pub symbol-some : (given : List ℕ) (e : ℕ) → 0 < length given → givenSymbol given e ≡ getD given e 0
 symbol-some [] e h = absurd (omega arith)
 symbol-some (x ∷ xs) e h = refl
 

@@ -67,7 +67,7 @@ pub fn front_end(front: Front) -> usize
 }
 
 // The position of the first transition.
-fn preamble_end(front: Front) -> usize
+pub fn preamble_end(front: Front) -> usize
     requires { ⌜ FrontSmall front ⌝ }
     ensures { λ r. ⌜ r ≡ preambleEnd front ⌝ }
 {

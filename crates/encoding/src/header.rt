@@ -27,7 +27,7 @@ fn symbol_at(bytes: &[u8], at: usize, n: usize, observable: u64, e: usize) -> u8
 }
 
 // The symbols of all 32 events.
-fn all_symbols(bytes: &[u8], at: usize, n: usize, observable: u64) -> [u8; 32]
+pub fn all_symbols(bytes: &[u8], at: usize, n: usize, observable: u64) -> [u8; 32]
     requires { ⌜ (at ≤ 1024) × (n ≤ 32) × (at + n * 5 ≤ length (bitsOf (now bytes))) ⌝ }
     ensures { λ r. ⌜ r ≡ headerSymbols observable (symbolsAt (bitsOf (now (bytes .entry))) at n) ⌝ }
 {

@@ -28,18 +28,23 @@ use Rattle.explore.specs.Explorations as exploring
 use Rattle.explore.specs.Explorations.{Exploring, explored-all}
 use Rattle.explore.specs.declared.Exploration.{Exploration}
 use Rattle.explore.specs.declared.ExploreAnswer as explore
+use Rattle.canonical.specs.Writing as canonical
+use Rattle.canonical.specs.Writing.{Writing}
+use Rattle.canonical.specs.declared.Answer as form
+use Rattle.canonical.proofs.Calls.{call-wrote}
+use Rattle.canonical.proofs.OneForm.{form-longest}
 use Rattle.leaks.specs.FirstLeaks as leaking
 use Rattle.leaks.specs.FirstLeaks.{Finding}
 use Rattle.leaks.specs.declared.LeakAnswer as leak
 use Rattle.leaks.proofs.Only.{place-short}
-use Rattle.layout.specs.Sizes.{headerSize}
+use Rattle.layout.specs.Sizes.{headerSize, writtenSize}
 use Rattle.layout.specs.Layout.{Stored, headerAt, headerBytes, furtherAt, estimatorAt, estimatorBytes, EstimatorSized, notionAt, enforcerAt, enforcerBytes}
 use Rattle.layout.specs.Layout.{EnforcerSized}
-use Rattle.layout.specs.Layout.{toldBytes, allFindings, judgementBytes, releaseBytes, explorationBytes, firstLeakBytes}
+use Rattle.layout.specs.Layout.{toldBytes, allFindings, judgementBytes, releaseBytes, explorationBytes, firstLeakBytes, writtenBytes, NumberSaved}
 use Rattle.gateway.specs.Interface.{Decode, FreshSizes, Fresh, Accept, Start, Offer, Explore, VerifierSizes, StartSizes, OfferSizes, ExploreSizes}
-use Rattle.gateway.specs.Interface.{FirstLeakSizes, FirstLeakCall, leakSaid}
+use Rattle.gateway.specs.Interface.{FirstLeakSizes, FirstLeakCall, leakSaid, CanonicalCall}
 use Rattle.layout.proofs.Stores.{whole}
-use Rattle.layout.proofs.Inverse.{estimator-length, estimator-saved, enforcer-saved, exploration-saved, place-saved}
+use Rattle.layout.proofs.Inverse.{estimator-length, estimator-saved, enforcer-saved, exploration-saved, number-saved}
 
 -- a refusal leaves the lent memory
 kept-table : (encoding table : List ℕ) {h : Header} {n : ℕ} {after : List ℕ} → Decoding encoding table h (decoding.refuse n) after → after ≡ table
@@ -52,6 +57,10 @@ kept-output t h s symbol output (Offering.malformed bad) = refl
 kept-output t h s symbol output (Offering.output-too-small so li few) = refl
 kept-output t h s symbol output (Offering.not-observable so li wide never) = refl
 kept-output t h s symbol output (Offering.incompatible so li wide ob none) = refl
+
+kept-form : (encoding output : List ℕ) {n : ℕ} {after : List ℕ} → Writing encoding output (canonical.refuse n) after → after ≡ output
+kept-form encoding output (Writing.refused r e) = refl
+kept-form encoding output (Writing.tooSmall e next is few) = refl
 
 module _ (encoding table header after : List ℕ) (h : Header) (answer : decoded.Answer) (size : length header ≡ headerSize)
     (did : Decoding encoding table h (answerMeans answer) after) where
@@ -67,10 +76,10 @@ module _ (encoding table header after : List ℕ) (h : Header) (answer : decoded
       (Decode.accepted size (subst (λ (x : decoded.Answer). Decoding encoding table h (answerMeans x) after) is did))
 
 -- the judgement that was written: of all four places, of which those that are not given hold none
-abbrev writtenBytes : Judgement → List ℕ
-writtenBytes j = judgementBytes (allFindings j)
+abbrev judgedBytes : Judgement → List ℕ
+judgedBytes j = judgementBytes (allFindings j)
 
-given-bytes : (f : Further) (j : Judgement) → OthersNoLeak f (j .verdicts) → writtenBytes j ≡ judgementBytes (findings f j)
+given-bytes : (f : Further) (j : Judgement) → OthersNoLeak f (j .verdicts) → judgedBytes j ≡ judgementBytes (findings f j)
 given-bytes f j others =
     let e = told-others f (j .verdicts) others in
     sym (λ i. toldBytes (e 0 i) ++ (toldBytes (e 1 i) ++ (toldBytes (e 2 i) ++ (toldBytes (e 3 i) ++ j .size ∷ []))))
@@ -96,7 +105,7 @@ module _ (t header estimator judgement : List ℕ) (h : Header) (after : Estimat
     fresh-refused r n is number = rw number (Fresh.refused all (said-opening (verdict.the-variants.Refused r) is .0))
 
     pub fresh-accepted : (j : Judgement) (left told : List ℕ) → answer ≡ verdict.the-variants.Accepted j
-        → EstimatorSized after × Stored estimator 0 (estimatorBytes after) left → told ≡ writtenBytes j → Fresh t header further estimator judgement 0 left told
+        → EstimatorSized after × Stored estimator 0 (estimatorBytes after) left → told ≡ judgedBytes j → Fresh t header further estimator judgement 0 left told
     fresh-accepted j left told is wrote says =
         let x = said-opening (verdict.the-variants.Accepted j) is in
         subst (λ (y : List ℕ). Fresh t header further estimator judgement 0 y told) (sym (filled left wrote))
@@ -120,7 +129,7 @@ module _ (t header estimator judgement : List ℕ) (h : Header) (after : Estimat
     accept-refused r n is number = rw number (Accept.refused sizes (said-accepting (verdict.the-variants.Refused r) is .0))
 
     pub accept-accepted : (j : Judgement) (left told : List ℕ) → answer ≡ verdict.the-variants.Accepted j
-        → EstimatorSized after × Stored estimator 0 (estimatorBytes after) left → told ≡ writtenBytes j → Accept t header symbol estimator judgement 0 left told
+        → EstimatorSized after × Stored estimator 0 (estimatorBytes after) left → told ≡ judgedBytes j → Accept t header symbol estimator judgement 0 left told
     accept-accepted j left told is wrote says =
         let x = said-accepting (verdict.the-variants.Accepted j) is in
         subst (λ (y : List ℕ). Accept t header symbol estimator judgement 0 y told) (sym (filled left wrote))
@@ -209,7 +218,7 @@ module _ (t header : List ℕ) (notion : ℕ) (further events lent : List ℕ) (
   pub leak-nowhere : (left : List ℕ) → answer ≡ leak.the-variants.Nowhere → left ≡ firstLeakBytes 0 → FirstLeakCall t header notion further events lent 0 left
   leak-nowhere left is wrote =
       subst (λ (y : List ℕ). FirstLeakCall t header notion further events lent 0 y) (sym wrote)
-      (FirstLeakCall.found sizes {p = 0} (said-finding leak.the-variants.Nowhere is) (place-saved 0 (omega arith)))
+      (FirstLeakCall.found sizes {p = 0} (said-finding leak.the-variants.Nowhere is) (number-saved 0 (omega arith)))
 
   -- a place is one from 1
   some-place : (p : ℕ) → Finding (notionAt notion) t (headerAt header) (furtherAt further 0) events (leaking.at p)
@@ -226,4 +235,28 @@ module _ (t header : List ℕ) (notion : ℕ) (further events lent : List ℕ) (
   leak-found p left short is wrote =
       let x = said-finding (leak.the-variants.At p) is in
       subst (λ (y : List ℕ). FirstLeakCall t header notion further events lent 0 y) (sym wrote)
-      (FirstLeakCall.found sizes {p = p} (some-place p x) (place-saved p (small-place p short x)))
+      (FirstLeakCall.found sizes {p = p} (some-place p x) (number-saved p (small-place p short x)))
+
+-- and of a canonical form: none is so long that its size would not fit its bytes
+pub size-saved : (encoding output after : List ℕ) (n : ℕ) → Writing encoding output (canonical.wrote n) after → NumberSaved n
+size-saved encoding output after n x =
+    let c = call-wrote encoding output after n x in
+    number-saved n (omega (arith, c .number-is, form-longest encoding (c .meaning) (c .means)))
+
+module _ (encoding output lent after : List ℕ) (answer : form.Answer) (size : length lent ≡ writtenSize)
+    (did : Writing encoding output (canonical.answerMeans answer) after) where
+  said-writing : (y : form.Answer) → answer ≡ y → Writing encoding output (canonical.answerMeans y) after
+  said-writing y is = subst (λ (z : form.Answer). Writing encoding output (canonical.answerMeans z) after) is did
+
+  pub canonical-refused : (r : Refusal) (n : ℕ) → answer ≡ form.the-variants.Refused r → n ≡ numberOf r → CanonicalCall encoding output lent n after lent
+  canonical-refused r n is number =
+      let x = said-writing (form.the-variants.Refused r) is in
+      let kept = kept-form encoding output x in
+      rw (number, kept) (CanonicalCall.refused size (rw kept at x))
+
+  pub canonical-written : (n : ℕ) (left : List ℕ) → answer ≡ form.the-variants.Written n → left ≡ writtenBytes n
+      → CanonicalCall encoding output lent 0 after left
+  canonical-written n left is wrote =
+      let x = said-writing (form.the-variants.Written n) is in
+      subst (λ (y : List ℕ). CanonicalCall encoding output lent 0 after y) (sym wrote)
+      (CanonicalCall.written size x (size-saved encoding output after n x))

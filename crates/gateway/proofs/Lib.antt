@@ -7,3 +7,4 @@ pub mod SavedPoints
 pub mod HeaderCalls
 pub mod SavedWaits
 pub mod SavedLeaks
+pub mod SavedForms

@@ -20,12 +20,14 @@ use Rattle.explore.specs.Configurations.{Number, MoreThan}
 use Rattle.explore.specs.Explorations as exploring
 use Rattle.explore.specs.Explorations.{Exploring}
 use Rattle.explore.specs.declared.Exploration.{Exploration}
+use Rattle.canonical.specs.Writing as canonical
+use Rattle.canonical.specs.Writing.{Writing}
 use Rattle.leaks.specs.FirstLeaks as leaking
 use Rattle.leaks.specs.FirstLeaks.{Finding}
 use Rattle.layout.specs.Sizes as sizes
 use Rattle.layout.specs.Layout.{headerAt, headerBytes, furtherAt, estimatorAt, estimatorBytes, EstimatorSaved}
 use Rattle.layout.specs.Layout.{notionAt, enforcerAt, enforcerBytes, EnforcerSaved, judgementBytes, releaseBytes, explorationBytes, ExplorationSaved}
-use Rattle.layout.specs.Layout.{firstLeakBytes, PlaceSaved}
+use Rattle.layout.specs.Layout.{firstLeakBytes, writtenBytes, NumberSaved}
 
 -- decode: the answer, the table after and the header's bytes after
 pub data Decode (encoding table header : List ℕ) : ℕ → List ℕ → List ℕ → Type 0 where
@@ -133,8 +135,16 @@ pub data FirstLeakCall (t header : List ℕ) (notion : ℕ) (further events plac
       → Finding (notionAt notion) t (headerAt header) (furtherAt further 0) events (leaking.refused n)
       → FirstLeakCall t header notion further events place n place
   found : FirstLeakSizes header notion further place → {p : ℕ}
-      → Finding (notionAt notion) t (headerAt header) (furtherAt further 0) events (leakSaid p) → PlaceSaved p
+      → Finding (notionAt notion) t (headerAt header) (furtherAt further 0) events (leakSaid p) → NumberSaved p
       → FirstLeakCall t header notion further events place 0 (firstLeakBytes p)
+
+-- canonical: the answer, the output after and the written size's bytes after
+pub data CanonicalCall (encoding output lent : List ℕ) : ℕ → List ℕ → List ℕ → Type 0 where
+  size : (length lent ≡ sizes.writtenSize → ⊥) → CanonicalCall encoding output lent 9 output lent
+  refused : length lent ≡ sizes.writtenSize → {n : ℕ} → Writing encoding output (canonical.refuse n) output
+      → CanonicalCall encoding output lent n output lent
+  written : length lent ≡ sizes.writtenSize → {n : ℕ} {after : List ℕ} → Writing encoding output (canonical.wrote n) after → NumberSaved n
+      → CanonicalCall encoding output lent 0 after (writtenBytes n)
 
 -- what a fresh call answers on a header that was decoded, with slices of their lengths: 0 where the further secrets may be given, and else 13 or 14, each
 -- on its condition
@@ -156,3 +166,8 @@ pub data ByExplore (t : List ℕ) (h : Header) (f : Further) (budget : ℕ) : �
   spent : Allowed f → MoreThan (automatonOf t h) (lookBackOf h f) (exploring.limitOf budget) → ByExplore t h f budget 15
   too-many : 3 < f .count → ByExplore t h f budget 13
   too-large : f .count ≤ 3 → TooLarge f → ByExplore t h f budget 14
+
+-- and a call of canonical on an encoding that is decoded, whose form has so many bytes: 10 in place of 0 exactly where the output has fewer
+pub data ByOutput (form output : List ℕ) : ℕ → Type 0 where
+  written : length form ≤ length output → ByOutput form output 0
+  too-small : length output < length form → ByOutput form output 10

@@ -1,5 +1,6 @@
 // The interface for a gateway in C or Rust: include/opacity.h describes it. Headers and saved states are bytes of a fixed layout (`layout`); each function
 // answers 0, or the number of a refusal, and then leaves every slice that it was lent as it was.
+use canonical::Answer as Canonical;
 use decoding::Answer as Decoded;
 use enforcer::Enforcer;
 use enforcer::OfferAnswer;
@@ -9,7 +10,7 @@ use layout::sizes;
 use leaks::LeakAnswer;
 use verifier::Answer;
 use verifier::Estimator;
-ghost use Rattle.gateway.specs.Interface.{Decode, Fresh, Accept, Start, Offer, Explore, FirstLeakCall};
+ghost use Rattle.gateway.specs.Interface.{Decode, Fresh, Accept, Start, Offer, Explore, FirstLeakCall, CanonicalCall};
 
 // The refusal of a slice that has not the length of its layout, and of a notion that is none.
 const MALFORMED: u8 = 9;
@@ -263,11 +264,29 @@ pub extern "C" fn opacity_first_leak(
     match answer {
         LeakAnswer::Refused(refusal) => refusal::number(refusal),
         LeakAnswer::Nowhere => {
-            layout::write_first_leak(place, 0);
+            layout::write_number(place, 0);
             0
         }
         LeakAnswer::At(found) => {
-            layout::write_first_leak(place, found);
+            layout::write_number(place, found);
+            0
+        }
+    }
+}
+
+// Writes an encoding's automaton in its canonical form at the front of the output; and how many bytes these are.
+#[no_mangle]
+pub extern "C" fn opacity_canonical(encoding: &[u8], output: &mut [u8], size: &mut [u8]) -> u8
+    ensures { λ r. ⌜ CanonicalCall (now (encoding .entry)) (now (output .entry)) (now (size .entry)) r (now (output .exit)) (now (size .exit)) ⌝ }
+{
+    if size.len() != sizes::WRITTEN_SIZE {
+        return MALFORMED;
+    }
+    let answer = canonical::canonical(encoding, output);
+    match answer {
+        Canonical::Refused(refusal) => refusal::number(refusal),
+        Canonical::Written(written) => {
+            layout::write_number(size, written as u64);
             0
         }
     }

@@ -21,6 +21,8 @@ const EXPLORE: u64 = 0x6578706c6f7265;
 
 const FIRST_LEAK: u64 = 0x7273745f6c65616b;
 
+const CANONICAL: u64 = 0x616e6f6e6963616c;
+
 // What a function is lent: slots to read, those to write to, and whether it takes a number.
 pub struct Slots {
     pub input: usize,
@@ -81,6 +83,12 @@ pub fn slots_of(call: u64) -> Slots {
         slots.offered = store::EVENTS;
         slots.first = store::PLACE;
     }
+    if call == CANONICAL {
+        slots.input = store::ENCODING;
+        slots.first = store::OUTPUT;
+        slots.second = store::SIZE;
+        slots.number = false;
+    }
     slots
 }
 
@@ -133,6 +141,9 @@ fn apply2(
     if call == FRESH {
         return gateway::opacity_fresh(table, input, also, first, second);
     }
+    if call == CANONICAL {
+        return gateway::opacity_canonical(input, first, second);
+    }
     gateway::opacity_accept(table, input, byte_of(number), first, second)
 }
 
@@ -161,7 +172,7 @@ fn apply(
 fn lend(
     call: u64,
     number: u32,
-    sizes: &[usize; 13],
+    sizes: &[usize; 14],
     table: &mut [u64],
     input: &[u8],
     also: &[u8],
@@ -196,7 +207,7 @@ fn lend(
 }
 
 // A call: its answer, after which the memory is as the function left it.
-pub fn answer_of(call: u64, number: u32, memory: &mut [u64; 53248], sizes: &[usize; 13]) -> u8 {
+pub fn answer_of(call: u64, number: u32, memory: &mut [u64; 57344], sizes: &[usize; 14]) -> u8 {
     let slots = slots_of(call);
     let mut table = store::table_of(memory);
     let input = store::copy_of(memory, slots.input);

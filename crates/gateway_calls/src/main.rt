@@ -14,7 +14,7 @@ mod store;
 
 // Sets an element so many times: the place behind them, or one behind the slot if they do not fit, or it is no byte.
 fn set_element(
-    memory: &mut [u64; 53248],
+    memory: &mut [u64; 57344],
     slot: usize,
     place: usize,
     word: u64,
@@ -37,7 +37,7 @@ fn set_element(
 }
 
 // Sets elements from a place of the line on.
-fn fill(memory: &mut [u64; 53248], slot: usize, line: &[u8], from: usize) -> bool {
+fn fill(memory: &mut [u64; 57344], slot: usize, line: &[u8], from: usize) -> bool {
     let mut at = from;
     let mut place: usize = 0;
     while at < line.len() {
@@ -57,8 +57,8 @@ fn fill(memory: &mut [u64; 53248], slot: usize, line: &[u8], from: usize) -> boo
 
 // A slot's size and elements: those that are not named are 0.
 fn set(
-    memory: &mut [u64; 53248],
-    sizes: &mut [usize; 13],
+    memory: &mut [u64; 57344],
+    sizes: &mut [usize; 14],
     slot: usize,
     line: &[u8],
     at: usize,
@@ -87,7 +87,7 @@ fn show_answer(line: &[u8], answer: u8) {
     io::write_all(1, b"\n");
 }
 
-fn show_call(line: &[u8], call: u64, answer: u8, memory: &[u64; 53248], sizes: &[usize; 13]) {
+fn show_call(line: &[u8], call: u64, answer: u8, memory: &[u64; 57344], sizes: &[usize; 14]) {
     let slots = calls::slots_of(call);
     show_answer(line, answer);
     if call == calls::DECODE {
@@ -103,8 +103,8 @@ fn make_call(
     open: bool,
     call: u64,
     number: u32,
-    memory: &mut [u64; 53248],
-    sizes: &[usize; 13],
+    memory: &mut [u64; 57344],
+    sizes: &[usize; 14],
 ) {
     if open {
         show_answer(
@@ -122,8 +122,8 @@ fn called(
     line: &[u8],
     at: usize,
     open: bool,
-    memory: &mut [u64; 53248],
-    sizes: &[usize; 13],
+    memory: &mut [u64; 57344],
+    sizes: &[usize; 14],
 ) -> bool {
     let word = parse::word_at(line, at);
     let call = word.value;
@@ -149,7 +149,7 @@ fn called(
 }
 
 // Whether the line is understood.
-fn obeyed(line: &[u8], memory: &mut [u64; 53248], sizes: &mut [usize; 13]) -> bool {
+fn obeyed(line: &[u8], memory: &mut [u64; 57344], sizes: &mut [usize; 14]) -> bool {
     let word = parse::word_at(line, 0);
     let slot = parse::slot_of(word.value);
     let end = word.next;
@@ -172,7 +172,7 @@ fn comment(line: &[u8]) -> bool {
     line[0] == b'#'
 }
 
-fn run(line: &[u8], memory: &mut [u64; 53248], sizes: &mut [usize; 13]) {
+fn run(line: &[u8], memory: &mut [u64; 57344], sizes: &mut [usize; 14]) {
     if comment(line) {
         io::write_all(1, line);
         io::write_all(1, b"\n");
@@ -183,7 +183,7 @@ fn run(line: &[u8], memory: &mut [u64; 53248], sizes: &mut [usize; 13]) {
     }
 }
 
-fn all(input: &[u8], memory: &mut [u64; 53248], sizes: &mut [usize; 13]) {
+fn all(input: &[u8], memory: &mut [u64; 57344], sizes: &mut [usize; 14]) {
     let mut at: usize = 0;
     while at < input.len() {
         let end = parse::line_end(input, at);
@@ -201,8 +201,8 @@ fn room() -> [u8; 1048576]
 
 fn main() {
     let mut input = room();
-    let mut memory = [0u64; 53248];
-    let mut sizes = [0usize; 13];
+    let mut memory = [0u64; 57344];
+    let mut sizes = [0usize; 14];
     let n = io::read_full(0, &mut input);
     all(&input[0..n], &mut memory, &mut sizes);
 }

@@ -25,7 +25,7 @@ fn some_states(size: u8) -> bool {
 }
 
 // The two verdicts of the secret with a number, by its own K.
-fn told(memory: &[u64; 53248], number: usize, given: bool, k: u8) -> bool
+fn told(memory: &[u64; 57344], number: usize, given: bool, k: u8) -> bool
     requires { ⌜ number ≤ 3 ⌝ }
 {
     let weak = store::byte_of(memory, store::JUDGEMENT, sizes::VERDICTS_SIZE * number);
@@ -38,7 +38,7 @@ fn told(memory: &[u64; 53248], number: usize, given: bool, k: u8) -> bool
 }
 
 // Whether a state holds the further secrets that it held.
-fn same_secrets(memory: &[u64; 53248], slot: usize, before: &[u64; 53248]) -> bool {
+fn same_secrets(memory: &[u64; 57344], slot: usize, before: &[u64; 57344]) -> bool {
     store::matches(
         memory,
         slot,
@@ -51,7 +51,7 @@ fn same_secrets(memory: &[u64; 53248], slot: usize, before: &[u64; 53248]) -> bo
 }
 
 // The K of the further secret at a place of those that the estimator keeps.
-fn k_at(memory: &[u64; 53248], place: usize) -> u8
+fn k_at(memory: &[u64; 57344], place: usize) -> u8
     requires { ⌜ place ≤ 28 ⌝ }
 {
     store::byte_of(
@@ -61,7 +61,7 @@ fn k_at(memory: &[u64; 53248], place: usize) -> u8
     )
 }
 
-fn judgement_allowed(memory: &[u64; 53248], before: &[u64; 53248]) -> bool {
+fn judgement_allowed(memory: &[u64; 57344], before: &[u64; 57344]) -> bool {
     let count = store::byte_of(memory, store::ESTIMATOR, sizes::FURTHER_PLACE);
     let k = store::byte_of(memory, store::HEADER, sizes::HEADER_K_PLACE);
     let own = told(memory, 0, true, k);
@@ -88,15 +88,15 @@ fn judgement_allowed(memory: &[u64; 53248], before: &[u64; 53248]) -> bool {
     own & first & second & third & some_states(size) & secrets
 }
 
-fn unchanged(memory: &[u64; 53248], slot: usize, before: &[u64; 53248]) -> bool {
+fn unchanged(memory: &[u64; 57344], slot: usize, before: &[u64; 57344]) -> bool {
     store::matches(memory, slot, 0, before, slot, 0, store::SLOT)
 }
 
 // Whether, of the symbols in a queue, so many stand at the front of the output, with what it had behind them, and the others are pending.
 fn released_from(
-    memory: &[u64; 53248],
-    queue: &[u64; 53248],
-    before: &[u64; 53248],
+    memory: &[u64; 57344],
+    queue: &[u64; 57344],
+    before: &[u64; 57344],
     n: usize,
     pending: usize,
 ) -> bool
@@ -113,7 +113,7 @@ fn released_from(
 
 // Whether the symbols that were pending and the new one behind them are released and pending; whether the number of states is from 1 to 64; and whether
 // the further secrets are as they were.
-fn release_allowed(memory: &[u64; 53248], symbol: u8, before: &[u64; 53248]) -> bool {
+fn release_allowed(memory: &[u64; 57344], symbol: u8, before: &[u64; 57344]) -> bool {
     let count = store::wide(store::byte_of(before, store::ENFORCER, sizes::PENDING_PLACE));
     let released = store::wide(store::byte_of(memory, store::RELEASE, sizes::RELEASED_PLACE));
     let pending = store::wide(store::byte_of(memory, store::ENFORCER, sizes::PENDING_PLACE));
@@ -147,8 +147,8 @@ fn allowed(
     call: u64,
     symbol: u8,
     answer: u8,
-    memory: &[u64; 53248],
-    before: &[u64; 53248],
+    memory: &[u64; 57344],
+    before: &[u64; 57344],
 ) -> bool {
     if answer == 7 {
         let slots = calls::slots_of(call);
@@ -165,7 +165,7 @@ fn allowed(
     judgement_allowed(memory, before)
 }
 
-pub fn open_answer_of(call: u64, symbol: u8, memory: &mut [u64; 53248], sizes: &[usize; 13]) -> u8 {
+pub fn open_answer_of(call: u64, symbol: u8, memory: &mut [u64; 57344], sizes: &[usize; 14]) -> u8 {
     let before = *memory;
     let answer = calls::answer_of(call, store::wide(symbol) as u32, memory, sizes);
     let fine = allowed(call, symbol, answer, memory, &before);

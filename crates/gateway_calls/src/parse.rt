@@ -143,6 +143,7 @@ pub fn slot_of(name: u64) -> usize {
         0x66757274686572 => store::FURTHER,
         0x6576656e7473 => store::EVENTS,
         0x706c616365 => store::PLACE,
+        0x73697a65 => store::SIZE,
         0x6c6f726174696f6e => store::EXPLORATION,
         _ => store::NONE,
     }

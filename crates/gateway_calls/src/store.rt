@@ -28,10 +28,12 @@ pub const EVENTS: usize = 9;
 
 pub const PLACE: usize = 10;
 
-pub const EXPLORATION: usize = 11;
+pub const SIZE: usize = 11;
+
+pub const EXPLORATION: usize = 12;
 
 // What is lent where a function takes nothing; its size stays 0.
-pub const NONE: usize = 12;
+pub const NONE: usize = 13;
 
 pub fn wide(byte: u8) -> usize
     ensures { λ r. ⌜ (r ≡ byte) × (r ≤ 255) ⌝ }
@@ -40,32 +42,32 @@ pub fn wide(byte: u8) -> usize
 }
 
 fn place_of(slot: usize, i: usize) -> usize
-    ensures { λ r. ⌜ r < 53248 ⌝ }
+    ensures { λ r. ⌜ r < 57344 ⌝ }
 {
     if slot <= NONE {
         if i < SLOT {
             return slot * SLOT + i;
         }
     }
-    53247
+    57343
 }
 
-pub fn word_of(memory: &[u64; 53248], slot: usize, i: usize) -> u64 {
+pub fn word_of(memory: &[u64; 57344], slot: usize, i: usize) -> u64 {
     memory[place_of(slot, i)]
 }
 
-pub fn byte_of(memory: &[u64; 53248], slot: usize, i: usize) -> u8 {
+pub fn byte_of(memory: &[u64; 57344], slot: usize, i: usize) -> u8 {
     (word_of(memory, slot, i) % 256) as u8
 }
 
-pub fn set_word(memory: &mut [u64; 53248], slot: usize, i: usize, word: u64) {
+pub fn set_word(memory: &mut [u64; 57344], slot: usize, i: usize, word: u64) {
     memory[place_of(slot, i)] = word;
 }
 
-pub fn size_of(sizes: &[usize; 13], slot: usize) -> usize
+pub fn size_of(sizes: &[usize; 14], slot: usize) -> usize
     ensures { λ r. ⌜ r ≤ 4096 ⌝ }
 {
-    if slot < 13 {
+    if slot < 14 {
         let n = sizes[slot];
         if n <= SLOT {
             return n;
@@ -74,14 +76,14 @@ pub fn size_of(sizes: &[usize; 13], slot: usize) -> usize
     0
 }
 
-pub fn set_size(sizes: &mut [usize; 13], slot: usize, n: usize) {
+pub fn set_size(sizes: &mut [usize; 14], slot: usize, n: usize) {
     if slot < NONE {
         sizes[slot] = n;
     }
 }
 
 // Copies of the table and of another slot, to be lent to a call.
-pub fn table_of(memory: &[u64; 53248]) -> [u64; 4096]
+pub fn table_of(memory: &[u64; 57344]) -> [u64; 4096]
     ensures { λ r. ⌜ 4096 ≡ length r ⌝ }
 {
     let mut words = [0u64; 4096];
@@ -93,7 +95,7 @@ pub fn table_of(memory: &[u64; 53248]) -> [u64; 4096]
     words
 }
 
-pub fn copy_of(memory: &[u64; 53248], slot: usize) -> [u8; 4096]
+pub fn copy_of(memory: &[u64; 57344], slot: usize) -> [u8; 4096]
     ensures { λ r. ⌜ 4096 ≡ length r ⌝ }
 {
     let mut bytes = [0u8; 4096];
@@ -106,7 +108,7 @@ pub fn copy_of(memory: &[u64; 53248], slot: usize) -> [u8; 4096]
 }
 
 // What a call left in a copy.
-pub fn keep_table(memory: &mut [u64; 53248], words: &[u64; 4096]) {
+pub fn keep_table(memory: &mut [u64; 57344], words: &[u64; 4096]) {
     let mut i: usize = 0;
     while i < 4096 {
         memory[i] = words[i];
@@ -114,7 +116,7 @@ pub fn keep_table(memory: &mut [u64; 53248], words: &[u64; 4096]) {
     }
 }
 
-pub fn keep(memory: &mut [u64; 53248], slot: usize, bytes: &[u8; 4096]) {
+pub fn keep(memory: &mut [u64; 57344], slot: usize, bytes: &[u8; 4096]) {
     let mut i: usize = 0;
     while i < 4096 {
         set_word(memory, slot, i, wide(bytes[i]) as u64);
@@ -124,10 +126,10 @@ pub fn keep(memory: &mut [u64; 53248], slot: usize, bytes: &[u8; 4096]) {
 
 // Whether n words of a slot are as those of a slot of another memory, each from a place on.
 pub fn matches(
-    memory: &[u64; 53248],
+    memory: &[u64; 57344],
     slot: usize,
     from: usize,
-    other: &[u64; 53248],
+    other: &[u64; 57344],
     there: usize,
     at: usize,
     n: usize,
@@ -144,7 +146,7 @@ pub fn matches(
     true
 }
 
-pub fn repeat(memory: &mut [u64; 53248], slot: usize, from: usize, word: u64, times: usize)
+pub fn repeat(memory: &mut [u64; 57344], slot: usize, from: usize, word: u64, times: usize)
     requires { ⌜ from + times ≤ 4096 ⌝ }
 {
     let mut i: usize = 0;

@@ -10,7 +10,7 @@ use Rattle.refusal.specs.declared.Refusal.the-variants as refusal
 use Rattle.bitfields.specs.Bits.{bitsOf}
 use Rattle.bitfields.specs.Parser as parser
 use Rattle.bitfields.specs.Parser.{Parsed}
-use Rattle.bitfields.proofs.Parsing.{Never}
+use Rattle.bitfields.proofs.Parsing.{Never, never-both}
 use Rattle.decoding.proofs.Refusing.{encoding-never}
 use Rattle.encoding.specs.Encoding.{Encoding, encoding}
 use Rattle.decoding.specs.Decoding.{Outcome, accept, refuse, Decoding}
@@ -83,20 +83,13 @@ one-release {r} e = ap pick e
     pick (offering.refused n) = r
     pick (offering.released s) = s
 
--- what a parser answers: one refusal, and never a value too
-one-refusal : {A : Type 0} {r s : Refusal} → _≡_ {A = Parsed A} (parser.refused r) (parser.refused s) → r ≡ s
+-- a parser answers by one refusal
+pub one-refusal : {A : Type 0} {r s : Refusal} → _≡_ {A = Parsed A} (parser.refused r) (parser.refused s) → r ≡ s
 one-refusal {A} {r} e = ap pick e
   where
     pick : Parsed A → Refusal
     pick (parser.refused x) = x
     pick (parser.done a next) = r
-
-never-both : {A : Type 0} {r : Refusal} {a : A} {n : ℕ} → _≡_ {A = Parsed A} (parser.refused r) (parser.done a n) → ⊥
-never-both {A} e = subst Refuses e tt
-  where
-    Refuses : Parsed A → Type 0
-    Refuses (parser.refused x) = Unit {0}
-    Refuses (parser.done y next) = ⊥
 
 not-decode : {n : ℕ} → accept ≡ refuse n → ⊥
 not-decode e = subst Accepts e tt
@@ -113,7 +106,7 @@ one-number e = ap number e
     number (refuse n) = n
 
 -- the layout refuses by 1, 3, 4, 5 and 12 alone
-by-five : (bytes : List ℕ) (r : Refusal) → encoding (bitsOf bytes) 0 ≡ parser.refused r
+pub by-five : (bytes : List ℕ) (r : Refusal) → encoding (bitsOf bytes) 0 ≡ parser.refused r
     → (numberOf r ≡ 9) ⊎ ((numberOf r ≡ 1) ⊎ ((numberOf r ≡ 3) ⊎ ((numberOf r ≡ 4) ⊎ ((numberOf r ≡ 5) ⊎ (numberOf r ≡ 12)))))
 by-five bytes refusal.Truncated e = inr (inl refl)
 by-five bytes refusal.StateOutOfRange e = inr (inr (inl refl))
@@ -133,7 +126,7 @@ by-five bytes refusal.LookBackTooLarge e =
 by-five bytes refusal.BudgetSpent e =
     absurd (subst (λ (p : Parsed Encoding). Never 15 p) e (encoding-never 15 refl (bitsOf bytes) (λ x. omega arith) 0) refl)
 
-not-nine : (bytes : List ℕ) (r : Refusal) → encoding (bitsOf bytes) 0 ≡ parser.refused r → numberOf r ≡ 9 → ⊥
+pub not-nine : (bytes : List ℕ) (r : Refusal) → encoding (bitsOf bytes) 0 ≡ parser.refused r → numberOf r ≡ 9 → ⊥
 not-nine bytes r e = subst (λ (p : Parsed Encoding). Never 9 p) e (encoding-never 9 refl (bitsOf bytes) (λ x. omega arith) 0)
 
 pub decode-answers : EveryDecode

@@ -1,7 +1,7 @@
 -- The first point of the functions on bytes, row by row of their contracts. Assumes nothing.
 use mathlib.Core.Path.{refl}
-use Rattle.gateway.specs.Interface.{Decode, Fresh, Accept, Start, Offer, Explore, FirstLeakCall}
-use Rattle.guarantees.specs.SavedBytes.{DecodeSaved, FreshSaved, AcceptSaved, StartSaved, OfferSaved, ExploreSaved, FirstLeakSaved}
+use Rattle.gateway.specs.Interface.{Decode, Fresh, Accept, Start, Offer, Explore, FirstLeakCall, CanonicalCall}
+use Rattle.guarantees.specs.SavedBytes.{DecodeSaved, FreshSaved, AcceptSaved, StartSaved, OfferSaved, ExploreSaved, FirstLeakSaved, CanonicalSaved}
 
 pub decode-saved : DecodeSaved
 decode-saved encoding table header answer t after (Decode.size bad) = (λ x. refl, λ x. (refl, refl), λ size. absurd (bad size))
@@ -45,3 +45,9 @@ first-leak-saved t header notion further events place answer out (FirstLeakCall.
 first-leak-saved t header notion further events place answer out (FirstLeakCall.refused sizes y) = (λ bad. absurd (bad sizes), λ z. refl, λ w z. y)
 first-leak-saved t header notion further events place answer out (FirstLeakCall.found sizes x saved) =
     (λ bad. absurd (bad sizes), λ z. absurd (z refl), λ w z. absurd (z refl))
+
+pub canonical-saved : CanonicalSaved
+canonical-saved encoding output size answer after out (CanonicalCall.size bad) = (λ x. refl, λ x. (refl, refl), λ sized. absurd (bad sized))
+canonical-saved encoding output size answer after out (CanonicalCall.refused sized y) = (λ bad. absurd (bad sized), λ z. (refl, refl), λ w z. y)
+canonical-saved encoding output size answer after out (CanonicalCall.written sized x saved) =
+    (λ bad. absurd (bad sized), λ z. absurd (z refl), λ w z. absurd (z refl))

@@ -6,6 +6,7 @@ use Rattle.guarantees.specs.Published as published
 use Rattle.guarantees.specs.Symbols as symbols
 use Rattle.guarantees.specs.Exploration as exploration
 use Rattle.guarantees.specs.FirstLeaks as leaks
+use Rattle.guarantees.specs.OneEncoding as canonical
 use Rattle.guarantees.specs.WholeLog as log
 use Rattle.guarantees.specs.SavedBytes as saved
 use Rattle.verifier.proofs.Growing as growing
@@ -29,15 +30,20 @@ use Rattle.waiting.proofs.Waiting as waiting
 use Rattle.leaks.proofs.Streaming as streaming
 use Rattle.leaks.proofs.Parts as parts
 use Rattle.leaks.proofs.Agreed as agreed-leaks
+use Rattle.canonical.proofs.OneForm as one-form
+use Rattle.canonical.proofs.Compared as compared
+use Rattle.canonical.proofs.Calls as writings
 use Rattle.monitor.proofs.LogOutput as log-output
 use Rattle.monitor.proofs.OneOutput as one-log-output
 use Rattle.monitor.proofs.Idle as idle
 use Rattle.gateway.proofs.SavedPoints as saved-points
 use Rattle.gateway.proofs.SavedWaits as saved-explorations
 use Rattle.gateway.proofs.SavedLeaks as saved-leaks
+use Rattle.gateway.proofs.SavedForms as saved-forms
 use Rattle.guarantees.proofs.Answers.{decode-answers, fresh-answers, accept-answers, accept-by-answers, start-answers, offer-answers, advance-answers}
 use Rattle.guarantees.proofs.Explorations as explorations
 use Rattle.guarantees.proofs.FirstLeaks as first-leaks
+use Rattle.guarantees.proofs.OneEncoding as one-encoding
 use Rattle.guarantees.proofs.Frames as frames
 
 -- the first point
@@ -70,6 +76,9 @@ every-begin = first-leaks.begin-answers
 
 pub every-search : first.EverySearch
 every-search = first-leaks.search-answers
+
+pub every-canonical : first.EveryCanonical
+every-canonical = one-encoding.canonical-answers
 
 -- the second point
 pub second-point : second.SecondPoint
@@ -188,6 +197,43 @@ refused-search = streaming.refused-search
 pub leak-past-count : leaks.LeakPastCount
 leak-past-count = agreed-leaks.past-finding
 
+-- one encoding for one automaton
+pub one-writing : canonical.OneWriting
+one-writing = one-encoding.one-writing
+
+pub written-decodes : canonical.WrittenDecodes
+written-decodes = writings.call-decodes
+
+pub written-in-form : canonical.WrittenInForm
+written-in-form = writings.call-in-form
+
+pub one-in-form : canonical.OneInForm
+one-in-form = one-encoding.one-in-form
+
+pub same-table : canonical.SameTable
+same-table = writings.call-table
+
+pub written-again : canonical.WrittenAgain
+written-again = writings.call-again
+
+pub again-too-small : canonical.AgainTooSmall
+again-too-small = writings.call-again-short
+
+pub equal-bytes : canonical.EqualBytes
+equal-bytes = one-encoding.equal-bytes
+
+pub equal-meanings : canonical.EqualMeanings
+equal-meanings = compared.same-exactly
+
+pub rising : canonical.Rising
+rising = one-form.form-rises
+
+pub every-space : canonical.EverySpace
+every-space = one-encoding.every-space
+
+pub longer-refused : canonical.LongerRefused
+longer-refused = one-encoding.longer-refused
+
 -- a whole log
 pub prints-exactly : log.PrintsExactly
 prints-exactly = log-output.prints-exactly
@@ -243,6 +289,24 @@ first-leak-in-bytes = saved-leaks.leak-back
 
 pub first-leak-past-count : saved.FirstLeakPastCount
 first-leak-past-count = saved-leaks.saved-leak-past-count
+
+pub canonical-saved : saved.CanonicalSaved
+canonical-saved = frames.canonical-saved
+
+pub canonical-in-bytes : saved.CanonicalInBytes
+canonical-in-bytes = saved-forms.canonical-back
+
+pub one-canonical : saved.OneCanonical
+one-canonical encoding output lent a b after after′ out out′ = saved-forms.one-canonical encoding output lent
+
+pub canonical-by-output : saved.CanonicalByOutput
+canonical-by-output = saved-forms.canonical-by-output
+
+pub canonical-as-decode : saved.CanonicalAsDecode
+canonical-as-decode = one-encoding.canonical-as-decode
+
+pub canonical-decodes : saved.CanonicalDecodes
+canonical-decodes = saved-forms.canonical-decodes
 
 pub fresh-by-secrets : saved.FreshBySecrets
 fresh-by-secrets = saved-points.saved-fresh

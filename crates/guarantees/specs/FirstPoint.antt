@@ -17,6 +17,9 @@ use Rattle.encoding.specs.Encoding.{Encoding, encoding}
 use Rattle.encoding.specs.Table.{Holds}
 use Rattle.encoding.specs.Answers.{headerOf}
 use Rattle.decoding.specs.Decoding.{Outcome, accept, refuse, noHeader, Decoding}
+use Rattle.canonical.specs.Meanings.{Meaning, Means, canonicalBytes}
+use Rattle.canonical.specs.Writing as writing
+use Rattle.canonical.specs.Writing.{FormWritten, Writing}
 use Rattle.automaton.specs.Run.{automatonOf, Impossible, Observable, WellFormed}
 use Rattle.automaton.specs.Reaching.{SizeWithin}
 use Rattle.automaton.specs.declared.Header.{Header}
@@ -229,3 +232,21 @@ pub record SearchAnswers (t : List ℕ) (h : Header) (self : Search) (bytes : Li
 abbrev pub EverySearch : Type 0
 EverySearch = (t : List ℕ) (h : Header) (self : Search) (bytes : List ℕ) (says : leaking.Said) (after : Search) → Advancing t h self bytes says after
     → SearchAnswers t h self bytes says after
+
+-- `canonical::canonical`, of an encoding and an output (02, S-9): what the layout refuses comes first; then 10 exactly where the output is shorter than
+-- the canonical form; else that form at the front of the output, the rest of it kept, and the number of its bytes. A refusal leaves the output
+pub record FormTooLong (bytes output : List ℕ) : Type 0 where
+  pub meaning : Meaning
+  pub means : Means bytes meaning
+  pub longer : length output < length (canonicalBytes meaning)
+
+pub record CanonicalAnswers (bytes output : List ℕ) (answer : writing.Outcome) (after : List ℕ) : Type 0 where
+  pub by-layout : (n : ℕ) → (n ≡ 10 → ⊥) → (answer ≡ writing.refuse n) ↔ LayoutRefuses bytes n
+  pub output-too-small : (answer ≡ writing.refuse 10) ↔ FormTooLong bytes output
+  pub written : (n : ℕ) → (answer ≡ writing.wrote n) ↔ FormWritten bytes output n after
+  pub no-other : (n : ℕ) → answer ≡ writing.refuse n → (n ≡ 10) ⊎ ((n ≡ 1) ⊎ ((n ≡ 3) ⊎ ((n ≡ 4) ⊎ ((n ≡ 5) ⊎ (n ≡ 12)))))
+  pub unchanged : (n : ℕ) → answer ≡ writing.refuse n → after ≡ output
+
+abbrev pub EveryCanonical : Type 0
+EveryCanonical = (bytes output : List ℕ) (answer : writing.Outcome) (after : List ℕ) → Writing bytes output answer after
+    → CanonicalAnswers bytes output answer after

@@ -1,8 +1,9 @@
--- A gateway that keeps a table, a header and a state as bytes: the three points of the C functions, the exploration, and the first leak.
+-- A gateway that keeps a table, a header and a state as bytes: the three points of the C functions, the exploration, the first leak and the canonical
+-- form.
 use mathlib.Core.Path.{_≡_}
 use mathlib.Core.List.{List}
 use Prim.Native.Nat.{ℕ, _≤_}
-use lib.ListN.{length, getD}
+use lib.ListN.{length, getD, take}
 use Rattle.automaton.specs.Run.{automatonOf}
 use Rattle.automaton.specs.declared.Header.{Header}
 use Rattle.decoding.specs.Decoding.{Decoding, accept, refuse}
@@ -23,14 +24,18 @@ use Rattle.explore.specs.Explorations.{ExploredAll, Exploring}
 use Rattle.waiting.specs.LongestWaits.{waitBy}
 use Rattle.leaks.specs.FirstLeaks as leaking
 use Rattle.leaks.specs.FirstLeaks.{Finding}
+use Rattle.canonical.specs.Meanings.{Meaning, Means, canonicalBytes}
+use Rattle.canonical.specs.Writing as writing
+use Rattle.canonical.specs.Writing.{Writing}
 use Rattle.layout.specs.Sizes.{headerSize, furtherSize, estimatorSize, strongByte, notionPlace, enforcerSize, judgementSize, explorationSize, firstLeakSize}
-use Rattle.layout.specs.Layout.{headerAt, furtherAt, estimatorAt, notionAt, enforcerAt, judgementAt, explorationAt, firstLeakAt}
+use Rattle.layout.specs.Sizes.{writtenSize}
+use Rattle.layout.specs.Layout.{headerAt, furtherAt, estimatorAt, notionAt, enforcerAt, judgementAt, explorationAt, firstLeakAt, writtenAt}
 use Rattle.gateway.specs.Interface.{Decode, FreshSizes, Fresh, VerifierSizes, Accept, StartSizes, Start, OfferSizes, Offer, ExploreSizes, Explore}
-use Rattle.gateway.specs.Interface.{FirstLeakSizes, FirstLeakCall, leakSaid}
+use Rattle.gateway.specs.Interface.{FirstLeakSizes, FirstLeakCall, leakSaid, CanonicalCall, ByOutput}
 use Rattle.gateway.specs.Interface.{ByFurther, ByStart, ByExplore}
 use Rattle.gateway.specs.SavedCalls.{AcceptCall, AcceptCalls, callsOf, OfferCall, OfferCalls, offersOf, SavedLongestWait}
 
--- the first point, of each of the seven functions: 9 where a slice has not its length or the notion is none; else the refusal of the entry below (FirstPoint);
+-- the first point, of each of the eight functions: 9 where a slice has not its length or the notion is none; else the refusal of the entry below (FirstPoint);
 -- whatever is not 0 leaves every lent slice as it was
 abbrev pub DecodeSaved : Type 0
 DecodeSaved = (encoding table header : List ℕ) (answer : ℕ) (t after : List ℕ) → Decode encoding table header answer t after
@@ -76,6 +81,11 @@ FirstLeakSaved = (t header : List ℕ) (notion : ℕ) (further events place : Li
     → ((FirstLeakSizes header notion further place → ⊥) → answer ≡ 9) × ((answer ≡ 0 → ⊥) → out ≡ place)
     × (FirstLeakSizes header notion further place → (answer ≡ 0 → ⊥)
     → Finding (notionAt notion) t (headerAt header) (furtherAt further 0) events (leaking.refused answer))
+
+abbrev pub CanonicalSaved : Type 0
+CanonicalSaved = (encoding output size : List ℕ) (answer : ℕ) (after out : List ℕ) → CanonicalCall encoding output size answer after out
+    → ((length size ≡ writtenSize → ⊥) → answer ≡ 9) × ((answer ≡ 0 → ⊥) → (after ≡ output) × (out ≡ size))
+    × (length size ≡ writtenSize → (answer ≡ 0 → ⊥) → Writing encoding output (writing.refuse answer) output)
 
 -- after a decode that answered 0, with slices of their lengths: a fresh call and a first leak are refused by 13 and 14 only, a start by these and by 8, an
 -- exploration by these two and by 15, each on its condition
@@ -142,6 +152,32 @@ SavedWaits = (t header a b : List ℕ) (budget : ℕ) (lent out : List ℕ) (not
 abbrev pub FirstLeakInBytes : Type 0
 FirstLeakInBytes = (t header : List ℕ) (notion : ℕ) (further events lent out : List ℕ) → FirstLeakCall t header notion further events lent 0 out
     → Finding (notionAt notion) t (headerAt header) (furtherAt further 0) events (leakSaid (firstLeakAt out))
+
+-- the canonical form: where it answered 0, its bytes hold how many bytes were written; there is one answer; after a decode that answered 0 it is 0 or 10,
+-- each on its condition, and after one that did not it is that number; and what was written decodes to the same table and the same header's bytes
+abbrev pub CanonicalInBytes : Type 0
+CanonicalInBytes = (encoding output lent after out : List ℕ) → CanonicalCall encoding output lent 0 after out
+    → Writing encoding output (writing.wrote (writtenAt out)) after
+
+abbrev pub OneCanonical : Type 0
+OneCanonical = (encoding output lent : List ℕ) (a b : ℕ) (after after′ out out′ : List ℕ) → CanonicalCall encoding output lent a after out
+    → CanonicalCall encoding output lent b after′ out′ → (a ≡ b) × (after ≡ after′) × (out ≡ out′)
+
+abbrev pub CanonicalByOutput : Type 0
+CanonicalByOutput = (encoding table before t header output lent : List ℕ) (answer : ℕ) (after out : List ℕ) → Decode encoding table before 0 t header
+    → length lent ≡ writtenSize → CanonicalCall encoding output lent answer after out
+    → (m : Meaning) × Means encoding m × ByOutput (canonicalBytes m) output answer
+
+-- where decoding refuses it, it refuses by the same number
+abbrev pub CanonicalAsDecode : Type 0
+CanonicalAsDecode = (encoding table before t header output lent : List ℕ) (n answer : ℕ) (after out : List ℕ) → length table ≡ 2048
+    → length before ≡ headerSize → length lent ≡ writtenSize → Decode encoding table before n t header → (n ≡ 0 → ⊥)
+    → CanonicalCall encoding output lent answer after out → answer ≡ n
+
+abbrev pub CanonicalDecodes : Type 0
+CanonicalDecodes = (encoding table before t header output lent after out : List ℕ) (table′ before′ : List ℕ) (answer : ℕ) (t′ header′ : List ℕ)
+    → Decode encoding table before 0 t header → CanonicalCall encoding output lent 0 after out → length table′ ≡ 2048 → length before′ ≡ headerSize
+    → Decode (take (writtenAt out) after) table′ before′ answer t′ header′ → (answer ≡ 0) × (t′ ≡ t) × (header′ ≡ header)
 
 -- what an accepted symbol leaves is within its limits as it reads back, whatever the state grew from, and keeps the further secrets
 abbrev pub AcceptWithin : Type 0

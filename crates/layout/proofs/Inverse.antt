@@ -22,7 +22,7 @@ use Rattle.layout.specs.Sizes as sizes
 use Rattle.layout.specs.Layout.{littleEndianAt, littleEndianBytes, wordBytes, wordsAt, wordsBytes, bytesAt, headerAt, headerBytes, HeaderSized}
 use Rattle.layout.specs.Layout.{placeAt, placeBytes, furtherAt, furtherBytes, FurtherSized, estimatorAt, estimatorBytes, EstimatorSized, EstimatorSaved}
 use Rattle.layout.specs.Layout.{notionAt, notionByte, enforcerAt, enforcerBytes, EnforcerSized, EnforcerSaved, verdictAt, verdictByte}
-use Rattle.layout.specs.Layout.{explorationBytes, ExplorationSaved, firstLeakBytes, PlaceSaved}
+use Rattle.layout.specs.Layout.{explorationBytes, ExplorationSaved, NumberSaved}
 use Rattle.layout.proofs.Bytes.{number-more, number-none, bytes-length, words-bytes-length}
 
 -- a text stands in the bytes from a place on, between others
@@ -265,6 +265,6 @@ exploration-saved e small =
     let s = byte-back from-strong in
     record { size = exploration-length e; back = λ i. record { number = n i; weak = w i; strong = s i } }
 
--- the place of a first leak
-pub place-saved : (place : ℕ) → place < 2 ^ 64 → PlaceSaved place
-place-saved place small = record { size = bytes-length sizes.wordSize place; back = number-back sizes.wordSize place small (stands-all (firstLeakBytes place)) }
+-- a number of a word: the place of a first leak, a written size
+pub number-saved : (number : ℕ) → number < 2 ^ 64 → NumberSaved number
+number-saved number small = record { size = bytes-length sizes.wordSize number; back = number-back sizes.wordSize number small (stands-all (wordBytes number)) }

@@ -237,7 +237,14 @@ firstLeakBytes place = wordBytes place
 abbrev pub firstLeakAt : List ℕ → ℕ
 firstLeakAt bytes = wordAt bytes 0
 
--- the bytes that a call leaves for it: they have their length, and read back as it is
-pub record PlaceSaved (place : ℕ) : Type 0 where
-  pub size : length (firstLeakBytes place) ≡ sizes.firstLeakSize
-  pub back : firstLeakAt (firstLeakBytes place) ≡ place
+-- a written size: how many bytes were written
+abbrev pub writtenBytes : ℕ → List ℕ
+writtenBytes size = wordBytes size
+
+abbrev pub writtenAt : List ℕ → ℕ
+writtenAt bytes = wordAt bytes 0
+
+-- the bytes that a call leaves for either: they have their length, and read back as it is
+pub record NumberSaved (number : ℕ) : Type 0 where
+  pub size : length (wordBytes number) ≡ sizes.wordSize
+  pub back : wordAt (wordBytes number) 0 ≡ number

@@ -161,3 +161,7 @@ explorationSize = strongWaitPlace + 1
 -- a first leak: the number of an accepted event, a word
 abbrev pub firstLeakSize : ℕ
 firstLeakSize = wordSize
+
+-- a written size: how many bytes were written, a word
+abbrev pub writtenSize : ℕ
+writtenSize = wordSize

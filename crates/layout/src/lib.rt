@@ -1,6 +1,6 @@
-// The bytes of headers, further secrets, saved estimators, saved enforcers, judgements, releases, explorations and first leaks, as specs/Layout has them, each
-// read from its bytes and written to them. What is required is that the bytes have room: who calls tests their length. Every place and size is a constant of
-// `sizes`.
+// The bytes of headers, further secrets, saved estimators, saved enforcers, judgements, releases, explorations, first leaks and written sizes, as
+// specs/Layout has them, each read from its bytes and written to them. What is required is that the bytes have room: who calls tests their length.
+// Every place and size is a constant of `sizes`.
 use automaton::Header;
 use enforcer::Enforcer;
 use enforcer::Release;
@@ -19,10 +19,10 @@ ghost use lib.ListN.{length, getD};
 ghost use Rattle.opacity.specs.Verdicts.{stepsOf};
 ghost use Rattle.verifier.specs.Replies.{toldOf};
 ghost use Rattle.layout.specs.Sizes as sizes;
-ghost use Rattle.layout.specs.Layout.{Stored, littleEndianAt, littleEndianBytes, wordAt, wordsAt, wordsBytes, bytesAt};
+ghost use Rattle.layout.specs.Layout.{Stored, littleEndianAt, littleEndianBytes, wordAt, wordBytes, wordsAt, wordsBytes, bytesAt};
 ghost use Rattle.layout.specs.Layout.{headerAt, headerBytes, placeAt, placeBytes, furtherAt, furtherBytes, FurtherSized};
 ghost use Rattle.layout.specs.Layout.{estimatorAt, estimatorBytes, EstimatorSized, notionAt, notionByte, enforcerAt, enforcerBytes, EnforcerSized};
-ghost use Rattle.layout.specs.Layout.{verdictByte, toldBytes, allFindings, judgementBytes, releaseBytes, explorationBytes, firstLeakBytes};
+ghost use Rattle.layout.specs.Layout.{verdictByte, toldBytes, allFindings, judgementBytes, releaseBytes, explorationBytes};
 
 pub mod sizes;
 
@@ -318,7 +318,7 @@ pub fn write_enforcer(bytes: &mut [u8], enforcer: Enforcer)
     store_bytes(bytes, sizes::WAITS_PLACE, &waits);
 }
 
-// ---- judgements, releases, explorations and first leaks
+// ---- judgements, releases, explorations, first leaks and written sizes
 
 fn verdict_byte(verdict: Verdict) -> u8
     ensures { λ r. ⌜ r ≡ verdictByte (stepsOf verdict) ⌝ }
@@ -377,10 +377,10 @@ pub fn write_exploration(bytes: &mut [u8], exploration: Exploration)
     put(bytes, sizes::STRONG_WAIT_PLACE, exploration.strong);
 }
 
-// The place of the first leak, or 0 where there is none.
-pub fn write_first_leak(bytes: &mut [u8], place: u64)
-    requires { ⌜ length (now bytes) ≡ sizes.firstLeakSize ⌝ }
-    ensures { λ _. ⌜ now (bytes .exit) ≡ firstLeakBytes place ⌝ }
+// A number of all the bytes: the place of the first leak, or 0 where there is none, or how many bytes were written. Both have the size of a word.
+pub fn write_number(bytes: &mut [u8], number: u64)
+    requires { ⌜ length (now bytes) ≡ sizes.wordSize ⌝ }
+    ensures { λ _. ⌜ now (bytes .exit) ≡ wordBytes number ⌝ }
 {
-    store_number(bytes, 0, sizes::WORD_SIZE, place);
+    store_number(bytes, 0, sizes::WORD_SIZE, number);
 }

@@ -109,3 +109,6 @@ pub const EXPLORATION_SIZE: usize = STRONG_WAIT_PLACE + 1;
 
 // A first leak: the number of an accepted event, a word.
 pub const FIRST_LEAK_SIZE: usize = WORD_SIZE;
+
+// A written size: how many bytes were written, a word.
+pub const WRITTEN_SIZE: usize = WORD_SIZE;

@@ -1,8 +1,8 @@
--- Laws of reads: what one read finds and brings, and the first bytes of a log. Assumes nothing.
-use mathlib.Core.Path.{_≡_, sym, subst, _∙_}
+-- Laws of reads: what one read finds and brings, and how bytes are gathered. Assumes nothing.
+use mathlib.Core.Path.{_≡_, refl, sym, subst, _∙_}
 use mathlib.Core.Bool.{Bool, true, false}
 use mathlib.Core.List.{List}
-use Prim.Native.Nat.{ℕ, _+_, _-_, _≤_, _<_}
+use Prim.Native.Nat.{ℕ, _+_, _-_, _≤_}
 use native.Mathlib.Omega.{arith}
 use lib.Dec.{T}
 use lib.IntN.{ℤ, pos, negsuc}
@@ -16,8 +16,7 @@ use Rattle.stateset.proofs.Decides.{holds}
 use Rattle.monitor.specs.Opening.{frontSize}
 use Rattle.streams.specs.declared.Fetched.{Fetched}
 use Rattle.streams.specs.declared.Fetched.the-variants as fetched
-use Rattle.streams.specs.declared.Gathered.the-variants as gathered
-use Rattle.streams.specs.Reads.{FoundBy, Found, There, Brought, gatheredBy}
+use Rattle.streams.specs.Reads.{FoundBy, Found, There, Brought, gatheredBy, Further}
 
 -- what the system answered
 pub found-failed : (z : ℤ) (lent : ℕ) → ltZ z (pos 0) ≡ true → FoundBy z lent fetched.Failed
@@ -54,16 +53,8 @@ pub opens-by : (input : List ℕ) (n : ℕ) (b : Bool) → n ≤ length input �
     → frontSize (take n input) ≤ n
 opens-by input n b h e d = let z : n - 0 ≡ n = omega arith in let f = rw z at (holds b e d) in omega (arith, length-take-le n input h)
 
--- the first bytes after one more read
-pub gathered-more : (f : Fetched) (have n space left : ℕ) → gatheredBy f have ≡ gathered.Bytes n → Brought space left f
-    → (have < n) × (n ≤ have + space) × (n ≤ have + left)
-gathered-more (fetched.Bytes m) have n space left e b =
-    let is : have + m ≡ n = cc in
-    (omega (arith, b .0), omega (arith, b .1), omega (arith, b .2))
-gathered-more fetched.End have n space left e b = let z : _≡_ {A = ℕ} 0 1 = cc in absurd (omega arith)
-gathered-more fetched.Failed have n space left e b = let z : _≡_ {A = ℕ} 0 1 = cc in absurd (omega arith)
-
-pub gathered-all : (f : Fetched) (have n : ℕ) → gatheredBy f have ≡ gathered.All n → have ≡ n
-gathered-all (fetched.Bytes m) have n e = let z : _≡_ {A = ℕ} 0 1 = cc in absurd (omega arith)
-gathered-all fetched.End have n e = cc
-gathered-all fetched.Failed have n e = let z : _≡_ {A = ℕ} 0 1 = cc in absurd (omega arith)
+-- one read more, behind the bytes that are there
+pub further : (size have space left : ℕ) (f : Fetched) → have + space ≤ size → Brought space left f → Further size have left (gatheredBy f have)
+further size have space left (fetched.Bytes n) h b = (omega (arith, b .0), omega (arith, b .1), omega (arith, b .2))
+further size have space left fetched.End h b = refl
+further size have space left fetched.Failed h b = tt

@@ -1,5 +1,5 @@
--- What one read finds, and the first bytes of a log. No contract says which bytes a system call brings: the bytes of a read are those at the front of the
--- lent input after it, as many as it answered. That they are the input's is tested.
+-- What one read finds, the first bytes of a log, and as much of an input as there is space for. No contract says which bytes a system call brings: the
+-- bytes of a read are those at the front of the lent input after it, as many as it answered. That they are the input's is tested.
 use mathlib.Core.Path.{_≡_}
 use mathlib.Core.List.{List}
 use mathlib.Core.Logic.{_⊎_}
@@ -42,8 +42,21 @@ gatheredBy (fetched.Bytes n) have = gathered.Bytes (have + n)
 gatheredBy fetched.End have = gathered.All have
 gatheredBy fetched.Failed have = gathered.Failed
 
+-- one read more, of at most `left` bytes, behind those that are there: some follow, no more than there is space for; or none; or the read failed
+abbrev pub Further : (size have left : ℕ) → Gathered → Type 0
+Further size have left (gathered.Bytes n) = (have < n) × (n ≤ size) × (n ≤ have + left)
+Further size have left (gathered.All n) = n ≡ have
+Further size have left gathered.Failed = Unit {0}
+
 -- the first bytes of a log: enough to open it, as `has_encoding` tests them, or as many as there is space for; or all that the input had; or a read failed
 abbrev pub UpTo : (input : List ℕ) (size : ℕ) → Gathered → Type 0
 UpTo input size (gathered.Bytes n) = (n ≤ length input) × (n ≤ size) × ((frontSize (take n input) ≤ n) ⊎ (n ≡ length input))
 UpTo input size (gathered.All n) = (n ≤ length input) × (n ≤ size)
 UpTo input size gathered.Failed = Unit {0}
+
+-- as much of an input as there is space for: the space is full, and perhaps more follows; or the input ended before it was; or a read failed. Without any
+-- space it is full, with no read
+abbrev pub Filled : (input : List ℕ) → Gathered → Type 0
+Filled input (gathered.Bytes n) = n ≡ length input
+Filled input (gathered.All n) = n < length input
+Filled input gathered.Failed = 0 < length input

@@ -1,11 +1,11 @@
-// Reads from standard input: one read, and the first bytes of a log, up to its length and its encoding.
+// Reads from standard input: one read; the first bytes of a log, up to its length and its encoding; and an input for which there is space.
 use super::Fetched;
 use super::Gathered;
 ghost use Prim.Native.Nat.{_-_, _≤_};
 ghost use mathlib.Core.Path.{_≡_};
 ghost use mathlib.Core.Logic.{_⊎_};
 ghost use lib.ListN.{length};
-ghost use Rattle.streams.specs.Reads.{Found, There, Brought, gatheredBy, UpTo};
+ghost use Rattle.streams.specs.Reads.{Found, There, Brought, gatheredBy, Further, UpTo, Filled};
 
 pub fn least(a: usize, b: usize) -> usize
     ensures { λ r. ⌜ (r ≤ a) × (r ≤ b) × ((r ≡ a) ⊎ (r ≡ b)) ⌝ }
@@ -59,6 +59,14 @@ fn gathering(fetched: Fetched, have: usize, size: usize) -> Gathered
     }
 }
 
+// One read more, of at most `most` bytes, behind those that are there.
+fn gather_more(input: &mut [u8], have: usize, most: usize) -> Gathered
+    requires { ⌜ have ≤ length (now input) ⌝ }
+    ensures { λ r. ⌜ Further (length (now (input .exit))) have most r ⌝ }
+{
+    gathering(fetch(&mut input[have..], most), have, input.len())
+}
+
 // Reads until a log's length and its encoding are there, or the input ends.
 pub fn gather(input: &mut [u8], size: usize, piece: usize) -> Gathered
     ensures { λ r. ⌜ UpTo (now (input .exit)) size r ⌝ }
@@ -69,7 +77,28 @@ pub fn gather(input: &mut [u8], size: usize, piece: usize) -> Gathered
             return Gathered::Bytes(have);
         }
         let most = least(piece, size - have);
-        match gathering(fetch(&mut input[have..], most), have, input.len()) {
+        match gather_more(input, have, most) {
+            Gathered::Bytes(n) => {
+                have = n;
+            }
+            Gathered::All(n) => {
+                return Gathered::All(n);
+            }
+            Gathered::Failed => {
+                return Gathered::Failed;
+            }
+        }
+    }
+    Gathered::Bytes(have)
+}
+
+// Reads until the slice is full or the input ends.
+pub fn gather_all(input: &mut [u8]) -> Gathered
+    ensures { λ r. ⌜ Filled (now (input .exit)) r ⌝ }
+{
+    let mut have: usize = 0;
+    while have < input.len() {
+        match gather_more(input, have, usize::MAX) {
             Gathered::Bytes(n) => {
                 have = n;
             }

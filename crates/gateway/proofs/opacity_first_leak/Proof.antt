@@ -53,14 +53,14 @@ number-requires c κs = search needs
 enum-told : tie.Need-enum-told
 enum-told c = search needs
 
-write-first-leak-requires : tie.Need-write-first-leak-requires
-write-first-leak-requires c κs = search needs
+write-number-requires : tie.Need-write-number-requires
+write-number-requires c κs = search needs
 
 enum-known-answer-2 : tie.Need-enum-known-answer-2
 enum-known-answer-2 c = search needs
 
-write-first-leak-requires-2 : tie.Need-write-first-leak-requires-2
-write-first-leak-requires-2 c κs = search needs
+write-number-requires-2 : tie.Need-write-number-requires-2
+write-number-requires-2 c κs = search needs
 
 returns-5 : tie.Need-returns-5
 returns-5 c =
@@ -90,7 +90,7 @@ returns-6 c =
     leak-nowhere (now (a .table)) (now (a .header)) (a .notion) (now (a .further)) (now (a .events)) (now (a .place)) (head .read-header .result)
     (given .read-further .result) (by .notion-of .result) (called .first-leak .result) (sized tested) (head .read-header .ensures)
     (given .read-further .ensures) (by .notion-of .ensures) (called .first-leak .ensures)
-    _ (told .enum-told .given .1) (c .before .before .write-first-leak .ensures)
+    _ (told .enum-told .given .1) (c .before .before .write-number .ensures)
 
 same-length-2 : tie.Need-same-length-2
 same-length-2 c = search needs
@@ -107,7 +107,7 @@ returns-7 c =
     leak-found (now (a .table)) (now (a .header)) (a .notion) (now (a .further)) (now (a .events)) (now (a .place)) (head .read-header .result)
     (given .read-further .result) (by .notion-of .result) (called .first-leak .result) (sized tested) (head .read-header .ensures)
     (given .read-further .ensures) (by .notion-of .ensures) (called .first-leak .ensures)
-    (told .answer2 .given .0 .0) _ (omega (arith, start tested .good)) (told .answer2 .given .1) (c .before .before .write-first-leak2 .ensures)
+    (told .answer2 .given .0 .0) _ (omega (arith, start tested .good)) (told .answer2 .given .1) (c .before .before .write-number2 .ensures)
 
 pub opacity-first-leak-spec : {M : Type 1} → statement M
 opacity-first-leak-spec =
@@ -124,9 +124,9 @@ opacity-first-leak-spec =
     enum-known-answer
     number-requires
     enum-told
-    write-first-leak-requires
+    write-number-requires
     enum-known-answer-2
-    write-first-leak-requires-2
+    write-number-requires-2
     returns-5
     same-length
     returns-6

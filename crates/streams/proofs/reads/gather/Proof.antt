@@ -1,11 +1,12 @@
 -- `streams::reads::gather` meets its contract.
-use mathlib.Core.Path.{_≡_, sym, _∙_}
+use mathlib.Core.Path.{_≡_, subst}
 use mathlib.Core.Logic.{inl, inr}
 use Prim.Native.Nat.{_≤_, _-_}
 use lib.ListN.{length}
 use native.Mathlib.Omega.{arith}
 use borrow.Author.Needs.{needs}
-use Rattle.streams.proofs.Fetching.{is-there, opens-by, gathered-more, gathered-all}
+use Rattle.streams.specs.Reads.{Further}
+use Rattle.streams.proofs.Fetching.{opens-by}
 use Rattle.streams.proofs.reads.gather.Statement.{statement}
 use Rattle.streams.proofs.reads.gather.Tie as tie
 
@@ -42,40 +43,26 @@ sub-least c = search needs
 least-requires : tie.Need-least-requires Inv-loop μ-loop
 least-requires c κs = search needs
 
-sub-fetch : tie.Need-sub-fetch Inv-loop μ-loop
-sub-fetch c = search needs
-
-part-fetch-start : tie.Need-part-fetch-start Inv-loop μ-loop
-part-fetch-start c = search needs
-
-part-fetch-end : tie.Need-part-fetch-end Inv-loop μ-loop
-part-fetch-end c = search needs
-
-fetch-requires : tie.Need-fetch-requires Inv-loop μ-loop
-fetch-requires c κs = search needs
-
-gathering-requires : tie.Need-gathering-requires Inv-loop μ-loop
-gathering-requires c κs =
-    let fetched = c .before .before .fetch in
-    (omega arith, is-there (length (fetched .last .0)) (c .before .before .before .before .least .result) _ (fetched .result) (fetched .ensures) (omega arith))
+gather-more-requires : tie.Need-gather-more-requires Inv-loop μ-loop
+gather-more-requires c κs = search needs
 
 enum-known-n : tie.Need-enum-known-n Inv-loop μ-loop
 enum-known-n c = search needs
 
 loop-less : tie.Need-loop-less Inv-loop μ-loop
 loop-less c =
-    let f = c .before .before .before .before .before .before in
-    let more = gathered-more (f .fetch .result) (f .before .before .before .before .before .before .before .before .loop .have) (c .before .n .given .0 .0)
-    (length (f .fetch .last .0))
-    (f .before .before .least .result) (sym (c .before .before .before .gathering .ensures) ∙ c .before .n .given .1) (f .fetch .ensures) in
+    let f = c .before .before .before .before .before in
+    let l = f .before .before .before .before .before .before .before .before .loop in
+    let more = subst (Further (length (f .gather-more .last .0)) (l .have) (f .before .before .least .result)) (c .before .n .given .1)
+    (f .gather-more .ensures) in
     omega (arith, more .0, more .1)
 
 loop-again : tie.Need-loop-again Inv-loop μ-loop
 loop-again c =
-    let f = c .before .before .before .before .before .before in
-    let more = gathered-more (f .fetch .result) (f .before .before .before .before .before .before .before .before .loop .have) (c .before .n .given .0 .0)
-    (length (f .fetch .last .0))
-    (f .before .before .least .result) (sym (c .before .before .before .gathering .ensures) ∙ c .before .n .given .1) (f .fetch .ensures) in
+    let f = c .before .before .before .before .before in
+    let l = f .before .before .before .before .before .before .before .before .loop in
+    let more = subst (Further (length (f .gather-more .last .0)) (l .have) (f .before .before .least .result)) (c .before .n .given .1)
+    (f .gather-more .ensures) in
     (omega (arith, more .1), search needs, omega (arith, more .2, f .before .before .least .ensures .1))
 
 enum-known-n-2 : tie.Need-enum-known-n-2 Inv-loop μ-loop
@@ -86,9 +73,10 @@ same-length-2 c = search needs
 
 returns-2 : tie.Need-returns-2 Inv-loop μ-loop
 returns-2 c =
-    let f = c .before .before .before .before .before .before in
-    let same = gathered-all (f .fetch .result) (f .before .before .before .before .before .before .before .before .loop .have) (c .before .n2 .given .0 .0)
-    (sym (c .before .before .before .gathering .ensures) ∙ c .before .n2 .given .1) in
+    let f = c .before .before .before .before .before in
+    let l = f .before .before .before .before .before .before .before .before .loop in
+    let same = subst (Further (length (f .gather-more .last .0)) (l .have) (f .before .before .least .result)) (c .before .n2 .given .1)
+    (f .gather-more .ensures) in
     (omega (arith, same), omega (arith, same))
 
 enum-told : tie.Need-enum-told Inv-loop μ-loop
@@ -121,11 +109,7 @@ gather-spec =
     returns
     sub-least
     least-requires
-    sub-fetch
-    part-fetch-start
-    part-fetch-end
-    fetch-requires
-    gathering-requires
+    gather-more-requires
     enum-known-n
     loop-less
     loop-again

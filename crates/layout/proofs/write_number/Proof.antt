@@ -1,11 +1,11 @@
--- `layout::write_first_leak` meets its contract: a number of all the bytes.
+-- `layout::write_number` meets its contract: a number of all the bytes.
 use mathlib.Core.Path.{sym, _∙_}
 use Rattle.layout.specs.Sizes.{wordSize}
 use Rattle.layout.proofs.Bytes.{bytes-length}
 use Rattle.layout.proofs.Stores.{whole}
 use borrow.Author.Needs.{needs}
-use Rattle.layout.proofs.write_first_leak.Statement.{statement}
-use Rattle.layout.proofs.write_first_leak.Tie as tie
+use Rattle.layout.proofs.write_number.Statement.{statement}
+use Rattle.layout.proofs.write_number.Tie as tie
 
 store-number-requires : tie.Need-store-number-requires
 store-number-requires c κs = search needs
@@ -17,7 +17,7 @@ returns : tie.Need-returns
 returns c =
     let stored = c .before .before in
     let start = stored .before .before .before in
-    whole (stored .store-number .ensures) (bytes-length wordSize (start .args .place) ∙ sym (start .pre))
+    whole (stored .store-number .ensures) (bytes-length wordSize (start .args .number) ∙ sym (start .pre))
 
-pub write-first-leak-spec : {M : Type 1} → statement M
-write-first-leak-spec = tie.close (tie.spec store-number-requires same-length returns)
+pub write-number-spec : {M : Type 1} → statement M
+write-number-spec = tie.close (tie.spec store-number-requires same-length returns)

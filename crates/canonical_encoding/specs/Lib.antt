@@ -1,0 +1,3 @@
+-- What the contracts of `canonical_encoding` cite. A reviewer reads FormOutput, then Answering.
+pub mod FormOutput
+pub mod Answering

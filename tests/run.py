@@ -37,6 +37,8 @@ PRINTED = {
 # in how many pieces inputs come, one after another; in no pieces: from a file
 PIECES = 1, 1, 0, 0, 1, 1, 1, 1, 3, 3
 
+# one byte more than any encoding has
+TOO_LONG = b"\xff" * 2211
 # the symbols of this one need several reads and writes
 LONG = 600000
 WANDERING = Automaton(3, 2, 2, 0, {1}, {1, 2}, [(0, 0, 2), (0, 1, 1), (1, 2, 0), (2, 1, 3), (3, 1, 3), (3, 2, 0)])
@@ -206,25 +208,52 @@ def broken_feeds(notion):
     return (front[:5], b"", failed), (front, b"", failed), (front + b"\x00\x01", b"", failed), (front + b"\x00\x01\x02", b"2\n", b"")
 
 
-def failures(program, notion):
-    """A read that fails, the first one or one behind the encoding or an event, and writes that do: each has its words, and there is no last line. Says
-    what is wrong, or nothing."""
-    log = with_length(P_ENCODING, bytes((1, 2, 1, 1)))
+def failures(program, feeds, written):
+    """A read that fails, the first one or one behind some bytes, and writes that do: each has its words, and there is no last line. Says what is wrong,
+    or nothing."""
     folder = os.open("/", os.O_RDONLY)
     done = subprocess.run([program], stdin=folder, stdout=subprocess.PIPE, stderr=subprocess.PIPE, timeout=60, check=False)
     os.close(folder)
     if (done.stdout, done.stderr, done.returncode) != (b"", b"read failed\n", 0):
         return f"a folder as input: {done}"
-    for data, expected, said in broken_feeds(notion):
+    for data, expected, said in feeds:
         got = reset_feed(program, data)
         if got != (expected, said, 0):
-            return f"a feed that breaks off behind {data.hex(' ')}: {got}"
-    for name, data in (("a log", log), ("its first event", log[:-3]), ("a refused log", log[:5])):
+            return f"a feed that breaks off behind {data[:600].hex(' ')}: {got}"
+    for name, data in written:
         with open("/dev/full", "wb") as full:
             done = subprocess.run([program], input=data, stdout=full, stderr=subprocess.PIPE, timeout=60, check=False)
         if (done.stderr, done.returncode) != (b"write failed\n", 0):
             return f"{name} to a full device: {done}"
     return None
+
+
+def log_failures(program, notion):
+    """Those of a program that reads logs."""
+    log = with_length(P_ENCODING, bytes((1, 2, 1, 1)))
+    return failures(program, broken_feeds(notion), (("a log", log), ("its first event", log[:-3]), ("a refused log", log[:5])))
+
+
+def encoding_failures(program):
+    """Those of the one that writes canonical forms: behind 2,211 bytes no more is read, so that nothing fails there."""
+    failed, line = (b"", b"read failed\n"), canonical_output(TOO_LONG)
+    feeds = (b"", *failed), (P_ENCODING[:5], *failed), (P_ENCODING, *failed), (TOO_LONG[:-1], *failed), (TOO_LONG, line, b"")
+    return failures(program, feeds, (("a form", P_ENCODING), ("a refused encoding", b""), ("one that is too long", TOO_LONG)))
+
+
+def live_encoding(program):
+    """An encoding by itself comes to its end with the feed's, and one that is too long with its 2,211th byte, though the feed is still open. Says what is
+    wrong, or nothing."""
+    with subprocess.Popen([program], stdin=subprocess.PIPE, stdout=subprocess.PIPE, bufsize=0) as process:
+        for part in (P_ENCODING, TOO_LONG[len(P_ENCODING) : -1]):
+            process.stdin.write(part)
+            if line_of(process, 0.05):
+                process.kill()
+                return "live feed: an encoding is answered before its end"
+        process.stdin.write(TOO_LONG[-1:])
+        wrong = not ended(process, canonical_output(P_ENCODING + TOO_LONG[len(P_ENCODING) :]).decode("ascii"))
+        process.kill()
+    return "live feed: an encoding that is too long is not answered at once" if wrong else None
 
 
 def distances(program, log=True):
@@ -299,7 +328,7 @@ def encoding_cases(seed, count):
 
 def run_encodings(program, seed, count):
     """Runs the encodings of a seed: the exit status."""
-    found = distances(program, log=False)
+    found = live_encoding(program) or encoding_failures(program) or distances(program, log=False)
     if found:
         print(found)
         return 1
@@ -312,7 +341,7 @@ def run_encodings(program, seed, count):
         refused += expected.startswith("refused")
         same += expected.encode("latin-1") == data
     forms = f"{refused} of them refused and {same} that were canonical before"
-    print(f"seed {seed}: {count} random encodings and others, {forms}, 0 mismatches; repeats as expected")
+    print(f"seed {seed}: {count} random encodings and others, {forms}, 0 mismatches; a live feed, failures and repeats as expected")
     return 0
 
 
@@ -328,7 +357,7 @@ def main():
         return run_encodings(chosen.program, chosen.seed, chosen.count)
     notion = NOTIONS[chosen.kind]
     found = live_feed(chosen.program) if notion is None else live_search(chosen.program, notion)
-    found = found or failures(chosen.program, notion) or distances(chosen.program)
+    found = found or log_failures(chosen.program, notion) or distances(chosen.program)
     if found:
         print(found)
         return 1

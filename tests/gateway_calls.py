@@ -837,6 +837,17 @@ def explorations(calls):
     calls.explore(300)
 
 
+def other_lengths(calls):
+    """Lends P and further secrets that get 13, 14 or no refusal: in slices of other lengths, and then whole. Yields whether they are whole."""
+    for data in (with_backs(4, 16), with_backs(2, 0, 16), with_backs(0)):
+        calls.lend(P)
+        for size in (0, 1, 10, 27, 29):
+            calls.put(further=resized(data, size))
+            yield False
+        calls.put(further=data)
+        yield True
+
+
 def exploration_refusals(calls):
     """9, 13, 14 and 15, each before the next, and what is left past the count of further secrets."""
     calls.say("explore: K 16 and 255, initial state 64 and 255, symbols above 31 of observable events")
@@ -859,12 +870,10 @@ def exploration_refusals(calls):
         calls.put(further=data)
         explore(calls, 6, 7, 256)
     calls.say("explore: 9 before 13, 14 and 15")
-    for data in (with_backs(4, 16), with_backs(2, 0, 16), with_backs(0)):
-        calls.lend(P)
-        for size in (0, 1, 10, 27, 29):
-            calls.put(further=resized(data, size))
+    for whole in other_lengths(calls):
+        if not whole:
             explore(calls, 0)
-        calls.put(further=data)
+            continue
         for size in (0, 2, 3, 5, 8):
             calls.put(exploration=resized(EXPLORATION, size))
             calls.explore(0)
@@ -1007,12 +1016,10 @@ def search_refusals(calls):
     calls.put(further=changed(calls.slices["further"], 0, 2))
     search_again(calls, 0, 1)
     calls.say("first leak: 9 before 13 and 14")
-    for data in (with_backs(4, 16), with_backs(2, 0, 16), with_backs(0)):
-        calls.lend(P)
-        for size in (0, 1, 10, 27, 29):
-            calls.put(further=resized(data, size))
+    for whole in other_lengths(calls):
+        if not whole:
             search_again(calls, 0)
-        calls.put(further=data)
+            continue
         for notion in (2, 255):
             search_again(calls, notion)
         for size in (0, 1, 4, 7, 9, 16):

@@ -35,6 +35,8 @@ pub enum Refusal {
     Malformed,
     OutputTooSmall,
     EmptyLog,
+    NoWitness,
+    StepTooFar,
 }
 
 // The number of a refusal in 01's table.
@@ -53,6 +55,8 @@ pub fn number(refusal: Refusal) -> u8
         Refusal::Malformed => 9,
         Refusal::OutputTooSmall => 10,
         Refusal::EmptyLog => 11,
+        Refusal::NoWitness => 16,
+        Refusal::StepTooFar => 17,
     }
 }
 
@@ -189,7 +193,7 @@ fn copy(from: &[u64], to: &mut [u64])
 }
 
 // Where the relation leads from the states of a set.
-fn image(rows: &[u64], set: u64) -> u64
+pub fn image(rows: &[u64], set: u64) -> u64
     requires { ⌜ length (now rows) ≡ 64 ⌝ }
     ensures { λ r. ⌜ Is r (Image (Row (now (rows .entry))) set) ⌝ }
 {
@@ -204,7 +208,7 @@ fn image(rows: &[u64], set: u64) -> u64
 }
 
 // The states below `few` from which the relation leads into a set. (From the highest down: a shift by one is faster than one by q.)
-fn preimage(rows: &[u64], few: usize, set: u64) -> u64
+pub fn preimage(rows: &[u64], few: usize, set: u64) -> u64
     requires { ⌜ (length (now rows) ≡ 64) × (few ≤ 64) ⌝ }
     ensures { λ r. ⌜ Is r (λ q. (q < few) × Preimage (Row (now (rows .entry))) set q) ⌝ }
 {
@@ -262,7 +266,7 @@ pub fn silent_rows(table: &[u64], header: Header, rows: &mut [u64], before: u64,
 }
 
 // Where an event may lead from each state: 64 words as they stand in the table.
-fn event_rows(table: &[u64], event: u8) -> &[u64]
+pub fn event_rows(table: &[u64], event: u8) -> &[u64]
     requires { ⌜ (length (now table) ≡ 2048) × (event < 32) ⌝ }
     ensures { λ r. ⌜ now r ≡ take 64 (drop (64 * event) (now (table .entry))) ⌝ }
 {

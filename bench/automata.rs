@@ -240,6 +240,14 @@ pub fn chain() -> Automaton {
     Automaton::new(64, 3, 15, 1 << 63, 0b110, &transitions)
 }
 
+/// The same ring with one state that is not secret, behind the one that the observable transition leaves: what excuses the system goes around twice at
+/// first, and then once for each symbol.
+pub fn around() -> Automaton {
+    let mut transitions: Vec<_> = (0..64).map(|q| (q, 0, (q + 1) % 64)).collect();
+    transitions.push((62, 1, 0));
+    Automaton::new(64, 2, 15, !(1 << 63), 0b10, &transitions)
+}
+
 /// Every transition there is; all events but the last are unobservable. No encoding can list them: a caller may lend any table.
 pub fn dense() -> Automaton {
     let mut automaton = Automaton::new(64, 32, 15, 0xffff_ffff_0000_0000, 1 << 31, &[]);

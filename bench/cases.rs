@@ -34,6 +34,11 @@ pub fn cases() -> Vec<Case> {
     ]
 }
 
+/// What witnesses are measured on beside these: the one with the longest.
+pub fn around() -> Case {
+    Case::new("around", automata::around(), true)
+}
+
 /// Automata of which one number grows, with their names.
 pub fn growing() -> Vec<Case> {
     let mut list = Vec::new();

@@ -10,8 +10,10 @@ use crate::first_leak;
 use crate::library::{self, Library};
 use crate::native::Estimator;
 use crate::plain::{self, Enforcer, Judgement, Queue, Release, Verifier, NONE};
+use crate::random::Random;
 use crate::rows::BLOCKS;
 use crate::trajectories::Trajectories;
+use crate::witness::{self, Asked, Run};
 use std::fmt::Debug;
 use std::time::{Duration, Instant};
 
@@ -424,4 +426,84 @@ pub fn compare_forms(case: &Case, seed: u64, compared: &mut ComparedForms) {
         compared.shorter += (expected.len() < encoding.len()) as usize;
         compared.same += (expected == encoding) as usize;
     }
+}
+
+/// How many witnesses were compared.
+#[derive(Default)]
+pub struct ComparedWitnesses {
+    pub written: usize,
+    pub most: usize,
+    pub none: usize,
+    pub far: usize,
+    pub altered: usize,
+    pub still: usize,
+}
+
+/// Asks (a) for witnesses of every secret, one more than are given, by both notions, for each step up to 16, after some of the first symbols of a trace:
+/// there is one exactly where the plain search finds one. What (a) writes passes the plain checker and its own; and of altered runs both say the same.
+pub fn compare_witnesses(case: &Case, lengths: &[usize], seed: u64, compared: &mut ComparedWitnesses) {
+    let automaton = &case.automaton;
+    let entries = witness::entries(automaton, &case.trace);
+    let mut a = Library::with(automaton, &case.further);
+    let mut random = Random(seed);
+    let mut n = 0;
+    a.fresh();
+    for &length in lengths {
+        while n < length {
+            assert!(a.accept(case.trace[n]).is_ok(), "accept");
+            n += 1;
+        }
+        for number in 0..case.further.len() + 2 {
+            let secret = if number == 0 { Some(Secret { states: automaton.secret, k: automaton.k }) } else { case.further.get(number - 1).copied() };
+            for (notion, k) in witness::steps(16) {
+                let got = a.witness(notion, number as u8, k);
+                let back = k as usize;
+                let Some(secret) = secret.filter(|secret| k <= secret.k && back <= n) else {
+                    compared.far += 1;
+                    if got != Err(witness::TOO_FAR) || a.check_witness(notion, number as u8, k, 0, &[]) {
+                        differ(case, "too far, witness", n, got, (notion, number, k));
+                    }
+                    continue;
+                };
+                let asked = Asked { automaton, notion, secret: secret.states, entry: entries[n - back], last: &case.trace[n - back..n] };
+                let plain = asked.search();
+                match (&got, &plain) {
+                    (Err(witness::NO_WITNESS), None) => compared.none += 1,
+                    (Ok((start, pairs)), Some((first, others))) => {
+                        let valid = asked.check(*start, pairs) && asked.check(*first, others);
+                        if !valid || !a.check_witness(notion, number as u8, k, *start, pairs) || !a.check_witness(notion, number as u8, k, *first, others) {
+                            differ(case, "plain, checked witness", n, &got, &plain);
+                        }
+                        compared.written += 1;
+                        compared.most = compared.most.max(pairs.len() / 2);
+                    }
+                    _ => differ(case, "plain, witness", n, &got, &plain),
+                }
+                let (start, pairs) = altered(plain.or(got.ok()).unwrap_or_default(), &mut random);
+                let valid = asked.check(start, &pairs);
+                if a.check_witness(notion, number as u8, k, start, &pairs) != valid {
+                    differ(case, "plain, check of an altered witness", n, !valid, (valid, start, pairs));
+                }
+                compared.altered += 1;
+                compared.still += valid as usize;
+            }
+        }
+    }
+}
+
+/// A run with another start, another byte, one more or one less, or a pair twice.
+fn altered((start, mut pairs): Run, random: &mut Random) -> Run {
+    let at = if pairs.is_empty() { 0 } else { random.below(pairs.len()) };
+    match random.below(5) {
+        0 => return (random.below(66) as u8, pairs),
+        1 if !pairs.is_empty() => pairs[at] = random.below(66) as u8,
+        2 if !pairs.is_empty() => drop(pairs.pop()),
+        3 => pairs.extend([random.below(33) as u8, random.below(65) as u8]),
+        _ if !pairs.is_empty() => {
+            let pair = [pairs[at / 2 * 2], pairs[at / 2 * 2 + 1]];
+            pairs.splice(at / 2 * 2..at / 2 * 2, pair);
+        }
+        _ => pairs.push(random.below(33) as u8),
+    }
+    (start, pairs)
 }

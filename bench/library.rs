@@ -4,6 +4,7 @@ use crate::automata::{Automaton, Secret};
 use crate::canonical;
 use crate::exploration::Exploration;
 use crate::plain::{Judgement, Release};
+use crate::witness;
 
 type Decode = unsafe extern "C" fn(*const u8, usize, *mut u64, usize, *mut u8, usize) -> u8;
 type Fresh = unsafe extern "C" fn(*const u64, usize, *const u8, usize, *const u8, usize, *mut u8, usize, *mut u8, usize) -> u8;
@@ -12,6 +13,8 @@ type Start = unsafe extern "C" fn(*const u64, usize, *const u8, usize, u8, *cons
 type Offer = unsafe extern "C" fn(*const u64, usize, *const u8, usize, u8, *mut u8, usize, *mut u8, usize, *mut u8, usize) -> u8;
 type Explore = unsafe extern "C" fn(*const u64, usize, *const u8, usize, *const u8, usize, u32, *mut u8, usize) -> u8;
 type FirstLeak = unsafe extern "C" fn(*const u64, usize, *const u8, usize, u8, *const u8, usize, *const u8, usize, *mut u8, usize) -> u8;
+type Witness = unsafe extern "C" fn(*const u64, usize, *const u8, usize, u8, u8, u8, *const u8, usize, *mut u8, usize, *mut u8, usize) -> u8;
+type CheckWitness = unsafe extern "C" fn(*const u64, usize, *const u8, usize, u8, u8, u8, u8, *const u8, usize, *const u8, usize, *mut u8, usize) -> u8;
 type Canonical = unsafe extern "C" fn(*const u8, usize, *mut u8, usize, *mut u8, usize) -> u8;
 
 extern "C" {
@@ -38,9 +41,17 @@ extern "C" {
         place: *mut u8, _: usize,
     ) -> u8;
     fn opacity_canonical(encoding: *const u8, _: usize, output: *mut u8, _: usize, size: *mut u8, _: usize) -> u8;
+    fn opacity_witness(
+        table: *const u64, _: usize, header: *const u8, _: usize, notion: u8, secret: u8, k: u8, estimator: *const u8, _: usize, output: *mut u8,
+        _: usize, run: *mut u8, _: usize,
+    ) -> u8;
+    fn opacity_check_witness(
+        table: *const u64, _: usize, header: *const u8, _: usize, notion: u8, secret: u8, k: u8, start: u8, estimator: *const u8, _: usize,
+        pairs: *const u8, _: usize, valid: *mut u8, _: usize,
+    ) -> u8;
 }
 
-/// The eight functions, or stand-ins: the measuring of the stack compares the two.
+/// The ten functions, or stand-ins: the measuring of the stack compares the two.
 #[derive(Clone, Copy)]
 pub struct Functions {
     decode: Decode,
@@ -51,11 +62,13 @@ pub struct Functions {
     explore: Explore,
     first_leak: FirstLeak,
     canonical: Canonical,
+    witness: Witness,
+    check_witness: CheckWitness,
 }
 
 pub const PROVED: Functions = Functions {
     decode: opacity_decode, fresh: opacity_fresh, accept: opacity_accept, start: opacity_start, offer: opacity_offer, explore: opacity_explore,
-    first_leak: opacity_first_leak, canonical: opacity_canonical,
+    first_leak: opacity_first_leak, canonical: opacity_canonical, witness: opacity_witness, check_witness: opacity_check_witness,
 };
 
 unsafe extern "C" fn no_decode(_: *const u8, _: usize, _: *mut u64, _: usize, _: *mut u8, _: usize) -> u8 {
@@ -90,10 +103,22 @@ unsafe extern "C" fn no_canonical(_: *const u8, _: usize, _: *mut u8, _: usize, 
     0
 }
 
+unsafe extern "C" fn no_witness(
+    _: *const u64, _: usize, _: *const u8, _: usize, _: u8, _: u8, _: u8, _: *const u8, _: usize, _: *mut u8, _: usize, _: *mut u8, _: usize,
+) -> u8 {
+    0
+}
+
+unsafe extern "C" fn no_check_witness(
+    _: *const u64, _: usize, _: *const u8, _: usize, _: u8, _: u8, _: u8, _: u8, _: *const u8, _: usize, _: *const u8, _: usize, _: *mut u8, _: usize,
+) -> u8 {
+    0
+}
+
 /// Functions that do nothing.
 pub const NOTHING: Functions = Functions {
     decode: no_decode, fresh: no_fresh, accept: no_accept, start: no_start, offer: no_offer, explore: no_explore, first_leak: no_first_leak,
-    canonical: no_canonical,
+    canonical: no_canonical, witness: no_witness, check_witness: no_check_witness,
 };
 
 pub const WEAK: u8 = 0;
@@ -113,6 +138,9 @@ pub struct Library {
     place: [u8; 8],
     form: [u8; canonical::MOST],
     size: [u8; 8],
+    pairs: [u8; witness::OUTPUT],
+    run: [u8; 3],
+    valid: [u8; 1],
 }
 
 impl Library {
@@ -126,6 +154,7 @@ impl Library {
         let mut made = Library {
             table: vec![0; 2048], header: [0; 46], further: [0; 28], estimator: [0; 172], judgement: [0; 9], enforcer: [0; 206], output: [0; 17],
             release: [0; 2], exploration: [0; 4], place: [0; 8], form: [0; canonical::MOST], size: [0; 8],
+            pairs: [0; witness::OUTPUT], run: [0; 3], valid: [0],
         };
         made.further[0] = further.len() as u8;
         for (place, secret) in made.further[1..].chunks_exact_mut(9).zip(further) {
@@ -231,6 +260,28 @@ impl Library {
         unsafe { (functions.canonical)(encoding.as_ptr(), encoding.len(), form.as_mut_ptr(), form.len(), size.as_mut_ptr(), size.len()) }
     }
 
+    #[inline(always)]
+    pub fn call_witness(&mut self, functions: &Functions, notion: u8, secret: u8, k: u8) -> u8 {
+        let (table, header, estimator, pairs, run) = (&self.table, &self.header, &self.estimator, &mut self.pairs, &mut self.run);
+        unsafe {
+            (functions.witness)(
+                table.as_ptr(), table.len(), header.as_ptr(), header.len(), notion, secret, k, estimator.as_ptr(), estimator.len(),
+                pairs.as_mut_ptr(), pairs.len(), run.as_mut_ptr(), run.len(),
+            )
+        }
+    }
+
+    #[inline(always)]
+    pub fn call_check_witness(&mut self, functions: &Functions, notion: u8, secret: u8, k: u8, start: u8, pairs: &[u8]) -> u8 {
+        let (table, header, estimator, valid) = (&self.table, &self.header, &self.estimator, &mut self.valid);
+        unsafe {
+            (functions.check_witness)(
+                table.as_ptr(), table.len(), header.as_ptr(), header.len(), notion, secret, k, start, estimator.as_ptr(), estimator.len(),
+                pairs.as_ptr(), pairs.len(), valid.as_mut_ptr(), valid.len(),
+            )
+        }
+    }
+
     /// What was told last of the secret with a number: its two verdicts, and the estimate size.
     pub fn told(&self, number: usize) -> Judgement {
         [self.judgement[2 * number], self.judgement[2 * number + 1], self.judgement[8]]
@@ -294,5 +345,28 @@ impl Library {
         }
         assert_eq!(self.size, [BEFORE; 8], "refused, and written");
         Err(answer)
+    }
+
+    /// A witness of the trace so far, or the number of the refusal. What is not written is kept.
+    pub fn witness(&mut self, notion: u8, secret: u8, k: u8) -> Result<witness::Run, u8> {
+        const BEFORE: u8 = 0xbf;
+        (self.pairs, self.run) = ([BEFORE; witness::OUTPUT], [BEFORE; 3]);
+        let answer = self.call_witness(&PROVED, notion, secret, k);
+        let written = if answer == 0 { 2 * u16::from_le_bytes([self.run[1], self.run[2]]) as usize } else { 0 };
+        assert!(written <= 2 * witness::MOST, "too many pairs");
+        assert!(self.pairs[written..].iter().all(|&byte| byte == BEFORE), "written behind the pairs");
+        if answer == 0 {
+            return Ok((self.run[0], self.pairs[..written].to_vec()));
+        }
+        assert_eq!(self.run, [BEFORE; 3], "refused, and written");
+        Err(answer)
+    }
+
+    /// Whether a start and pairs are one.
+    pub fn check_witness(&mut self, notion: u8, secret: u8, k: u8, start: u8, pairs: &[u8]) -> bool {
+        self.valid = [0xbf];
+        assert_eq!(self.call_check_witness(&PROVED, notion, secret, k, start, pairs), 0, "check");
+        assert!(self.valid[0] <= 1, "neither yes nor no");
+        self.valid[0] == 1
     }
 }

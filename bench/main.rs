@@ -2,7 +2,7 @@
 //! estimator, (d) plain Rust that carries excuses forward. The jobs: `accept`, both verdicts and the estimate size for each event, and `offer`, the
 //! events that a weak enforcer releases and the estimate size. Each is done with one secret, and by (a) once more with three further ones. Every
 //! verdict, release and estimate size is compared first, event by event. Explorations of (a) are compared with plain ones, and measured, and so are first
-//! leaks and canonical forms. A difference or a missed goal ends the run with status 1.
+//! leaks, canonical forms and witnesses. A difference or a missed goal ends the run with status 1.
 
 mod automata;
 mod canonical;
@@ -20,12 +20,13 @@ mod random;
 mod rows;
 mod stack;
 mod trajectories;
+mod witness;
 
 use automata::{Automaton, Secret};
 use cases::{Case, ToExplore, EVENTS};
-use compare::{Compared, ComparedExplorations, ComparedForms, ComparedLeaks};
+use compare::{Compared, ComparedExplorations, ComparedForms, ComparedLeaks, ComparedWitnesses};
 use library::Library;
-use measure::{Job, Least, Long, Times};
+use measure::{Job, Least, Long, Times, Witnessed};
 use rows::BLOCKS;
 use std::hint::black_box;
 use std::time::{Duration, Instant};
@@ -46,6 +47,8 @@ const DECODING: f64 = 20.0;
 const CANONICAL: f64 = 20.0;
 /// Milliseconds in which an automaton is explored with the largest budget, whether it is spent or not.
 const EXPLORING: f64 = 100.0;
+/// Milliseconds in which a witness is written.
+const WITNESS: f64 = 1.0;
 /// How many symbols a long log has in which the first leak is looked for.
 const LOG: usize = 1_000_000;
 
@@ -121,6 +124,20 @@ fn compare_forms_of<'a>(name: &str, cases: impl Iterator<Item = &'a Case>) {
     cases.enumerate().for_each(|(i, case)| compare::compare_forms(case, i as u64, &mut compared));
     let ComparedForms { written, bytes, shorter, same } = compared;
     println!("  {name:<14} {written:>6} written, of {bytes:>7} bytes in all; {shorter:>6} shorter than they were, {same:>6} as they were");
+}
+
+fn compare_witnesses(cases: &[Case]) {
+    println!("\nWitnesses of (a) and plain ones compared, of each secret, by both notions and for each step, and altered ones checked by both:");
+    let lengths = |last: usize| [0, 1, 2, 3, 7, 15, 16, last];
+    compare_witnesses_on("those above", cases.iter().chain([&cases::around()]), &lengths(cases::EVENTS));
+    compare_witnesses_on("4000 small", cases::small().iter(), &lengths(40));
+}
+
+fn compare_witnesses_on<'a>(name: &str, cases: impl Iterator<Item = &'a Case>, lengths: &[usize]) {
+    let mut compared = ComparedWitnesses::default();
+    cases.enumerate().for_each(|(i, case)| compare::compare_witnesses(case, lengths, 1 + i as u64, &mut compared));
+    let ComparedWitnesses { written, most, none, far, altered, still } = compared;
+    println!("  {name:<14} {written:>7} written, of {most:>4} pairs at most; {none:>7} without one, {far:>7} too far; {altered:>7} altered, {still:>6} valid");
 }
 
 /// All that is measured in rounds.
@@ -244,6 +261,18 @@ fn print_stack(cases: &[Case], missed: &mut Missed) {
     }
     println!("and of opacity_explore, which is not for a gateway and has no goal:");
     println!("  {}", cases::to_explore().iter().map(|case| format!("{} {}", case.name, stack::exploring(case))).collect::<Vec<_>>().join("; "));
+    print_witness_stack(cases, missed);
+}
+
+fn print_witness_stack(cases: &[Case], missed: &mut Missed) {
+    println!("and of the functions of witnesses:");
+    for case in cases.iter().chain([&cases::around()]) {
+        let depths = stack::witnessing(case);
+        println!("  {:<14} {}", case.name, depths.map(|(name, bytes)| format!("{name} {bytes}")).join(", "));
+        for (name, bytes) in depths.into_iter().filter(|(_, bytes)| STACK <= *bytes) {
+            missed.push(format!("stack of {name} on {}: {bytes} bytes", case.name));
+        }
+    }
 }
 
 /// The last has the longest encoding.
@@ -315,6 +344,24 @@ fn print_leaks() {
     }
 }
 
+fn print_witnesses(cases: &[Case], missed: &mut Missed) {
+    let passes = measure::ROUNDS * measure::REPETITIONS;
+    println!("\nWitnesses of the own secret by both notions, for every step up to K, after {EVENTS} symbols, microseconds, best of {passes} passes: the");
+    println!("slowest one and all together, of (a) to write them and to check them, and of the plain search");
+    println!(
+        "{:<14} {:>8} {:>6} {:>10} {:>8} {:>10} {:>8} {:>10} {:>8}",
+        "automaton", "written", "pairs", "written", "all", "checked", "all", "searched", "all"
+    );
+    for case in cases.iter().chain([&cases::around()]) {
+        let Witnessed { written, most, slowest, all } = measure::measure_witnesses(case);
+        let times = (0..3).map(|i| format!(" {:>10} {:>8}", number(slowest[i] / 1e3), number(all[i] / 1e3))).collect::<String>();
+        println!("{:<14} {:>8} {most:>6}{times}", case.name, format!("{written}/{}", 2 * (case.automaton.k as usize + 1)));
+        if WITNESS <= slowest[0] / 1e6 {
+            missed.push(format!("a witness on {}: {:.2} milliseconds", case.name, slowest[0] / 1e6));
+        }
+    }
+}
+
 /// (a) alone for some seconds, for a profiler.
 fn only(job: &str, case: &Case, further: &[Secret]) {
     let mut library = Library::with(&case.automaton, further);
@@ -350,6 +397,7 @@ fn everything(cases: &[Case]) {
     compare_explorations(cases);
     compare_leaks(cases);
     compare_forms(cases);
+    compare_witnesses(cases);
     let measured = measure_all(cases);
     print_times(cases, &measured, &mut missed);
     print_several(cases, &measured, &mut missed);
@@ -360,12 +408,13 @@ fn everything(cases: &[Case]) {
     print_canonical(&mut missed);
     print_explorations(&mut missed);
     print_leaks();
+    print_witnesses(cases, &mut missed);
     println!("\n{:.0} s in all", begun.elapsed().as_secs_f64());
     let goals = format!(
         "(a) at most {TIMES_NATIVE} times (b) with its best block, on each; (c) at least {TIMES_TEXTBOOK} times (a) on large, chain and dense; with \
          three further secrets below {TIMES_SEVERAL} times; no growth with the trace (at most {TIMES_LONG} times); stack below {STACK} bytes, but of \
          opacity_explore; the longest encoding decoded in less than {DECODING} milliseconds, and its canonical form written in less than {CANONICAL}; an \
-         exploration in less than {EXPLORING} milliseconds."
+         exploration in less than {EXPLORING} milliseconds, and a witness in less than {WITNESS}."
     );
     conclude(&goals, missed);
 }
@@ -401,10 +450,16 @@ fn main() {
             compare_leaks(&cases);
             print_leaks();
         }
+        ["witness"] => {
+            let mut missed = Missed::new();
+            compare_witnesses(&cases);
+            print_witnesses(&cases, &mut missed);
+            conclude(&format!("a witness in less than {WITNESS} milliseconds."), missed);
+        }
         ["only", job, name, several @ ..] if several.is_empty() || *several == ["several"] => {
             let case = cases.iter().find(|case| case.name == *name).expect("no such automaton");
             only(job, case, if several.is_empty() { &[] } else { &case.further });
         }
-        _ => panic!("usage: bench/run [stack | decoding | canonical | exploring | first-leak | only JOB AUTOMATON [several]]"),
+        _ => panic!("usage: bench/run [stack | decoding | canonical | exploring | first-leak | witness | only JOB AUTOMATON [several]]"),
     }
 }

@@ -12,6 +12,7 @@ use crate::native::{self, Estimator, Silent};
 use crate::plain::{Enforcer, Queue, Verifier};
 use crate::rows::BLOCKS;
 use crate::trajectories::Trajectories;
+use crate::witness::{self, Asked};
 use std::hint::black_box;
 use std::time::Instant;
 
@@ -204,6 +205,46 @@ pub fn measure_canonical(automaton: &Automaton, encoding: &[u8]) -> Least {
         least.time(1, || assert_eq!(black_box(&mut library).call_canonical(&library::PROVED, black_box(encoding), canonical::MOST), 0, "canonical"));
     }
     least
+}
+
+/// Of the witnesses of the own secret after a trace, by both notions and for every step: how many there are, and the pairs of the longest; the
+/// nanoseconds that the slowest takes (a) to write, to check, and the plain search to find, one that does not exist among them; and for all together.
+pub struct Witnessed {
+    pub written: usize,
+    pub most: usize,
+    pub slowest: [f64; 3],
+    pub all: [f64; 3],
+}
+
+pub fn measure_witnesses(case: &Case) -> Witnessed {
+    let (automaton, trace) = (&case.automaton, &case.trace[..]);
+    let entries = witness::entries(automaton, trace);
+    let mut library = Library::new(automaton);
+    library_pass(Job::Accept, &mut library, trace);
+    let mut measured = Witnessed { written: 0, most: 0, slowest: [0.0; 3], all: [0.0; 3] };
+    for (notion, k) in witness::steps(automaton.k) {
+        let from = trace.len() - k as usize;
+        let asked = Asked { automaton, notion, secret: automaton.secret, entry: entries[from], last: &trace[from..] };
+        let run = library.witness(notion, 0, k);
+        let (start, pairs) = run.clone().unwrap_or_default();
+        let mut least = [Least::NEW; 3];
+        for _ in 0..ROUNDS * REPETITIONS {
+            least[0].time(1, || {
+                let _ = black_box(black_box(&mut library).call_witness(&library::PROVED, notion, 0, black_box(k)));
+            });
+            least[1].time(1, || {
+                let _ = black_box(black_box(&mut library).call_check_witness(&library::PROVED, notion, 0, k, start, black_box(&pairs)));
+            });
+            least[2].time(1, || drop(black_box(black_box(&asked).search())));
+        }
+        measured.written += run.is_ok() as usize;
+        measured.most = measured.most.max(pairs.len() / 2);
+        for (i, least) in least.into_iter().enumerate() {
+            measured.slowest[i] = measured.slowest[i].max(least.0);
+            measured.all[i] += least.0;
+        }
+    }
+    measured
 }
 
 /// Nanoseconds in which (a) explores an automaton with the largest budget.

@@ -4,8 +4,8 @@ disassembly. A missed goal ends the script with status 1.
 
 The goal of the text binds what a controller links: the functions that the five of a gateway call, directly or not, and all constants of the archive. Their
 sizes are those of the symbol table. A C program that calls these five and is linked with `-Wl,--gc-sections` was compared by its map: it has the same
-functions and no other, 28,162 bytes; and 317 bytes of constants, where the archive has 333, since the linker keeps one of two equal ones. Between the
-functions it leaves 76 bytes empty, which are not counted here.
+functions and no other, 28,252 bytes; and 319 bytes of constants, where the archive has 335, since the linker keeps one of two equal ones. Between the
+functions it leaves some bytes empty, which are not counted here.
 
 A function's frame is what its prologue pushes and takes from rsp; a path adds 8 bytes for each return address. A frame of many pages is taken page by
 page, in a loop down to r11, which is set to their end before: there all pages are counted, and not the one in the loop. The code has no recursion

@@ -5,6 +5,7 @@ use crate::canonical::{self, MOST as LONGEST};
 use crate::cases::{Case, ToExplore};
 use crate::exploration::{BUDGET_SPENT, MOST};
 use crate::library::{self, Library};
+use crate::witness;
 use std::arch::asm;
 
 const SIZE: usize = 64 * 1024;
@@ -17,10 +18,13 @@ struct Stack([u8; SIZE]);
 struct Call<'a> {
     library: &'a mut Library,
     functions: library::Functions,
-    /// The encoding, or offered symbols.
+    /// The encoding, offered symbols, or the pairs of a run.
     bytes: &'a [u8],
     /// The symbol, or the notion.
     byte: u8,
+    /// The step of a witness, and the state that it starts in.
+    step: u8,
+    first: u8,
     answer: u8,
 }
 
@@ -56,6 +60,14 @@ extern "C" fn write(call: &mut Call) {
     call.answer = call.library.call_canonical(&call.functions, call.bytes, LONGEST);
 }
 
+extern "C" fn excuse(call: &mut Call) {
+    call.answer = call.library.call_witness(&call.functions, call.byte, 0, call.step);
+}
+
+extern "C" fn check(call: &mut Call) {
+    call.answer = call.library.call_check_witness(&call.functions, call.byte, 0, call.step, call.first, call.bytes);
+}
+
 /// The bytes that lost their paint.
 fn depth(stack: &mut Stack, job: extern "C" fn(&mut Call), call: &mut Call) -> usize {
     stack.0.fill(PAINT);
@@ -78,11 +90,33 @@ fn depth(stack: &mut Stack, job: extern "C" fn(&mut Call), call: &mut Call) -> u
 
 /// The depth of one call, and its answer.
 fn measure(stack: &mut Stack, library: &mut Library, job: extern "C" fn(&mut Call), bytes: &[u8], byte: u8) -> (usize, u8) {
-    let mut call = Call { library, functions: library::NOTHING, bytes, byte, answer: 0 };
+    measure_call(stack, job, Call { library, functions: library::NOTHING, bytes, byte, step: 0, first: 0, answer: 0 })
+}
+
+fn measure_call(stack: &mut Stack, job: extern "C" fn(&mut Call), mut call: Call) -> (usize, u8) {
     let caller = depth(stack, job, &mut call);
     call.functions = library::PROVED;
     let all = depth(stack, job, &mut call);
     (all - caller, call.answer)
+}
+
+/// The depths of the two functions of witnesses after the trace: the deepest of all calls, by both notions and for every step.
+pub fn witnessing(case: &Case) -> [(&'static str, usize); 2] {
+    let mut stack = Box::new(Stack([0; SIZE]));
+    let mut library = Library::new(&case.automaton);
+    library.fresh();
+    case.trace.iter().for_each(|&symbol| assert!(library.accept(symbol).is_ok(), "refused"));
+    let mut deepest = [("opacity_witness", 0), ("opacity_check_witness", 0)];
+    for (notion, step) in witness::steps(case.automaton.k) {
+        let (first, pairs) = library.witness(notion, 0, step).unwrap_or_default();
+        for (job, (_, most)) in [excuse as extern "C" fn(&mut Call), check].into_iter().zip(&mut deepest) {
+            let call = Call { library: &mut library, functions: library::NOTHING, bytes: &pairs, byte: notion, step, first, answer: 0 };
+            let (bytes, answer) = measure_call(&mut stack, job, call);
+            assert!(answer == 0 || answer == witness::NO_WITNESS, "the answer");
+            *most = bytes.max(*most);
+        }
+    }
+    deepest
 }
 
 /// The depth of an exploration with the largest budget, with the further secrets.

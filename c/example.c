@@ -3,8 +3,10 @@
    symbols: each observable event has its own number.) Then the same with a further secret, whose verdicts follow those of P's own: it keeps back the
    last event. Then the first leaks of offered symbols, some of which are refused, by each notion and with further secrets: the place among the accepted
    ones, or that there is none. Then explorations of P, with other K and further secrets: how many configurations there are and the largest waits, weak
-   and strong, or that the budget is spent. At last the canonical form of P as another engineer saved it: how many bytes it has and these, which are
-   those below, or that the output has too few. c/run compares the lines. */
+   and strong, or that the budget is spent. Then the canonical form of P as another engineer saved it: how many bytes it has and these, which are
+   those below, or that the output has too few. At last witnesses after the trace, with a further secret: the state that each starts in, its steps, event
+   and state reached, and whether it passes the checker, as it is, with each other start, and without its last byte; of those that are printed there is
+   no other. Or why there is none. c/run compares the lines. */
 #include <stdio.h>
 
 #include "opacity.h"
@@ -54,6 +56,14 @@ static const struct {
     {15, none, 82},                {15, none, 81}, {2, one, 0},
 };
 
+/* Which witnesses are asked for: by which notion, of which secret, how many symbols back. */
+static const struct {
+    uint8_t notion, secret, k;
+} witnesses[] = {
+    {OPACITY_WEAK, 0, 0}, {OPACITY_WEAK, 0, 1}, {OPACITY_WEAK, 0, 2},   {OPACITY_STRONG, 0, 2}, {OPACITY_WEAK, 0, 3},
+    {OPACITY_WEAK, 1, 0}, {OPACITY_WEAK, 1, 1}, {OPACITY_STRONG, 1, 2}, {OPACITY_WEAK, 2, 0},
+};
+
 /* All the memory that the library works in besides its stack. */
 static uint64_t table[OPACITY_TABLE_WORDS];
 static uint8_t header[OPACITY_HEADER_BYTES];
@@ -66,6 +76,9 @@ static uint8_t place[OPACITY_PLACE_BYTES];
 static uint8_t exploration[OPACITY_EXPLORATION_BYTES];
 static uint8_t form[OPACITY_ENCODING_MAX_BYTES];
 static uint8_t size[OPACITY_SIZE_BYTES];
+static uint8_t pairs[OPACITY_WITNESS_OUTPUT_BYTES];
+static uint8_t witness[OPACITY_RUN_BYTES];
+static uint8_t valid[OPACITY_VALID_BYTES];
 
 static int refused(uint8_t number)
 {
@@ -160,9 +173,11 @@ static void find_leaks(void)
     }
 }
 
-/* The explorations, on the decoded automaton. */
+/* The explorations, on the decoded automaton, which has its own K again after them. */
 static void explore_all(void)
 {
+    uint8_t k = header[OPACITY_HEADER_K];
+
     for (size_t i = 0; i < sizeof explorations / sizeof explorations[0]; i++) {
         const uint8_t *further = explorations[i].further;
         uint8_t answer;
@@ -179,6 +194,7 @@ static void explore_all(void)
                exploration[OPACITY_EXPLORATION_NUMBER] + 256 * exploration[OPACITY_EXPLORATION_NUMBER + 1],
                exploration[OPACITY_EXPLORATION_WEAK], exploration[OPACITY_EXPLORATION_STRONG]);
     }
+    header[OPACITY_HEADER_K] = k;
 }
 
 /* The canonical form, with so many bytes of space. */
@@ -197,6 +213,56 @@ static void write_form(size_t space)
     printf("\n");
 }
 
+/* Whether a start and pairs are a witness, by the checker. */
+static int passes(uint8_t notion, uint8_t secret, uint8_t k, uint8_t start, size_t length)
+{
+    uint8_t answer = opacity_check_witness(table, OPACITY_TABLE_WORDS, header, sizeof header, notion, secret, k, start, estimator, sizeof estimator,
+                                           pairs, length, valid, sizeof valid);
+
+    return answer == OPACITY_OK && valid[0] == 1;
+}
+
+/* One witness of the estimator's trace. */
+static void show_witness(uint8_t notion, uint8_t secret, uint8_t k)
+{
+    uint8_t answer = opacity_witness(table, OPACITY_TABLE_WORDS, header, sizeof header, notion, secret, k, estimator, sizeof estimator, pairs,
+                                     sizeof pairs, witness, sizeof witness);
+    uint8_t start = witness[OPACITY_RUN_START];
+    size_t length = 2 * (witness[OPACITY_RUN_PAIRS] + 256 * (size_t)witness[OPACITY_RUN_PAIRS + 1]);
+    int others = 0;
+
+    printf("%s, secret %d, k %d: ", notion == OPACITY_WEAK ? "weak" : "strong", secret, k);
+    if (answer != OPACITY_OK) {
+        refused(answer);
+        return;
+    }
+    printf("from %d", start);
+    for (size_t j = 0; j < length; j += 2)
+        printf(" %d,%d", pairs[j], pairs[j + 1]);
+    for (int other = 0; other < 256; other++)
+        others += other != start && passes(notion, secret, k, (uint8_t)other, length);
+    printf(": %s, %d with other starts", passes(notion, secret, k, start, length) ? "valid" : "not valid", others);
+    if (length != 0)
+        printf(", without the last byte %s", passes(notion, secret, k, start, length - 1) ? "valid" : "not valid");
+    printf("\n");
+}
+
+/* The witnesses after the trace, on the decoded automaton and with a further secret. */
+static int show_witnesses(void)
+{
+    uint8_t answer = opacity_fresh(table, OPACITY_TABLE_WORDS, header, sizeof header, one, sizeof one, estimator, sizeof estimator, judgement,
+                                   sizeof judgement);
+
+    for (size_t i = 0; answer == OPACITY_OK && i < sizeof trace; i++)
+        answer = opacity_accept(table, OPACITY_TABLE_WORDS, header, sizeof header, trace[i], estimator, sizeof estimator, judgement,
+                                sizeof judgement);
+    if (answer != OPACITY_OK)
+        return refused(answer);
+    for (size_t i = 0; i < sizeof witnesses / sizeof witnesses[0]; i++)
+        show_witness(witnesses[i].notion, witnesses[i].secret, witnesses[i].k);
+    return 0;
+}
+
 int main(void)
 {
     uint8_t answer = opacity_decode(encoding, sizeof encoding, table, OPACITY_TABLE_WORDS, header, sizeof header);
@@ -208,5 +274,5 @@ int main(void)
     explore_all();
     write_form(sizeof form);
     write_form(sizeof encoding - 1);
-    return 0;
+    return show_witnesses();
 }

@@ -3,7 +3,7 @@
  *
  * Link with target/staticlib/libgateway.a, which `rt staticlib gateway` writes (x86-64). Nothing is allocated and nothing is kept between calls:
  * the caller lends all memory, and a header or a saved state is bytes of a fixed layout that may be stored, sent and copied. The contracts of the
- * eight functions are `crates/gateway/specs/Interface.antt` (what each answers and leaves) and `crates/layout/specs` (the layouts); they are proved for
+ * ten functions are `crates/gateway/specs/Interface.antt` (what each answers and leaves) and `crates/layout/specs` (the layouts); they are proved for
  * every content of the bytes and every length. Words of the requirements, where ours differ: docs/GLOSSARY.md.
  *
  * Slices. A slice passes as a pointer and the number of its elements. C asks three things, which no function can test:
@@ -22,12 +22,13 @@
  * K" is that of all secrets that are given, the automaton's own among them: it says how many symbols are remembered, and how long one may be pending.
  *
  * In the gateway, before delivery, and afterwards. Five functions run in a gateway: `opacity_decode`, `opacity_fresh`, `opacity_accept`,
- * `opacity_start` and `opacity_offer`; they need at most 4,140 bytes of stack (docs/FIGURES.md). `opacity_explore` is run before delivery, on an
+ * `opacity_start` and `opacity_offer`; they need at most 4,328 bytes of stack (docs/FIGURES.md). `opacity_explore` is run before delivery, on an
  * engineer's machine: it visits every configuration that an accepted list leads to, within a budget, and says how long an event can ever wait. It needs
- * 42 KB of stack (below). `opacity_first_leak` is for support: it says where the first leak of a log is, and needs 4,300 bytes. `opacity_canonical` is
- * for the files of engineers, so that those of one automaton compare equal: it writes the one encoding of an automaton, and needs 937 bytes. A
- * controller needs none of these three: the five do not call them, and a program that does not either and is linked with `-Wl,--gc-sections` does not
- * contain them.
+ * 42 KB of stack (below). `opacity_first_leak` is for support: it says where the first leak of a log is, and needs 4,488 bytes. `opacity_canonical` is
+ * for the files of engineers, so that those of one automaton compare equal: it writes the one encoding of an automaton, and needs 937 bytes.
+ * `opacity_witness` and `opacity_check_witness` are for an engineer who sees none and asks why: the first writes a run that excuses the system, the
+ * second judges any run; they need 2,312 and 360 bytes. A controller needs none of these other five: those of the gateway do not call them, and a
+ * program that does not either and is linked with `-Wl,--gc-sections` does not contain them.
  *
  * Answers. Each function answers 0, or the number of a refusal, and after a refusal every slice is as it was before the call. Of several
  * refusals whose conditions hold, the answer is the one that the function's comment lists first. A slice of another length than its layout has gets
@@ -48,14 +49,21 @@
  *                                      is above 15, its initial state above 63, an observable
  *                                      event's symbol above 31, the notion above 1, or a saved
  *                                      state is outside its limits                                   all
- *   10   OPACITY_OUTPUT_TOO_SMALL      the output has fewer than 17 bytes (offer), or fewer than
- *                                      the bytes to be written (canonical)                           offer, canonical
+ *   10   OPACITY_OUTPUT_TOO_SMALL      the output has fewer than 17 bytes (offer), fewer than the
+ *                                      bytes to be written (canonical), or fewer than 2,172
+ *                                      (witness)                                                     offer, canonical, witness
  *   12   OPACITY_REPEATED_TRANSITION   a transition is listed a second time                          decode, canonical
  *   13   OPACITY_TOO_MANY_SECRETS      more than three further secrets                               fresh, start, explore,
  *                                                                                                    first_leak
  *   14   OPACITY_LOOK_BACK_TOO_LARGE   the K of a further secret that is given is above 15           fresh, start, explore,
  *                                                                                                    first_leak
  *   15   OPACITY_BUDGET_SPENT          there are more different configurations than the budget       explore
+ *   16   OPACITY_NO_WITNESS            no run over the last k symbols excuses the system (of a
+ *                                      state that did not grow from a fresh one on this automaton:
+ *                                      perhaps)                                                      witness
+ *   17   OPACITY_STEP_TOO_FAR          no secret with this number is given, or k is above its own
+ *                                      K or above the number of accepted symbols (of a state that
+ *                                      did not grow: above those that it remembers)                  witness
  *
  * Table: 2,048 words. Word 64 * event + state is the set of the states that the event may lead to; bit q, counted from the least significant, is
  * state q. Any 2,048 words are the transitions of an automaton of 64 states and 32 events.
@@ -132,6 +140,26 @@
  *
  * Size of a canonical form: 8 bytes.
  *   0..7     how many bytes were written, at most 2,210, the least significant byte first
+ *
+ * Witness (02: alibi): of a trace of n symbols, a notion, a secret and a step k, at most its own K and at most n, a run over the last k symbols that
+ * excuses the system: because of it nobody can be sure of the secret k symbols back. It starts in a state in which runs can be right after the symbol
+ * before these k, judged by the symbols up to it, or in the initial state if there is none. Its steps are transitions, and its observable events show
+ * these k symbols in their order. Weak: some position before its first observable event, the start among them, is not secret. Strong: no position of it
+ * is. So a verdict is none exactly where there is a witness for every k up to K and n, and leak l exactly where there is one for every k below l, and
+ * none for l.
+ *
+ * Pairs of a run: 2 bytes for each step, the event and the state that it leads to. (Events and not symbols: two events of one symbol are two runs.)
+ * Where there are several witnesses any of them may be written, so they are not to be compared byte by byte: `opacity_check_witness` says yes to each,
+ * however long it is.
+ *
+ * Output of a witness: at least 2,172 bytes. The pairs stand at its front, 1,086 at most; what stands behind keeps its bytes.
+ *
+ * Run of a witness: 3 bytes.
+ *   0        the state that it starts in
+ *   1, 2     the number of its pairs, 0 to 1,086, the least significant byte first
+ *
+ * Valid: 1 byte.
+ *   0        1 for yes, 0 for no
  */
 #ifndef OPACITY_H
 #define OPACITY_H
@@ -151,6 +179,10 @@
 #define OPACITY_PLACE_BYTES 8
 #define OPACITY_SIZE_BYTES 8
 #define OPACITY_ENCODING_MAX_BYTES 2210   /* the longest encoding, and the longest canonical form */
+#define OPACITY_RUN_BYTES 3
+#define OPACITY_VALID_BYTES 1
+#define OPACITY_WITNESS_OUTPUT_BYTES 2172 /* of a witness the least; more is taken */
+#define OPACITY_WITNESS_MAX_PAIRS 1086    /* the most pairs that are written */
 
 #define OPACITY_HEADER_K 1                /* the place of K in a header */
 
@@ -172,6 +204,9 @@
 #define OPACITY_EXPLORATION_WEAK 2
 #define OPACITY_EXPLORATION_STRONG 3
 
+#define OPACITY_RUN_START 0               /* the places in a run; the number of pairs has 2 bytes */
+#define OPACITY_RUN_PAIRS 1
+
 #define OPACITY_BUDGET_MAX 256            /* the largest budget; a larger one counts as this one */
 
 #define OPACITY_WEAK 0
@@ -192,6 +227,8 @@
 #define OPACITY_TOO_MANY_SECRETS 13
 #define OPACITY_LOOK_BACK_TOO_LARGE 14
 #define OPACITY_BUDGET_SPENT 15
+#define OPACITY_NO_WITNESS 16
+#define OPACITY_STEP_TOO_FAR 17
 
 #ifdef __cplusplus
 extern "C" {
@@ -301,7 +338,7 @@ uint8_t opacity_offer(const uint64_t *table, size_t table_length,
  *          15: there are more different configurations than the budget. So a budget of 0 always gets it, after the others.
  * A leak of the opening, 8 of `opacity_start`, is not tested: where no enforcer starts the answer is the same, and the waits are those of the verdicts
  * alone.
- * Stack: 41,708 bytes below its return address, measured, for what it finds is kept there; even a refused call takes 38,488 of them. It is to be run
+ * Stack: 41,896 bytes below its return address, measured, for what it finds is kept there; even a refused call takes 38,488 of them. It is to be run
  * before delivery on an engineer's machine, and takes some milliseconds there (docs/FIGURES.md); on a controller with less stack it must not be called.
  * The stack of the other functions is what it was without it.
  */
@@ -351,6 +388,50 @@ uint8_t opacity_first_leak(const uint64_t *table, size_t table_length,
 uint8_t opacity_canonical(const uint8_t *encoding, size_t encoding_length,
                           uint8_t *output, size_t output_length,
                           uint8_t *size, size_t size_length);
+
+/*
+ * Writes a witness: a run over the last k symbols that excuses the system (02: S-10).
+ * Takes:   table and header as `opacity_fresh` got them, the notion (OPACITY_WEAK or OPACITY_STRONG), the number of a secret, 0 for the automaton's own,
+ *          the step k, the estimator as the last call of `opacity_fresh` or `opacity_accept` left it, an output of 2,172 bytes or more, and 3 bytes for
+ *          the run.
+ * Answers: 0: the pairs stand at the front of the output, 1,086 at most, and the run holds the start and the number of pairs. Which of several
+ *             witnesses it is, is not said.
+ *          9: a slice of a wrong length (the output's excepted), a notion above 1, K above 15, an initial state above 63, an observable event's symbol
+ *             above 31, or an estimator outside its limits, by its further secrets too.
+ *          17: no secret with this number is given, or k is above its own K or above the number of accepted symbols.
+ *          10: the output has fewer than 2,172 bytes.
+ *          16: there is no witness.
+ * An estimator within its limits that no trace on this automaton leads to gets 17 or 16 by what it remembers, 10 between them, or 0 with a run that is
+ * only known to pass `opacity_check_witness`.
+ */
+uint8_t opacity_witness(const uint64_t *table, size_t table_length,
+                        const uint8_t *header, size_t header_length,
+                        uint8_t notion,
+                        uint8_t secret,
+                        uint8_t k,
+                        const uint8_t *estimator, size_t estimator_length,
+                        uint8_t *output, size_t output_length,
+                        uint8_t *run, size_t run_length);
+
+/*
+ * Checks a witness, whoever wrote it.
+ * Takes:   table, header, notion, secret, k and estimator as `opacity_witness`, the state that the run starts in, its pairs, any number of bytes, and 1
+ *          byte for what is said.
+ * Answers: 0: `valid[0]` is 1 if the start and the pairs are a witness, all bytes of them pairs, and else 0: so for an odd number of bytes, and for a
+ *             secret or a k that `opacity_witness` refuses by 17. Any byte may stand anywhere, and a run may be longer than any that is written.
+ *          9: what `opacity_witness` refuses by 9, with `valid` in place of the run.
+ * Of an estimator that no trace on this automaton leads to it says yes to the runs that start in a state of its entry set k symbols back, bytes 16 + 8 k
+ * to 23 + 8 k, show the k newest symbols that it remembers, and excuse the system by the notion.
+ */
+uint8_t opacity_check_witness(const uint64_t *table, size_t table_length,
+                              const uint8_t *header, size_t header_length,
+                              uint8_t notion,
+                              uint8_t secret,
+                              uint8_t k,
+                              uint8_t start,
+                              const uint8_t *estimator, size_t estimator_length,
+                              const uint8_t *pairs, size_t pairs_length,
+                              uint8_t *valid, size_t valid_length);
 
 #ifdef __cplusplus
 }

@@ -13,20 +13,22 @@ from logs import INCOMPATIBLE, INITIAL_LEAK, MALFORMED, NOT_OBSERVABLE, OUTPUT_T
 from runs import Listing
 from saved import (
     ENFORCER_BYTES, ESTIMATOR_BYTES, EXPLORATION_BYTES, FURTHER, FURTHER_BYTES, HEADER_BYTES, JUDGEMENT_BYTES, NOTION, PENDING, PLACE_BYTES,
-    RELEASE_BYTES, SECRETS, SIZE_BYTES, SYMBOLS, WORDS, automaton_of, cleared, exploration_bytes, given_of, grown_enforcer, grown_estimator,
-    header_of, judgement_bytes, observable_of, place_bytes, safe_of, symbol_at, table_of, with_past,
+    RELEASE_BYTES, RUN_BYTES, SECRETS, SIZE_BYTES, SYMBOLS, VALID_BYTES, WORDS, asked_of, automaton_of, cleared, exploration_bytes, given_of,
+    grown_enforcer, grown_estimator, header_of, judgement_bytes, observable_of, place_bytes, run_bytes, safe_of, symbol_at, table_of, with_past,
 )
+from witnesses import NO_WITNESS, OUTPUT_BYTES, TOO_FAR, asked_after, exists, is_witness, only
 
 TOO_MANY_SECRETS, LOOK_BACK_TOO_LARGE, BUDGET_SPENT = 13, 14, 15
 # of the slices that have one size
 SIZES = {
     "header": HEADER_BYTES, "further": FURTHER_BYTES, "estimator": ESTIMATOR_BYTES, "judgement": JUDGEMENT_BYTES, "enforcer": ENFORCER_BYTES,
-    "release": RELEASE_BYTES, "exploration": EXPLORATION_BYTES, "place": PLACE_BYTES, "size": SIZE_BYTES,
+    "release": RELEASE_BYTES, "exploration": EXPLORATION_BYTES, "place": PLACE_BYTES, "size": SIZE_BYTES, "run": RUN_BYTES, "valid": VALID_BYTES,
 }
 # what each function but decode and canonical is lent of them, beside the header
 LENT = {
     "fresh": ("further", "estimator", "judgement"), "accept": ("estimator", "judgement"), "start": ("further", "enforcer"),
     "offer": ("enforcer", "release"), "explore": ("further", "exploration"), "first_leak": ("further", "place"),
+    "witness": ("estimator", "run"), "check_witness": ("estimator", "valid"),
 }
 
 
@@ -57,7 +59,7 @@ class Calls:
         self.lines, self.printed = [], []
         self.table = ()
         names = "encoding", "header", "further", "estimator", "judgement", "enforcer", "output", "release", "exploration", "events", "place", "size"
-        self.slices = {name: b"" for name in names}
+        self.slices = {name: b"" for name in (*names, "run", "pairs", "valid")}
         self.grown = {}  # an automaton and the bytes of a state, its further secrets among them, 0 past their count: the listing of its trace
         self.openings = {}  # an automaton and the further secrets that are given: the listing of the empty trace
         self.explorations = {}  # the same: what an exploration finds with the largest budget, or None
@@ -89,6 +91,11 @@ class Calls:
         """The table and the header of an automaton, not decoded."""
         self.put_table(table_of(automaton))
         self.put(header=header_of(automaton))
+
+    def hold(self, listing):
+        """Lends the estimator after the trace of a listing, of this automaton, as if it had grown here."""
+        self.put(estimator=grown_estimator(listing))
+        self.grown[self.automaton(), self.slices["estimator"]] = listing
 
     # calls
 
@@ -217,6 +224,55 @@ class Calls:
         self.slices["place"] = place_bytes(first_leak(self.opened(), notion, self.slices["events"]))
         return 0
 
+    def witness(self, notion, number, k):
+        """Writes a run that excuses the chamber, where there is no other."""
+        answer = self.excusing(notion, number, k)
+        if answer == 0:
+            start, pairs = only(asked_after(self.listing("estimator"), notion, number, k))
+            self.slices["output"] = pairs + self.slices["output"][len(pairs) :]
+            self.slices["run"] = run_bytes(start, pairs)
+        return self.call(f"witness {notion} {number} {k}", answer, "output", "run")
+
+    def any_witness(self, notion, number, k):
+        """The same where there may be others, of which any will do: the program looks whether what is written passes, and every slice stays as it is."""
+        answer = self.excusing(notion, number, k)
+        self.call(f"any witness {notion} {number} {k}", answer or "passes")
+        return answer
+
+    def excusing(self, notion, number, k):
+        """The answer of witness."""
+        if not self.watching("witness", notion):
+            return MALFORMED
+        asked = asked_after(self.listing("estimator"), notion, number, k)
+        if asked is None:
+            return TOO_FAR
+        if len(self.slices["output"]) < OUTPUT_BYTES:
+            return OUTPUT_TOO_SMALL
+        return 0 if exists(asked) else NO_WITNESS
+
+    def open_witness(self, notion, number, k):
+        """The same on a state within its limits that did not grow from a fresh one: every slice stays as it is. (The program looks whether the answer is
+        allowed: 16, 17, or 0 with a run that passes.)"""
+        assert self.watching("witness", notion) and not self.grew() and OUTPUT_BYTES <= len(self.slices["output"])
+        return self.call(f"open witness {notion} {number} {k}", "open")
+
+    def check_witness(self, notion, number, k, start):
+        """Looks whether the pairs are a run that excuses the chamber: the byte that says so, or the answer where that is a refusal."""
+        answer = 0 if self.watching("check_witness", notion) else MALFORMED
+        if answer == 0:
+            self.slices["valid"] = bytes([is_witness(self.asked(notion, number, k), start, self.slices["pairs"])])
+        self.call(f"check_witness {notion} {number} {k} {start}", answer, "valid")
+        return answer or self.slices["valid"][0]
+
+    def asked(self, notion, number, k):
+        """What is asked for by the estimator: by its trace, if it grew; else by its bytes, which say the same of one that did."""
+        by_bytes = asked_of(automaton_of(*self.automaton()), self.slices["estimator"], notion, number, k)
+        if not self.grew():
+            return by_bytes
+        asked = asked_after(self.listing("estimator"), notion, number, k)
+        assert asked == by_bytes or asked._replace(automaton=None) == by_bytes._replace(automaton=None)
+        return asked
+
     def open(self, function, symbol):
         """Offers a symbol to a state within its limits that did not grow from a fresh one: every slice stays as it is. (The program looks whether the
         answer is allowed; of the estimate size no more than that it is from 1 to 64.)"""
@@ -234,6 +290,14 @@ class Calls:
         header = self.slices["header"]
         fit = len(self.table) == WORDS and len(header) == HEADER_BYTES and header[0] <= 63 and header[1] <= 15
         return fit and max(self.symbols(), default=0) <= 31 and all(len(self.slices[name]) == SIZES[name] for name in LENT[function])
+
+    def watching(self, function, notion):
+        """Whether a function that is given an estimator and a notion goes on."""
+        return self.sound(function) and self.estimator_sound(self.slices["estimator"]) and notion <= 1
+
+    def grew(self):
+        """Whether the estimator grew from a fresh one."""
+        return (self.automaton(), cleared(self.slices["estimator"])) in self.grown
 
     def fault(self, function, notion=0):
         """What a function that is given further secrets answers before all else: 9, 13, 14, or 0 where it goes on."""

@@ -1,7 +1,8 @@
 """The automata P, Q, T and U of 01, with the answers that it gives, and automata with symbols (S-2), with answers worked out by hand. In each line of
 an accepted event or of the opening the fifth field is the estimate size (S-5): for P's trace 2, 2, 2, 1 as S-5 has it, elsewhere counted by hand.
 And further secrets (S-6), with verdicts and releases worked out by hand; and explorations (S-7), with what they find worked out by hand; and first
-leaks (S-8), with their places worked out by hand; and canonical forms (S-9), written out bit by bit."""
+leaks (S-8), with their places worked out by hand; and canonical forms (S-9), written out bit by bit; and runs that excuse the chamber (S-10), all of
+them, worked out by hand."""
 
 from runs import Automaton, Secret
 
@@ -313,4 +314,57 @@ FORMS = (
     (by_bits("000000 00000 0000 000000 0000000000 1", "1 0", "11111"), by_bits("000000 00000 0000 000000 0000000000 0", "1 0")),
     (by_bits("000000 00000 0000 000000 0000000000 1", "1 1", "11111"), bytes.fromhex("00000001FE")),
     (by_bits("000000 00000 0000 000000 0000000000 1", "0 1", "00001"), bytes.fromhex("0000000142")),
+)
+
+
+# the initial state is secret. It is left unobserved for one from which the symbol comes; or for one from which nothing comes; or by the symbol alone
+LEAVING = Automaton(2, 1, 1, 0, {0}, {1}, [(0, 0, 1), (1, 1, 2)])
+BLIND = Automaton(2, 1, 1, 0, {0}, {1}, [(0, 0, 1), (0, 1, 2)])
+SEEN_LATER = Automaton(2, 1, 1, 0, {0}, {1}, [(0, 1, 1), (1, 1, 2)])
+
+# behind the symbol two unobservable steps may follow, the second into the secret state
+TAIL = Automaton(3, 1, 1, 0, {3}, {1}, [(0, 1, 1), (1, 0, 2), (2, 0, 3)])
+
+# the initial state is secret and may be left unobserved, and entered again, before the symbol
+OUT_AND_BACK = Automaton(2, 2, 2, 0, {0}, {2}, [(0, 0, 1), (1, 1, 0), (0, 2, 2), (2, 2, 0)])
+
+# two events with one symbol, and unobservable steps, chosen so that of each question of the trace at most one run excuses the chamber: before the last two
+# symbols it is in 0, from which it has to go by 3, without another position; before the last four too, but there it has to go by 2
+ONE_EACH = Automaton(
+    5, 4, 4, 0, {0}, {1, 2, 3}, [(0, 1, 3), (0, 4, 2), (1, 1, 2), (1, 2, 3), (1, 4, 0), (2, 2, 5), (3, 0, 2), (5, 3, 0)], [31, 9, 9, 2, 30]
+)
+
+# an automaton, further secrets, a trace, the number of a secret; for each k from 0 on all runs that excuse the chamber under weak, and then under strong:
+# the start, and the pairs of an event and the state reached. P right after 1 2 1 1 is in 3; the last symbol came from 3, since nothing leaves 1 by it; and
+# before the last two it was in 0, from which 1 leads to 1 and no further, and an unobservable step to 2, and on to 3.
+WITNESSES = (
+    (P, (), (1, 2, 1, 1), 0, (["3"], ["3 1,3"], ["0 0,2 1,3 1,3"]), (["3"], ["3 1,3"], ["0 0,2 1,3 1,3"])),
+    (P, (), (1, 2, 1), 0, (["3"], ["0 1,1", "0 0,2 1,3"], []), (["3"], ["0 0,2 1,3"], [])),
+    (P, (), (1, 2), 0, (["0", "0 0,2"], [], ["0 1,1 2,0", "0 1,1 2,0 0,2"]), (["0", "0 0,2"], [], [])),
+    (P, (), (1,), 0, (["3"], ["0 1,1", "0 0,2 1,3"]), (["3"], ["0 0,2 1,3"])),
+    (P, (), (), 0, (["0", "0 0,2"],), (["0", "0 0,2"],)),
+    (P, (secret(1, 0),), (1, 2), 1, (["0 0,2"], ["1 2,0", "1 2,0 0,2"]), ([], [])),
+    (P, (secret(1, 0),), (1,), 1, (["1", "3"], ["0 0,2 1,3"]), (["1", "3"], [])),
+    (P, (secret(0, 3), secret(1, 1, 3)), (1, 2, 1), 2, ([], ["0 1,1", "0 0,2 1,3"]), ([], [])),
+    (P_SYMBOLS, (), (2, 0, 2, 2), 0, (["3"], ["3 1,3"], ["0 0,2 1,3 1,3"]), (["3"], ["3 1,3"], ["0 0,2 1,3 1,3"])),
+    (Q, (), (1,), 0, (["1 0,2"], ["0 1,1", "0 1,1 0,2"]), ([], [])),
+    (T, (), (), 0, (["0 0,1"],), ([],)),
+    (ONE, (), (), 0, ([],), ([],)),
+    (U, (), (1,), 0, ([],), ([],)),
+    (U, (), (1, 1), 0, (["0"],), (["0"],)),
+    (U, (secret(2, 0),), (1, 1), 1, ([], ["1 1,0"], []), ([], [], [])),
+    (STRONG_ONLY, (), (1, 1), 0, (["0"], ["1 0,2 1,0"], ["0 1,1 0,2 1,0"]), (["0"], [], [])),
+    (ONE_SYMBOL, (), (7, 2), 0, (["0"], ["2 2,0"]), (["0"], ["2 2,0"])),
+    (ONE_SYMBOL, (), (7,), 0, (["2"], ["0 0,1", "0 1,2"]), (["2"], ["0 1,2"])),
+    (LATER, (), (7, 3), 0, (["3"], [], ["0 0,1 2,3"]), (["3"], [], [])),
+    (LEAVING, (), (1,), 0, (["2"], ["0 0,1 1,2"]), (["2"], [])),
+    (BLIND, (), (1,), 0, (["2"], []), (["2"], [])),
+    (BLIND, (), (), 0, (["0 0,1"],), ([],)),
+    (SEEN_LATER, (), (1,), 0, (["1"], []), (["1"], [])),
+    (SEEN_LATER, (), (1, 1), 0, (["2"], ["1 1,2"]), (["2"], ["1 1,2"])),
+    (
+        ONE_EACH, (), (9, 2, 9, 2, 9, 9), 0, (["5"], ["3 0,2 2,5"], [], ["5 3,0 1,3 0,2 2,5"], ["0 4,2 2,5 3,0 1,3 0,2 2,5"]),
+        (["5"], ["3 0,2 2,5"], [], [], []),
+    ),
+    (TAIL, (), (1,), 0, (["1", "1 0,2", "1 0,2 0,3"], ["0 1,1", "0 1,1 0,2", "0 1,1 0,2 0,3"]), (["1", "1 0,2"], ["0 1,1", "0 1,1 0,2"])),
 )

@@ -12,24 +12,27 @@ import sys
 from calls import SIZES, Calls
 from canonical import canonical, meaning
 from examples import (
-    AFTER_ANY, ALL_SECRET, CLOSING, CORNERS, EXPLORATIONS, FIRST_LEAKS, LATER, NONE_SECRET, ONE, ONE_SYMBOL, OPENING, OWN_NUMBERS, P, P0, P1,
-    P_ENCODING, P_SECRETS, P_SYMBOLS, PASSING, Q, Q_ENCODING, STRONG_ONLY, T, U, WEAK_LATER, WIDENING, hops, rings, secret, subsets,
+    AFTER_ANY, ALL_SECRET, CLOSING, CORNERS, EXPLORATIONS, FIRST_LEAKS, LATER, NONE_SECRET, ONE, ONE_SYMBOL, OPENING, OUT_AND_BACK, OWN_NUMBERS, P,
+    P0, P1, P_ENCODING, P_SECRETS, P_SYMBOLS, PASSING, Q, Q_ENCODING, STRONG_ONLY, T, TAIL, U, WEAK_LATER, WIDENING, WITNESSES, hops, rings, secret,
+    subsets,
 )
 from explorations import explored
 from generate import (
-    ENCODING_DAMAGES, many_transitions, random_automaton, random_offers, random_secrets, spelled, wide_automaton, with_other, with_repeat,
-    with_symbols, with_transitions,
+    ENCODING_DAMAGES, many_transitions, random_automaton, random_offers, random_secrets, random_trace, spelled, wide_automaton, with_other,
+    with_repeat, with_symbols, with_transitions,
 )
 from logs import decoded, encoded
+from mistaken_witnesses import BY_ASKING, BY_WAYS, telling
 from mistakes import OF_ONE, OF_SEVERAL, mistaken, mistaken_exploration, search_case
 from runs import Automaton, Listing, Secret, TooManyRuns
 from saved import (
     ENFORCER_BYTES, ESTIMATOR_BYTES, EXPLORATION_BYTES, FURTHER_BYTES, HEADER_BYTES, JUDGEMENT_BYTES, NOTION, PENDING, PLACE_BYTES, RELEASE_BYTES,
-    SECRETS, SIZE_BYTES, SYMBOLS, WORDS, bits, estimator_bytes, header_of, secrets_bytes, size_bytes, table_of,
+    RUN_BYTES, SECRETS, SIZE_BYTES, SYMBOLS, VALID_BYTES, WORDS, bits, estimator_bytes, header_of, secrets_bytes, size_bytes, table_of,
 )
 from stored import store
+from witnesses import MOST_PAIRS, OUTPUT_BYTES, Ways, asked_after, exists, is_witness, listed, only, random_run, shortest
 
-RANDOM, SEVERAL, DAMAGED, OPEN, EXPLORED, SEARCHED, WRITTEN = 150, 48, 80, 40, 40, 304, 12
+RANDOM, SEVERAL, DAMAGED, OPEN, EXPLORED, SEARCHED, WRITTEN, EXCUSED, UNGROWN = 150, 48, 80, 40, 40, 304, 12, 12, 16
 SEED = 5
 FOLDER = pathlib.Path(__file__).resolve().parent.parent / "crates" / "gateway_calls"
 
@@ -39,6 +42,7 @@ HEADER, ESTIMATOR, JUDGEMENT, ENFORCER, RELEASE, EXPLORATION, PLACE, SIZE = (
     for size in (HEADER_BYTES, ESTIMATOR_BYTES, JUDGEMENT_BYTES, ENFORCER_BYTES, RELEASE_BYTES, EXPLORATION_BYTES, PLACE_BYTES, SIZE_BYTES)
 )
 OUTPUT = bytes(range(0xA0, 0xB1))
+ROOM, RUN, VALID = b"\xee" * OUTPUT_BYTES, b"\xee" * RUN_BYTES, b"\xee" * VALID_BYTES
 # the longest encoding there is: symbols, and 1,023 different transitions, the last with every bit 1
 MANY = many_transitions(random.Random("longest"), 1022) + [(63, 31, 63)]
 LONGEST = Automaton(63, 31, 15, 63, set(range(64)), set(range(32)), MANY, range(31, -1, -1))
@@ -1447,6 +1451,418 @@ def misread(calls):
         getattr(calls, function)(1)
 
 
+# runs that excuse the chamber
+
+
+def renew(calls, **slices):
+    """Lends other bytes, where they are not lent yet."""
+    calls.put(**{name: data for name, data in slices.items() if calls.slices[name] != data})
+
+
+def listing_of(automaton, trace, secrets=()):
+    """The listing of a trace."""
+    listing = Listing(automaton, secrets)
+    assert all(map(listing.accept, trace))
+    return listing
+
+
+def watch(calls, listing):
+    """Lends an automaton, and its estimator after a trace."""
+    calls.lend(listing.automaton)
+    calls.hold(listing)
+
+
+def excuse(calls, notion, number, k):
+    """Asks for a run, over what no function writes: which one, where there is one alone, or none; else whether any passes, or k is too far."""
+    renew(calls, output=ROOM, run=RUN)
+    asked = asked_after(calls.listing("estimator"), notion, number, k)
+    shown = asked is not None and (not exists(asked) or only(asked))
+    return (calls.witness if shown else calls.any_witness)(notion, number, k)
+
+
+def check(calls, notion, number, k, start, pairs):
+    """Asks whether pairs are such a run, over a byte that is not the answer."""
+    renew(calls, pairs=pairs)
+    if calls.slices["valid"] == bytes([is_witness(calls.asked(notion, number, k), start, pairs)]):
+        calls.put(valid=VALID)
+    return calls.check_witness(notion, number, k, start)
+
+
+def all_asks(listing):
+    """Every notion, secret and k: the secrets that are given and one more, and k up to one more than any that is not turned away."""
+    for number in range(1 + len(listing.secrets)):
+        back = listing.secrets[number].k if number < len(listing.secrets) else 0
+        for notion, k in itertools.product((0, 1), range(2 + min(back, len(listing.trace)))):
+            yield notion, number, k
+
+
+def near(rng, ask, start, pairs):
+    """A run with something else in it: a byte changed, a pair more or fewer, a byte more or fewer, another start, or asked for otherwise."""
+    notion, number, k = ask
+    pair = bytes((rng.choice((*pairs[::2], rng.randrange(4))), rng.choice((start, *pairs[1::2]))))
+    at = 2 * rng.randrange(len(pairs) // 2 + 1)
+    yield ask, start, pairs[:at] + pair + pairs[at:]
+    yield ask, start, pairs + pair
+    yield ask, start, pairs + pairs[-1:] + b"\1"[len(pairs[-1:]) :]
+    yield ask, rng.choice((start ^ 1, start + 64, rng.randrange(256))), pairs
+    yield (notion, number, rng.choice((k + 1, max(k - 1, 0)))), start, pairs
+    yield (1 - notion, number, k), start, pairs
+    yield (notion, rng.choice((number + 1, max(number - 1, 0))), k), start, pairs
+    if pairs:
+        at = 2 * rng.randrange(len(pairs) // 2)
+        yield ask, start, pairs[:at] + pairs[at + 2 :]
+        yield ask, start, pairs[:-1]
+        yield ask, start, changed(pairs, at, rng.choice((pairs[at] ^ 1, pairs[at] + 32, rng.randrange(256))))
+        yield ask, start, changed(pairs, at + 1, rng.choice((pairs[at + 1] ^ 1, pairs[at + 1] + 64, start)))
+
+
+def check_near(calls, rng, ask, count):
+    """Two runs that pass, one of them with more steps than it needs, and so many others that are near to one of them."""
+    asked = asked_after(calls.listing("estimator"), *ask)
+    for often in (0.1, 0.5):
+        run = random_run(rng, Ways(asked), often)
+        if len(run[1]) < 60:
+            assert check(calls, *ask, *run) == 1
+            others = list(near(rng, ask, *run))
+            for other, start, pairs in rng.sample(others, min(count, len(others))):
+                check(calls, *other, start, pairs)
+
+
+def witness_examples(calls):
+    """Examples by hand: every notion, secret and k after each symbol of P, and after the traces of the others; and all of their runs."""
+    calls.put(output=ROOM, run=RUN, pairs=b"", valid=VALID)
+    calls.say("witness: P, every k before its first symbol and after each; then with symbols, after the last")
+    rng = random.Random("witness")
+    for automaton, *traces in ((P, *((1, 2, 1, 1)[:count] for count in range(5))), (P_SYMBOLS, (2, 0, 2, 2))):
+        calls.lend(automaton)
+        for trace in traces:
+            observe(calls, trace)
+            for ask in all_asks(calls.listing("estimator")):
+                excuse(calls, *ask)
+    calls.say("witness: a run is written over the last one; the next symbol as if no run was asked for")
+    calls.lend(P)
+    observe(calls, (1, 2, 1, 1))
+    calls.put(output=bytes(range(0xA0, 0xAA)) + ROOM, run=(1, 2, 3))
+    for k in (2, 1, 0, 3, 2):
+        calls.witness(k % 2, 0, k)
+    calls.accept(1)
+    calls.witness(0, 0, 2)
+    for automaton, secrets, trace, number, *_ in WITNESSES:
+        calls.say(f"witness: an example by hand, secret {number}")
+        listing = listing_of(automaton, trace, secrets)
+        watch(calls, listing)
+        for ask in all_asks(listing):
+            if ask[1] in (number, len(listing.secrets)):
+                excuse(calls, *ask)
+                asked = asked_after(listing, *ask)
+                for run in listed(Ways(asked), 3) if asked else ():
+                    assert check(calls, *ask, *run) == 1
+                    for other, start, pairs in rng.sample(list(near(rng, ask, *run)), 2):
+                        check(calls, *other, start, pairs)
+
+
+def witness_positions(calls):
+    """Which positions count, where runs start, and what bytes are no run."""
+    calls.say("check: under weak a position before the first symbol counts, wherever it is; under strong each, the start and those behind the last symbol")
+    watch(calls, listing_of(OUT_AND_BACK, (2,)))
+    for pairs in ((2, 2), (0, 1, 1, 0, 2, 2), (0, 1, 1, 0, 0, 1, 1, 0, 2, 2), (0, 1, 1, 0), (0, 1, 2, 2), (2, 2, 2, 0), ()):
+        for notion in (0, 1):
+            check(calls, notion, 0, 1, 0, pairs)
+            check(calls, notion, 0, 0, 2, pairs)
+    for k in (0, 1, 2):
+        excuse(calls, 0, 0, k)
+        excuse(calls, 1, 0, k)
+    watch(calls, listing_of(TAIL, (1,)))
+    for pairs in ((1, 1), (1, 1, 0, 2), (1, 1, 0, 2, 0, 3), (1, 1, 0, 3), (0, 2, 0, 3), (1, 1, 0, 2, 0, 2)):
+        for notion in (0, 1):
+            check(calls, notion, 0, 1, 0, pairs)
+            check(calls, notion, 0, 0, 1, pairs[2:])
+    calls.say("check: P, each start; pairs that are cut, or go on; events, states and starts out of range; no transition; the other event of a symbol")
+    watch(calls, listing_of(P, (1, 2, 1, 1)))
+    whole = (0, 2, 1, 3, 1, 3)
+    for start in (0, 1, 2, 3, 4, 63, 64, 128, 192, 255):
+        check(calls, 0, 0, 2, start, whole)
+        check(calls, 1, 0, 0, start, ())
+    for size in range(6):
+        check(calls, 0, 0, 2, 0, whole[:size])
+    for pairs in (whole + (1,), whole + (1, 3), whole + (0, 2), (0,) + whole, (1, 1, 1, 3), (2, 0, 3, 1, 3, 1), (1, 3, 1, 3)):
+        check(calls, 0, 0, 2, 0, pairs)
+    for at, byte in itertools.product(range(6), (32, 33, 64, 65, 66, 67, 127, 128, 131, 255)):
+        check(calls, 1, 0, 2, 0, changed(bytes(whole), at, byte))
+    for k in (0, 1, 2, 3, 4, 15, 16, 18, 255):
+        check(calls, 0, 0, k, 0, whole)
+        check(calls, 0, 0, k, 3, whole[4:])
+    for number in (1, 2, 3, 4, 128, 255):
+        check(calls, 0, number, 2, 0, whole)
+    watch(calls, listing_of(ONE_SYMBOL, (7, 2)))
+    for start, pairs in ((2, (2, 0)), (1, (2, 0)), (2, (1, 0)), (2, (0, 0)), (0, (2, 0)), (2, (7, 0))):
+        check(calls, 0, 0, 1, start, pairs)
+    watch(calls, listing_of(ONE_SYMBOL, (7,)))
+    for pairs in ((0, 1), (1, 2), (0, 2), (1, 1), (7, 1), (7, 2)):
+        for notion in (0, 1):
+            check(calls, notion, 0, 1, 0, pairs)
+    calls.say("check: long runs, of 1,086 pairs, one more, and 2,048, around an unobservable step; with a symbol; and the last step into a secret state")
+    looping = Automaton(1, 2, 15, 1, {0}, {2}, [(1, 1, 1), (1, 2, 1), (1, 1, 0)])
+    watch(calls, listing_of(looping, (2,)))
+    for count in (1, 127, 128, 255, 256, MOST_PAIRS, MOST_PAIRS + 1, 2048):
+        for data in (bytes([1]) * (2 * count), bytes([1]) * (2 * count - 1), bytes([1]) * (2 * count - 1) + b"\0"):
+            check(calls, 0, 0, 0, 1, data)
+            check(calls, 1, 0, 0, 1, data)
+        data = bytes([1]) * count + bytes([1]) * (count % 2) + b"\2\1" + bytes([1]) * (2 * count - 4)
+        check(calls, 1, 0, 1, 1, data[:4096])
+        check(calls, 1, 0, 1, 1, changed(data[:4096], len(data[:4096]) - 2, 2))
+
+
+def chain_of(top, *further, secret=(), symbols=None):
+    """A chain of states, each left unobserved, by event 1, for the next, with further transitions, and K 15."""
+    return Automaton(63, 3, 15, 0, secret, {2, 3}, [(q, 1, q + 1) for q in range(top)] + list(further), symbols)
+
+
+def witness_long(calls):
+    """The longest runs: 63 unobservable steps before each symbol, and 126 before the first one."""
+    every = [(notion, 0, k) for notion in (0, 1) for k in (0, 1, 7, 14, 15, 16)]
+    calls.say("witness: 62 unobservable steps before each of 15 symbols, the last of which leads to a state of its own: 945 pairs, and no other run")
+    listing = listing_of(chain_of(62, (62, 2, 0), (62, 3, 63)), (2,) * 14 + (3,), (secret(15, 63), secret(15, 30), secret(14)))
+    watch(calls, listing)
+    renew(calls, output=ROOM, run=RUN)
+    calls.witness(0, 0, 15)
+    start, pairs = only(asked_after(listing, 1, 0, 15))
+    assert len(pairs) == 2 * 945
+    calls.say("check: it, and with a byte changed far behind, and cut by one pair")
+    assert check(calls, 1, 0, 15, start, pairs) == 1 and check(calls, 1, 1, 15, start, pairs) == 0 == check(calls, 1, 2, 15, start, pairs)
+    assert check(calls, 0, 1, 15, start, pairs) == 1 and check(calls, 0, 3, 15, start, pairs) == 0 == check(calls, 0, 0, 14, start, pairs)
+    check(calls, 1, 0, 15, start, changed(pairs, 1300, 2))
+    check(calls, 1, 0, 15, start, pairs[:-2])
+    for notion, number, k in [(notion, number, k) for notion in (0, 1) for number in (1, 2, 3) for k in (0, 14, 15)]:
+        asked = asked_after(listing, notion, number, k)
+        assert calls.any_witness(notion, number, k) == (17 if asked is None else 0 if exists(asked) else 16)
+    calls.say("witness: 63 unobservable steps before each of 15 symbols and more, of one event, or of two with one symbol")
+    for symbols, further, count in ((None, (), 15), ([9] * 4, ((63, 3, 0),), 17)):
+        listing = listing_of(chain_of(63, (63, 2, 0), *further, symbols=symbols), (symbols[2] if symbols else 2,) * count)
+        watch(calls, listing)
+        for ask in every:
+            calls.any_witness(*ask)
+        assert len(shortest(Ways(asked_after(listing, 0, 0, 15)))[1]) == 2 * 960
+    calls.say("witness: the first position that is not secret is 63 steps away")
+    listing = listing_of(chain_of(63, (63, 2, 0), secret=set(range(63))), (2,) * 16)
+    watch(calls, listing)
+    for ask in every:
+        calls.any_witness(*ask)
+    assert len(shortest(Ways(asked_after(listing, 0, 0, 15)))[1]) == 2 * 960
+    calls.say("witness: it is 63 steps away, and the first symbol comes 63 steps behind it: no run has fewer than 1,023 pairs")
+    ring = chain_of(63, (63, 1, 0), (62, 2, 63), secret=set(range(63)))
+    for count in (15, 16):
+        listing = listing_of(ring, (2,) * count)
+        watch(calls, listing)
+        for ask in every:
+            calls.any_witness(*ask)
+        assert len(shortest(Ways(asked_after(listing, 0, 0, 15)))[1]) == 2 * (1023 if count == 15 else 960)
+    calls.say("witness: every run, in states and events with the largest numbers; a cycle that nobody observes")
+    listing = listing_of(CORNERS, (31,) * 6, (secret(3, 60), secret(15, 61), secret(0, 60, 61)))
+    watch(calls, listing)
+    rng = random.Random("corners")
+    for number, k in ((0, 0), (0, 1), (0, 5), (0, 6), (1, 3), (2, 4), (2, 6), (3, 0), (1, 4), (3, 1), (4, 0)):
+        for notion in (0, 1):
+            excuse(calls, notion, number, k)
+            if exists(asked_after(listing, notion, number, k)):
+                check_near(calls, rng, (notion, number, k), 1)
+
+
+def witness_far(calls):
+    """17: a secret that is not given, k above its own K though not above another's, k above the accepted symbols; 10, and 16, each behind the one before."""
+    calls.say("witness: each secret by its own K, around the largest; and secrets that are not given")
+    for automaton, secrets, trace in (
+        (P, P_SECRETS, (1, 2, 1, 1)),
+        (P0, (secret(3, 1), secret(1, 0)), (1, 2, 1, 1)),
+        (P1, (secret(0, 3), secret(0), secret(2, 3)), (1, 1)),
+        (LATER, (secret(0, 2), secret(4, 3), secret(1, 0)), (7, 3, 7, 7, 3, 7)),
+        (P, (), (1,)),
+        (PASSING, (secret(15, 1), secret(15)), (0, 0, 0)),
+    ):
+        listing = listing_of(automaton, trace, secrets)
+        watch(calls, listing)
+        for ask in all_asks(listing):
+            calls.any_witness(*ask)
+        for number, k in ((0, listing.largest), (0, listing.largest + 1), (len(secrets), 15), (len(secrets) + 1, 0), (4, 0), (255, 0), (0, 255), (0, 16)):
+            excuse(calls, 0, number, k)
+    calls.say("witness: what stands past the count of further secrets counts for nothing")
+    watch(calls, listing_of(P, (1, 2, 1), (secret(3, 3),)))
+    calls.put(estimator=calls.slices["estimator"][: SECRETS + 10] + b"\xff" * 18)
+    for number, k in ((0, 2), (1, 3), (1, 2), (2, 0), (2, 255), (3, 1)):
+        excuse(calls, 0, number, k)
+    check(calls, 0, 1, 3, 0, (1, 1, 2, 0, 1, 1))
+    check(calls, 0, 2, 0, 3, ())
+    calls.say("witness: 9, 17, 10 and 16, each before the next; outputs of one byte too few, just enough, more, and none")
+    listing = listing_of(P, (1, 2))
+    watch(calls, listing)
+    for size in (OUTPUT_BYTES - 1, 0, 17, 2, OUTPUT_BYTES - 2, OUTPUT_BYTES, OUTPUT_BYTES + 1, 4096):
+        calls.put(output=b"\xee" * size, run=RUN)
+        for notion, number, k, answer in ((2, 1, 3, 9), (0, 0, 3, 17), (1, 1, 0, 17), (0, 0, 1, 16), (1, 0, 2, 16), (0, 0, 2, 0)):
+            small = answer in (0, 16) and size < OUTPUT_BYTES
+            assert calls.any_witness(notion, number, k) == (10 if small else answer)
+            if answer:
+                calls.witness(notion, number, k)
+    calls.put(run=RUN[:2], output=ROOM[1:])
+    for notion, k in ((0, 3), (0, 0), (1, 1)):
+        assert calls.witness(notion, 0, k) == 9
+    watch(calls, listing_of(P, (1, 2, 1, 1)))
+    for size in (OUTPUT_BYTES, OUTPUT_BYTES + 1, 4096):
+        calls.put(output=b"\xee" * size, run=RUN)
+        calls.witness(1, 0, 2)
+
+
+def both_torn(calls):
+    """Both functions on slices of which one is at fault: 9, with a k that is too far, and an output that is too small, and without."""
+    for notion, number, k, output in ((0, 0, 1, ROOM), (1, 0, 3, ROOM[1:])):
+        renew(calls, output=output)
+        assert calls.witness(notion, number, k) == 9
+        assert calls.check_witness(notion, number, k, 3) == 9
+
+
+def witness_torn(calls):
+    """9 by each slice and each limit."""
+    calls.say("witness and check: slices of other lengths")
+    watch(calls, listing_of(P, (1, 2, 1, 1)))
+    calls.put(output=ROOM, run=RUN, valid=VALID, pairs=(1, 3))
+    good = {name: calls.slices[name] for name in ("header", "estimator")}
+    for words in (calls.table[:2047], calls.table + (0,), ()):
+        calls.put_table(words)
+        both_torn(calls)
+    calls.put_table(table_of(P))
+    for name, sizes in (("header", (45, 47, 14, 0)), ("estimator", (171, 173, 144, 0))):
+        for size in sizes:
+            calls.put(**{name: resized(good[name], size)})
+            both_torn(calls)
+        calls.put(**{name: good[name]})
+    for size in (2, 4, 0, 1, 8):
+        calls.put(run=resized(RUN, size), output=ROOM)
+        assert calls.witness(0, 0, 1) == 9 and calls.any_witness(0, 0, 3) == 9
+    for size in (0, 2, 8):
+        calls.put(valid=b"\xee" * size)
+        assert calls.check_witness(0, 0, 1, 3) == 9 and calls.check_witness(0, 0, 3, 3) == 9
+    calls.put(run=RUN, valid=VALID)
+    calls.say("witness and check: notions, and headers and estimators outside their limits")
+    for notion in (2, 3, 128, 255):
+        assert calls.witness(notion, 0, 1) == 9 and calls.check_witness(notion, 0, 1, 3) == 9
+        assert calls.any_witness(notion, 1, 255) == 9
+    for at, byte in ((0, 64), (0, 255), (1, 16), (1, 255), (1, 1), (SYMBOLS + 1, 32), (SYMBOLS + 2, 255)):
+        calls.put(header=changed(good["header"], at, byte))
+        both_torn(calls)
+    calls.put(header=good["header"])
+    for at, byte in ((0, 3), (0, 255), (1, 32), (2, 255), (SECRETS, 4), (SECRETS, 255)):
+        calls.put(estimator=changed(good["estimator"], at, byte))
+        both_torn(calls)
+    watch(calls, listing_of(P, (1, 2, 1, 1), (secret(1, 3),)))
+    held = calls.slices["estimator"]
+    for byte in (16, 255):
+        calls.put(estimator=changed(held, SECRETS + 9, byte))
+        both_torn(calls)
+    calls.say("witness and check: symbols above 31 of events that are not observable, and slices that are lent to other functions")
+    calls.put(header=changed(good["header"], SYMBOLS, 255), estimator=held, output=ROOM, further=b"", judgement=b"", events=b"", place=b"")
+    assert calls.witness(0, 0, 2) == 0 and check(calls, 0, 0, 2, 0, (0, 2, 1, 3, 1, 3)) == 1
+    calls.put(valid=VALID, run=b"")
+    assert calls.check_witness(0, 0, 1, 0) == 0
+    calls.put(run=RUN, valid=b"", pairs=b"", output=ROOM)
+    assert calls.witness(0, 1, 1) == 16 and calls.witness(0, 0, 1) == 0
+    calls.say("witness and check: lines that are not understood")
+    for line in (
+        "witness", "witness ", "witness 0", "witness 0 0", "witness 0 0 ", "witness 0 0 0 0", "witness 0 0 256", "witness 256 0 0", "witness 0 256 0",
+        "witness 0 0 x", "witness 0  0 0", "witness  0 0 0", "witness 0 0 0 ", " witness 0 0 0", "witness 0,0,0", "witness 0 -1 0", "witnesses 0 0 0",
+        "check_witness", "check_witness 0 0 0", "check_witness 0 0 0 0 0", "check_witness 0 0 0 256", "check_witness 0 0 0 ", "any", "any ",
+        "any witness", "any witness 0 0", "any witness 0 0 0 0", "any accept 1", "any check_witness 0 0 0 0", "any any witness 0 0 0",
+        "open witness", "open witness 0 0", "open check_witness 0 0 0 0", "run", "run 4097", "run 3 0:100", "pairs", "pairs 4097", "pairs 3 0:100",
+        "valid", "valid 1 0:100",
+    ):
+        calls.misread(line)
+
+
+def witness_states(calls):
+    """States that did not grow: a run is only known to pass, and what passes goes by what the state remembers."""
+    calls.say("witness and check: states that did not grow: a symbol that no event has, a set that is empty, states that nothing leads to")
+    calls.put(output=ROOM, run=RUN, valid=VALID)
+    calls.lend(P)
+    for symbols, entries in (
+        ((31, 1), ({3}, {3}, {0})), ((1, 31), ({3}, {3}, {0})), ((0, 1), ({2}, {0}, {1})), ((1, 1), ({3}, set(), {0})), ((1, 1), ((), (), ())),
+        ((2, 2), ({0}, {1}, {0})), ((1, 2), (range(64),) * 3), ((2,), ({1}, {5, 1, 63})), ((1, 1), ({0}, {2}, {3, 2})),
+    ):
+        calls.put(estimator=estimator_bytes(symbols, entries))
+        for notion, k in itertools.product((0, 1), range(len(symbols) + 2)):
+            calls.open_witness(notion, 0, k)
+        calls.open_witness(0, 1, 0)
+        for k, start, pairs in (
+            (0, 3, ()), (0, 63, ()), (0, 2, ()), (1, 3, (1, 3)), (1, 1, (2, 0)), (1, 2, (1, 3)), (2, 0, (0, 2, 1, 3, 1, 3)), (2, 1, (2, 0, 1, 1)),
+        ):
+            check(calls, 0, 0, k, start, pairs)
+        check(calls, 1, 0, 0, 1, ())
+    calls.say("witness and check: the same, random ones")
+    for i in range(UNGROWN):
+        rng = random.Random(f"ungrown {SEED} {i}")
+        automaton = random_automaton(rng)
+        if not automaton.observable:
+            continue
+        calls.lend(automaton)
+        shown = sorted(automaton.symbol_of.values())
+        state, _ = random_state(rng, automaton.k)
+        if rng.random() < 0.7:  # symbols that events have
+            state = state[:1] + bytes(rng.choice(shown) for _ in range(15)) + state[16:]
+        calls.put(estimator=state)
+        for _ in range(3):
+            ask = rng.randrange(2), rng.randrange(1 + state[SECRETS]), rng.randrange(1 + min(4, state[0]))
+            calls.open_witness(*ask)
+            asked = calls.asked(*ask)
+            run = random_run(rng, Ways(asked), 0.3) if exists(asked) else (rng.randrange(64), b"")
+            if len(run[1]) < 40:
+                check(calls, *ask, *run)
+                for other, start, pairs in rng.sample(list(near(rng, ask, *run)), 3):
+                    check(calls, *other, start, pairs)
+
+
+def random_watch(rng):
+    """The listing of a random trace, some with further secrets."""
+    while True:
+        automaton = random_automaton(rng)
+        listing = Listing(automaton, random_secrets(rng, automaton) if rng.random() < 0.7 else (), 200)
+        try:
+            assert all(map(listing.accept, random_trace(rng, automaton, rng.choice((0, 1, 2, 3, 4, 6)))))
+            return listing
+        except TooManyRuns:
+            continue
+
+
+def random_witnesses(calls):
+    """Random automata, some with further secrets: for each mistake one that tells a mistaken program by some runs; and others with every k, and with runs
+    and what is near to them."""
+    calls.say("witness and check: random automata, each of which tells a mistaken program")
+    for name, mistake in (BY_WAYS | BY_ASKING).items():
+        rng, found = random.Random(f"witness {SEED} {name}"), []
+        while len(found) < 2:
+            listing = random_watch(rng)
+            asks = [*all_asks(listing), (0, 0, 16), (1, 4, 0), (0, 255, 0), (1, 0, 16 + rng.randrange(2))]
+            found = [(ask, run) for ask in asks for run in telling(mistake, listing, *ask) if len(run[1]) < 40]
+        watch(calls, listing)
+        chosen = rng.sample(found, min(4, len(found)))
+        for ask in dict(chosen):
+            excuse(calls, *ask)
+        for ask, run in chosen:
+            check(calls, *ask, *run)
+    calls.say("witness and check: random automata, every k, and what is near to runs")
+    for i in range(EXCUSED):
+        rng = random.Random(f"excused {SEED} {i}")
+        listing = random_watch(rng)
+        while len(listing.trace) < i % 4:
+            listing = random_watch(rng)
+        watch(calls, listing)
+        asks = list(all_asks(listing))
+        for ask in rng.sample(asks, min(16, len(asks))):
+            excuse(calls, *ask)
+        there = [ask for ask in asks if exists(asked_after(listing, *ask))]
+        for ask in rng.sample(there, min(3, len(there))):
+            check_near(calls, rng, ask, 6)
+
+
+# the parts that write and check runs
+WITNESS = witness_examples, witness_positions, witness_long, witness_far, witness_torn, witness_states, random_witnesses
+
 # the parts that write canonical forms
 CANONICAL = canonical_orders, canonical_symbols, canonical_sizes, canonical_refusals, canonical_pairs, random_canonical
 
@@ -1484,6 +1900,7 @@ def stored():
         random_explorations,
         random_first_leaks,
         *CANONICAL,
+        *WITNESS,
     ):
         part(calls)
     return {"stdin": "".join(line + "\n" for line in calls.lines).encode(), "stdout": "".join(line + "\n" for line in calls.printed).encode()}

@@ -3,6 +3,7 @@
 crates/log_sample/stdin has the logs one after another, each with its length in two bytes, high first, before it; crates/log_sample/stdout
 has what each prints. crates/leak_sample has logs in which a first leak is looked for (S-8), each with a notion, 0 weak or 1 strong, in one more byte in
 front; crates/first_leak and crates/first_strong_leak have one such log each. crates/canonical_encoding has an encoding, and its canonical form (S-9).
+crates/witness_log has a log, and the runs that excuse the chamber (S-10): one for each question that has any, so that the program has no choice.
 With `--check` nothing is written, and the exit status is 1 where the files differ from what would be written.
 """
 
@@ -11,13 +12,16 @@ import random
 import sys
 
 from canonical import canonical_output
-from examples import AFTER_ANY, CLOSING, ENCODINGS, EXAMPLES, FIRST_LEAKS, ONE_SYMBOL, P, P_ENCODING, P_SYMBOLS, T, WEAK_LATER, WIDENING
+from examples import (
+    AFTER_ANY, CLOSING, ENCODINGS, EXAMPLES, FIRST_LEAKS, ONE_EACH, ONE_SYMBOL, P, P_ENCODING, P_SYMBOLS, T, WEAK_LATER, WIDENING,
+)
 from first_leaks import leak_output
 from generate import many_transitions, random_log, with_length, with_repeat, with_symbols, with_transitions
 from logs import encoded, output
 from mistakes import OF_ONE, search_case
 from runs import Automaton
 from stored import store
+from witnesses import exists, only, witness_output
 
 RANDOM, SEARCHED, ANY = 220, 220, 80
 SEED = 6
@@ -25,6 +29,8 @@ CRATES = pathlib.Path(__file__).resolve().parent.parent / "crates"
 # the programs that look for a first leak, each with its notion, and the log that is stored for both: there are refused bytes among its events, and the first
 # strong leak comes before the first weak one
 SEARCHES = {name: (notion, WEAK_LATER, (2, 2, 0, 1, 1, 200, 3)) for notion, name in enumerate(("first_leak", "first_strong_leak"))}
+# a log for runs that excuse the chamber, with refused bytes among its events
+EXCUSED = with_length(encoded(ONE_EACH), bytes((0, 9, 2, 200, 9, 31, 2, 2, 9, 9, 3)))
 # P with one transition more, in no order, and with symbols: that of event 0, which is not observable, says nothing, and that of event 2 is needed
 UNSORTED = with_symbols(with_transitions(P, [(3, 1, 3), (0, 1, 3), (1, 2, 0), (0, 1, 1), (2, 1, 3), (0, 0, 2)]), [31, 1, 0])
 
@@ -243,10 +249,18 @@ def one_leak(notion, automaton, offered):
     return {"stdin": log, "stdout": leak_output(log, notion).encode("ascii")}
 
 
+def the_one(asked):
+    """The run that excuses the chamber, or None; there is no other."""
+    found = only(asked)
+    assert exists(asked) == (found is not None)
+    return found
+
+
 def main():
     """Writes all, or compares all: the exit status."""
     files = {"log_sample": sample(), "leak_sample": leak_sample(), **{name: one_leak(*search) for name, search in SEARCHES.items()}}
     files["canonical_encoding"] = {"stdin": encoded(UNSORTED), "stdout": canonical_output(encoded(UNSORTED))}
+    files["witness_log"] = {"stdin": EXCUSED, "stdout": witness_output(EXCUSED, the_one).encode("ascii")}
     return max([store(CRATES / name, stored) for name, stored in files.items()])
 
 

@@ -6,7 +6,8 @@ at each of its 1,022 distances. The first mismatch is printed, with what is need
 
 With `--kind weak` or `--kind strong` the program is one that looks for the first leak of a log (S-8). Its line has to come with the event that leaks, and
 the program has to end then, though the feed goes on. With `--kind canonical` it is the one that writes canonical forms (S-9), and gets encodings by
-themselves: whole, damaged, and longer than any can be.
+themselves: whole, damaged, and longer than any can be. With `--kind witness` it is the one that prints runs that excuse the chamber (S-10), when its input
+ends: each line's run is looked at by itself, since any one will do.
 """
 
 import argparse
@@ -21,18 +22,19 @@ import tempfile
 import time
 
 from canonical import canonical_output
-from examples import AFTER_ANY, ENCODINGS, EXAMPLES, FIRST_LEAKS, FORMS, P_ENCODING, P_SYMBOLS
+from examples import AFTER_ANY, ENCODINGS, EXAMPLES, FIRST_LEAKS, FORMS, P_ENCODING, P_SYMBOLS, WITNESSES
 from first_leaks import first_leak, leak_output
 from generate import cut_to_size, many_transitions, random_encoding, random_log, random_trace, spelled, with_length, with_symbols, with_transitions
 from logs import encoded, output
 from mistakes import OF_ONE, search_case
 from runs import Automaton, Listing
+from witnesses import witness_output, wrong_output
 
 # what each kind of program prints for a log, or the one that writes canonical forms for an encoding; those that look for a first leak have a notion
-NOTIONS = {"log": None, "weak": 0, "strong": 1, "canonical": None}
+NOTIONS = {"log": None, "weak": 0, "strong": 1, "canonical": None, "witness": None}
 PRINTED = {
     "log": output, "weak": lambda log: leak_output(log, 0), "strong": lambda log: leak_output(log, 1),
-    "canonical": lambda data: canonical_output(data).decode("latin-1"),
+    "canonical": lambda data: canonical_output(data).decode("latin-1"), "witness": witness_output,
 }
 # in how many pieces inputs come, one after another; in no pieces: from a file
 PIECES = 1, 1, 0, 0, 1, 1, 1, 1, 3, 3
@@ -268,9 +270,14 @@ def distances(program, log=True):
     return None
 
 
+def answered(program, log, pieces):
+    """What the program prints for a log that comes in so many pieces, and its exit status. In no pieces: from a file."""
+    return (printed_whole, printed)[pieces](program, log) if pieces < 2 else printed_slowly(program, log, pieces)
+
+
 def mismatch(program, log, expected, pieces):
-    """Says in which way the program's output differs from what is expected, or nothing. In no pieces: from a file."""
-    got, status = (printed_whole, printed)[pieces](program, log) if pieces < 2 else printed_slowly(program, log, pieces)
+    """Says in which way the program's output differs from what is expected, or nothing."""
+    got, status = answered(program, log, pieces)
     if (got, status) == (expected, 0):
         return None
     said = f"input ({len(log)} bytes, in {pieces} pieces): {log[:600].hex(' ')}"
@@ -345,6 +352,85 @@ def run_encodings(program, seed, count):
     return 0
 
 
+# runs that excuse the chamber
+
+
+def live_witnesses(program):
+    """A live feed of each example, byte by byte: all lines come when it ends, and none before. Of a log that is refused the line comes behind the encoding,
+    though the feed is still open. Says what is wrong, or nothing."""
+    feeds = [(encoding, b"", f"refused {number}\n") for encoding, number in ENCODINGS]
+    feeds += [(encoded(automaton), b"\xc8" + bytes(trace), None) for automaton, further, trace, *_ in WITNESSES if not further]
+    for encoding, offered, refused in feeds:
+        with subprocess.Popen([program], stdin=subprocess.PIPE, stdout=subprocess.PIPE, bufsize=0) as process:
+            wrong = live_runs(process, encoding, offered, refused)
+            process.kill()
+            if wrong:
+                return wrong
+    return None
+
+
+def live_runs(process, encoding, offered, refused):
+    """One of them."""
+    feed_encoding(process, encoding)
+    if refused:
+        return None if ended(process, refused) else "live feed: a refused log does not say so at once"
+    for at in range(len(offered)):
+        process.stdin.write(offered[at : at + 1])
+    if line_of(process, 0.05):
+        return f"live feed: a line before the end of {offered}"
+    process.stdin.close()
+    wrong = wrong_output(with_length(encoding, offered), process.stdout.read().decode("latin-1"))
+    return wrong and f"live feed of {offered}: {wrong}"
+
+
+def witness_failures(program):
+    """Where a read fails nothing is printed, behind the encoding or behind events."""
+    front, failed = with_length(P_ENCODING, b""), (b"", b"read failed\n")
+    log = with_length(P_ENCODING, bytes((1, 2, 1, 1)))
+    feeds = (front[:5], *failed), (front, *failed), (front + b"\x00", *failed), (log, *failed)
+    return failures(program, feeds, (("a log", log), ("an idle log", front), ("a refused log", log[:5])))
+
+
+def deep_logs():
+    """Logs whose runs are the longest: 63 unobservable steps before each symbol; the first position that is not secret 63 steps away, and the first symbol
+    63 steps behind it; and a K of 0, no events, more of them than K."""
+    chain = [(q, 1, q + 1) for q in range(63)]
+    for secret, further in ((set(), [(63, 2, 0)]), (set(range(63)), [(63, 2, 0)]), (set(range(63)), [(63, 1, 0), (62, 2, 63)])):
+        for k, count in ((15, 15), (15, 16), (15, 3), (15, 0), (0, 4), (7, 300)):
+            yield with_length(encoded(Automaton(63, 2, k, 0, secret, {2}, chain + further)), bytes([2] * count))
+
+
+def witness_cases(seed, count):
+    """The logs that were thought out, a long one, and random ones: a number, the log, and in how many pieces it comes."""
+    examples = [with_length(encoded(automaton), bytes(trace)) for automaton, further, trace, *_ in WITNESSES if not further]
+    for i, log in enumerate([*examples, *deep_logs(), *long_logs(random.Random(f"{seed} -1"), None)]):
+        yield -1 - i, log, i % 2
+    for i in range(count):
+        yield i, random_log(random.Random(f"{seed} {i}"), PRINTED["witness"])[0], PIECES[i % 10]
+
+
+def run_witnesses(program, seed, count):
+    """Runs the logs of a seed against the program that prints runs: the exit status."""
+    found = live_witnesses(program) or witness_failures(program) or distances(program)
+    if found:
+        print(found)
+        return 1
+    runs = none = refused = 0
+    for i, log, pieces in witness_cases(seed, count):
+        got, status = answered(program, log, pieces)
+        found = wrong_output(log, got) or status and f"status {status}"
+        if found:
+            print(f"seed {seed}, log {i}: mismatch\ninput ({len(log)} bytes, in {pieces} pieces): {log[:600].hex(' ')}")
+            print(f"{found}\nprinted:\n{readable(got)}")
+            return 1
+        none += got.count("no alibi")
+        refused += got.startswith("refused")
+        runs += sum(line.startswith(("weak", "strong")) and not line.endswith("alibi") for line in got.splitlines())
+    counted = f"{runs} runs that pass, {none} lines without one, {refused} logs refused"
+    print(f"seed {seed}: {count} random logs and long ones, {counted}, 0 mismatches; a live feed, failures and repeats as expected")
+    return 0
+
+
 def main():
     """Runs the logs, or the encodings."""
     words = argparse.ArgumentParser(description=__doc__, formatter_class=argparse.RawDescriptionHelpFormatter)
@@ -355,6 +441,8 @@ def main():
     chosen = words.parse_args()
     if chosen.kind == "canonical":
         return run_encodings(chosen.program, chosen.seed, chosen.count)
+    if chosen.kind == "witness":
+        return run_witnesses(chosen.program, chosen.seed, chosen.count)
     notion = NOTIONS[chosen.kind]
     found = live_feed(chosen.program) if notion is None else live_search(chosen.program, notion)
     found = found or log_failures(chosen.program, notion) or distances(chosen.program)

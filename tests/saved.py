@@ -1,11 +1,13 @@
 """The bytes of tables, headers and saved states (include/opacity.h), of automata and of traces whose runs are listed."""
 
 from runs import Automaton, Secret
+from witnesses import Asked
 
 WORDS = 2048
 HEADER_BYTES, FURTHER_BYTES, ESTIMATOR_BYTES, JUDGEMENT_BYTES, ENFORCER_BYTES, RELEASE_BYTES, EXPLORATION_BYTES = 46, 28, 172, 9, 206, 2, 4
-PLACE_BYTES, SIZE_BYTES = 8, 8
+PLACE_BYTES, SIZE_BYTES, RUN_BYTES, VALID_BYTES = 8, 8, 3, 1
 SYMBOLS = 14  # where a header has the symbols
+ENTRIES = 16  # where an estimator has its sets of states
 SECRETS = 144  # where an estimator has its further secrets
 NOTION, PENDING = 172, 173  # where an enforcer has its notion, and the number of its pending symbols, which follow it
 FURTHER = 3  # the most further secrets
@@ -124,6 +126,21 @@ def place_bytes(place):
 def size_bytes(count):
     """How many bytes a canonical form has, lowest byte first."""
     return count.to_bytes(SIZE_BYTES, "little")
+
+
+def run_bytes(start, pairs):
+    """The start of a run, and how many pairs it has, lower byte first."""
+    return bytes([start]) + (len(pairs) // 2).to_bytes(2, "little")
+
+
+def asked_of(automaton, estimator, notion, number, k):
+    """What is asked for by the bytes of an estimator within its limits, whether it grew or not: the last k of the symbols that it has, and the set of
+    states at place k; or None where the secret is not given, or k is above its K or above the number of symbols."""
+    secrets = [Secret(automaton.secret, automaton.k)] + given_of(estimator[SECRETS : SECRETS + FURTHER_BYTES])
+    if len(secrets) <= number or min(secrets[number].k, estimator[0]) < k:
+        return None
+    entry = int.from_bytes(estimator[ENTRIES + 8 * k : ENTRIES + 8 * k + 8], "little")
+    return Asked(automaton, notion, secrets[number].states, frozenset(members(entry)), tuple(estimator[k:0:-1]))
 
 
 def safe_of(listing, notion):

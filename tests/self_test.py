@@ -6,7 +6,8 @@ answers worked out by hand, against runs that are listed one by one as their sta
 (S-7) against what was worked out by hand, against every trace up to a length, and against how long the last symbols of traces are held; first leaks
 (S-8) against what was worked out by hand, against the lines of logs, and against runs that are listed one by one; canonical forms (S-9) against what
 was written out by hand, against what encodings say, of all small ones and of random ones with each bit turned over; and the stored calls that write
-them against mistaken writers.
+them against mistaken writers; and runs that excuse the chamber (S-10) against what was worked out by hand, against whole runs that are listed one by one,
+and against the verdicts, both ways; and the stored calls that write and check them against mistaken programs.
 """
 
 import itertools
@@ -18,22 +19,24 @@ from calls import Calls, elements
 from canonical import canonical, canonical_output, meaning, written
 from examples import (
     ENCODINGS, ESTIMATES, EXAMPLES, EXPLORATIONS, FIRST_LEAKS, FORMS, OPENINGS, P, P_ENCODING, P_SECRETS, P_SYMBOLS, Q, Q_ENCODING, SEVERAL, T,
-    by_bits, hops, rings, secret, subsets,
+    WITNESSES, by_bits, hops, rings, secret, subsets,
 )
 from explorations import Exploration, explored, reached, waits_of
 from first_leaks import first_leak, leak_output
-from gateway_calls import CANONICAL
+from gateway_calls import CANONICAL, WITNESS
 from generate import (
     ENCODING_DAMAGES, large_automaton, many_transitions, random_automaton, random_byte, random_log, random_offers, random_secrets, random_trace,
     spelled, wide_automaton, with_length, with_repeat, with_symbols, with_transitions,
 )
 from logs import Refused, decoded, encoded, output, refused_line, steps
+from mistaken_witnesses import MISTAKEN, Case, told as told_witnesses
 from mistaken_writers import MISTAKEN_WRITERS, as_listed, told
 from runs import Automaton, Listing, TooManyRuns
 from saved import (
-    automaton_of, exploration_bytes, given_of, grown_enforcer, grown_estimator, header_of, judgement_bytes, place_bytes, safe_of, secrets_bytes,
-    size_bytes, table_of, wait,
+    ESTIMATOR_BYTES, HEADER_BYTES, automaton_of, exploration_bytes, given_of, grown_enforcer, grown_estimator, header_of, judgement_bytes,
+    place_bytes, run_bytes, safe_of, secrets_bytes, size_bytes, table_of, wait,
 )
+from witnesses import Ways, asked_after, exists, is_witness, listed, only, random_run, witness_output, wrong_output
 
 
 def test_examples():
@@ -115,11 +118,33 @@ def form_lines():
     return f"{said} 2210: {len(form)} bytes, {form.hex(' ')}\n{said} {len(form) - 1}: refused 10\n"
 
 
+def shown_witness(listing, notion, number, k):
+    """The line of a witness of the example in C, where there is at most one: its start and steps, whether it passes, with how many other starts it does,
+    and whether it does without its last byte."""
+    asked = asked_after(listing, notion, number, k)
+    said = f"{('weak', 'strong')[notion]}, secret {number}, k {k}: "
+    if asked is None or not exists(asked):
+        return f"{said}refused {17 if asked is None else 16}\n"
+    start, pairs = only(asked)
+    words = [f"from {start}"] + [f"{event},{state}" for event, state in zip(pairs[::2], pairs[1::2])]
+    passing = [other for other in range(256) if is_witness(asked, other, pairs)]
+    short = f", without the last byte {'' if is_witness(asked, start, pairs[:-1]) else 'not '}valid" if pairs else ""
+    return f"{said}{' '.join(words)}: {'' if start in passing else 'not '}valid, {len(set(passing) - {start})} with other starts{short}\n"
+
+
+def witness_lines():
+    """Those of the example in C: on P after 1 2 1 1, with a further secret, each by its own K, and one that is not given."""
+    listing = Listing(P, (secret(1, 3),))
+    assert all(map(listing.accept, (1, 2, 1, 1)))
+    asked = (0, 0, 0), (0, 0, 1), (0, 0, 2), (1, 0, 2), (0, 0, 3), (0, 1, 0), (0, 1, 1), (1, 1, 2), (0, 2, 0)
+    return "".join(shown_witness(listing, *call) for call in asked)
+
+
 def test_programs():
     """The stored runs of the log program, 01's listing and 02's idle log with S-5's column: the lister gives them, and they are among the answers
-    that were written by hand. Those of the programs that look for a first leak, with each notion's place by hand, and of the one that writes a
-    canonical form, bit by bit. The documents and the example in C have the same as the log program, and the example goes on with a further secret,
-    first leaks, explorations and canonical forms."""
+    that were written by hand. Those of the programs that look for a first leak, with each notion's place by hand, of the one that writes a
+    canonical form, bit by bit, and of the one that prints runs that excuse the chamber, by hand. The documents and the example in C have the same as the
+    log program, and the example goes on with a further secret, first leaks, explorations, canonical forms and witnesses."""
     top = pathlib.Path(__file__).resolve().parent.parent
     stored = {}
     for name in ("opacity_log", "idle_log"):
@@ -136,8 +161,14 @@ def test_programs():
     rising = "000000 00000 000010", "000000 00001 000001", "000000 00001 000011", "000001 00010 000000", "000010 00001 000011", "000011 00001 000011"
     form = by_bits("000011 00010 0010 000000 0000000110 1", "0100 011", "00000 00001 00000", *rising)
     assert canonical_output((folder / "stdin").read_bytes()) == (folder / "stdout").read_bytes() == form != (folder / "stdin").read_bytes()
+    folder = top / "crates" / "witness_log"
+    weak = "weak 0 5", "weak 1 3 0,2 2,5", "weak 2 no alibi", "weak 3 5 3,0 1,3 0,2 2,5", "weak 4 0 4,2 2,5 3,0 1,3 0,2 2,5"
+    strong = "strong 0 5", "strong 1 3 0,2 2,5", "strong 2 no alibi", "strong 3 no alibi", "strong 4 no alibi"
+    text = "".join(f"{line}\n" for line in (*weak, *strong, "end 6"))
+    assert witness_output((folder / "stdin").read_bytes()) == (folder / "stdout").read_text("ascii") == text
     several = several_lines(P, (secret(1, 3),), (1, 2, 1, 1))
-    assert (top / "c" / "listing.txt").read_text("ascii") == stored["opacity_log"] + several + leak_lines() + explored_lines() + form_lines()
+    listing = stored["opacity_log"] + several + leak_lines() + explored_lines() + form_lines() + witness_lines()
+    assert (top / "c" / "listing.txt").read_text("ascii") == listing
     further = next(line for line in (top / "docs/FORMATS.md").read_text("utf-8").splitlines() if line.startswith("    02  02 00"))
     assert bytes.fromhex(further) == secrets_bytes([secret(2, 1, 63), secret(15)])
     for name in ("README.md", "docs/FORMATS.md"):
@@ -693,6 +724,111 @@ def test_spellings(count, seed):
     return compared
 
 
+def by_words(text):
+    """A start and pairs that are written out."""
+    start, *pairs = text.split()
+    return int(start), bytes(int(number) for pair in pairs for number in pair.split(","))
+
+
+def test_witnesses():
+    """S-10, by hand: all runs that excuse the chamber, with k up to K and the accepted symbols; what is printed; and where nothing is asked."""
+    for automaton, further, trace, number, *runs in WITNESSES:
+        listing = Listing(automaton, further)
+        assert all(map(listing.accept, trace))
+        for notion in (0, 1):
+            assert len(runs[notion]) == 1 + min(len(trace), listing.secrets[number].k)
+            for k, texts in enumerate(runs[notion]):
+                asked, expected = asked_after(listing, notion, number, k), [by_words(text) for text in texts]
+                assert sorted(listed(Ways(asked), 9)) == sorted(expected), (automaton.transitions, trace, notion, k)
+                assert exists(asked) == bool(expected) and all(is_witness(asked, *run) for run in expected)
+                assert only(asked) == (expected[0] if len(expected) == 1 else None)
+            for absent in ((number, len(runs[notion])), (1 + len(further), 0), (255, 0), (number, 255)):
+                asked = asked_after(listing, notion, *absent)
+                assert asked is None and not exists(asked) and not is_witness(asked, automaton.initial, b"")
+    lines = "".join(f"{word} {line}\n" for word in ("weak", "strong") for line in ("0 3", "1 3 1,3", "2 0 0,2 1,3 1,3"))
+    log = with_length(P_ENCODING, bytes((1, 0, 2, 2, 1, 200, 1)))
+    assert witness_output(log) == lines + "end 4\n" and wrong_output(log, lines + "end 4\n") is None
+    for old, new in (("end 4", "end 7"), ("0 3", "0 1"), ("1 3 1,3", "1 no alibi"), ("1,3 1,3", "1,3"), ("0 3\n", ""), ("1,3\n", "1,3 \n"), ("2 0", "2")):
+        assert wrong_output(log, lines.replace(old, new, 1) + "end 4\n".replace(old, new)), (old, new)
+    assert run_bytes(63, bytes(2 * 1086)) == bytes((63, 0x3E, 4)) and run_bytes(0, b"") == bytes(3)
+    for encoding, number in ENCODINGS:
+        assert witness_output(with_length(encoding, b"\x01")) == f"refused {number}\n"
+
+
+def cut_runs(automaton, trace, k, runs):
+    """Of whole runs, each a list of transitions, what is left behind all but the last k symbols: the start and the pairs, with the positions of the whole
+    run."""
+    for run in runs:
+        positions = states_of(automaton, run)
+        at = next(place for place, (count, _) in enumerate(positions) if count == len(trace) - k)
+        yield positions[at][1], bytes(byte for step in run[at:] for byte in step), positions
+
+
+def test_all_witnesses(count, seed):
+    """Runs that excuse the chamber against whole runs, listed one by one, each a list of transitions, and what is left of them behind all but the last k
+    symbols: the moments of count n - k, and from there on, by the users' words. How many there were, and questions without."""
+    compared = [0, 0, 0]
+    for i, rng, automaton, further in with_further(f"witnesses {seed}", count):
+        listing = Listing(automaton, further, 20000)
+        trace = random_trace(rng, automaton, rng.choice((0, 1, 2, 3, 4)))
+        runs = list(itertools.islice(every_run(automaton, trace, automaton.bound()), 301))
+        if 300 < len(runs):
+            continue
+        assert all(map(listing.accept, trace))
+        for notion, number in itertools.product((0, 1), range(1 + len(further))):
+            states, most = listing.secrets[number]
+            for k in range(min(most, len(trace)) + 1):
+                asked, n, good = asked_after(listing, notion, number, k), len(trace), set()
+                for start, pairs, positions in cut_runs(automaton, trace, k, runs):
+                    weak = any(count == n - k and q not in states for count, q in positions)
+                    strong = not any(n - k <= count and q in states for count, q in positions)
+                    excuses = (weak, strong)[notion]
+                    assert excuses == is_witness(asked, start, pairs) == Ways(asked).passes(start, pairs), (seed, i)
+                    compared[2] += not excuses
+                    if excuses:
+                        good.add((start, pairs))
+                assert exists(asked) == bool(good), (seed, i)
+                found = listed(Ways(asked), 40)
+                short = {run for run in found if few_unobserved(automaton, run[1])}
+                assert short <= good and (len(found) == 40 or short == good), (seed, i)
+                compared[0 if good else 1] += 1
+    return compared
+
+
+def few_unobserved(automaton, pairs):
+    """Whether a run has at most so many unobservable steps before, between and after its symbols as the listed ones."""
+    stretches = "".join("|" if event in automaton.observable else "-" for event in pairs[::2]).split("|")
+    return max(map(len, stretches)) <= automaton.bound()
+
+
+def test_excused(count, seed):
+    """The verdicts, both ways: none exactly where there is such a run for every k up to K and the accepted symbols; leak l exactly where there is none for
+    l and one for every smaller k. And random runs pass, in either way of looking at them, and with a byte changed in both or in neither."""
+    compared = [0, 0, 0]
+    for i, rng, automaton, further in with_further(f"excused {seed}", count):
+        listing = Listing(automaton, further, 200)
+        try:
+            for symbol in [None, *random_trace(rng, automaton, rng.choice((2, 5, 9, 20)))]:
+                assert symbol is None or listing.accept(symbol)
+                for notion, number in itertools.product((0, 1), range(1 + len(further))):
+                    verdict = listing.verdicts(notion)[number]
+                    asks = [asked_after(listing, notion, number, k) for k in range(min(listing.secrets[number].k, len(listing.trace)) + 1)]
+                    there = [exists(asked) for asked in asks]
+                    assert verdict == (there.index(False) if False in there else None), (seed, i)
+                    compared[verdict is not None] += 1
+        except TooManyRuns:
+            continue
+        for asked in filter(exists, asks):
+            start, pairs = random_run(rng, Ways(asked), 0.4)
+            assert is_witness(asked, start, pairs) and Ways(asked).passes(start, pairs), (seed, i)
+            for _ in range(4 if pairs else 0):
+                other = bytearray(pairs)
+                other[rng.randrange(len(pairs))] = rng.choice((*pairs, rng.randrange(256)))
+                assert is_witness(asked, start, other) == Ways(asked).passes(start, other), (seed, i)
+            compared[2] += 1
+    return compared
+
+
 class Lent(Calls):
     """Calls that remember what each call of canonical was lent."""
 
@@ -716,6 +852,50 @@ def test_writers(least):
     return len(calls.lent), min(found.values())
 
 
+class LentWitness(Calls):
+    """Calls that remember what each call of witness, plain or behind `any`, and of check_witness was given and lent, but on states that did not grow."""
+
+    def __init__(self):
+        super().__init__()
+        self.cases = []
+
+    def remember(self, kind, function, notion, number, k, start=0):
+        """One of them."""
+        whole = len(self.slices["estimator"]) == ESTIMATOR_BYTES and len(self.slices["header"]) == HEADER_BYTES
+        listing = self.listing("estimator") if whole and self.grew() else None
+        sound = self.watching(function, notion)
+        if listing or not sound:
+            self.cases.append(Case(kind, sound, notion, number, k, start, listing, *(self.slices[name] for name in ("output", "run", "pairs", "valid"))))
+
+    def witness(self, *asked):
+        """As it is."""
+        self.remember("witness", "witness", *asked)
+        return super().witness(*asked)
+
+    def any_witness(self, *asked):
+        """As it is."""
+        self.remember("any", "witness", *asked)
+        return super().any_witness(*asked)
+
+    def check_witness(self, *asked):
+        """As it is."""
+        self.remember("check", "check_witness", *asked)
+        return super().check_witness(*asked)
+
+
+def test_mistaken_witnesses(least):
+    """Each mistaken program is told by so many of the stored calls; of one that takes something else to be asked for, or goes by other ways, the checker
+    is, and nearly always the writer. How many calls there are, the fewest by which one is told, and how many writers and checkers are told."""
+    calls = LentWitness()
+    for part in WITNESS:
+        part(calls)
+    found = told_witnesses(calls.cases, 2 * least)
+    few = [name for name, counts in found.items() if sum(counts) < least or name.startswith(("ways", "asked")) and counts[1] < least]
+    assert not few, few
+    writers, checkers = ([name for name, counts in found.items() if counts[place]] for place in (0, 1))
+    return len(calls.cases), min(map(sum, found.values())), len(writers), len(checkers)
+
+
 if __name__ == "__main__":
     test_examples()
     test_sizes()
@@ -727,6 +907,7 @@ if __name__ == "__main__":
     test_explorations()
     test_first_leaks()
     test_forms()
+    test_witnesses()
     compared = test_merging(400, 1)
     separate, shared = test_meaning(600, 1)
     print(f"examples as expected, {compared} listings compared run by run; as without symbols: {separate} symbols of one event each, {shared} others")
@@ -742,4 +923,11 @@ if __name__ == "__main__":
     print(f"canonical forms: {forms} of {small} small encodings, {spellings} of random ones; a bit turned over: {kept} the same, {others} others")
     calls, fewest = test_writers(5)
     print(f"canonical forms: {len(MISTAKEN_WRITERS)} mistaken writers are told, each by {fewest} or more of {calls} stored calls")
+    excused, none, others = test_all_witnesses(1000, 1)
+    print(f"runs that excuse: {excused} questions compared run by run, and {none} without one; {others} other runs")
+    opaque, leaking, passed = test_excused(600, 1)
+    print(f"runs that excuse: for {opaque} verdicts of none, and not for {leaking} leaks; {passed} random runs and others near them")
+    calls, fewest, writers, checkers = test_mistaken_witnesses(5)
+    mistaken = f"{len(MISTAKEN)} mistaken programs are told, each by {fewest} or more of {calls} stored calls"
+    print(f"runs that excuse: {mistaken}; {writers} by what they write, {checkers} by what they let pass")
     sys.exit(0)

@@ -197,7 +197,7 @@ fn image_by(table: &[u64], events: u64, set: u64) -> u64
 }
 
 // The states of the first `pairs` pairs from which the events of a mask lead into a set.
-fn preimage_by(table: &[u64], events: u64, pairs: usize, set: u64) -> u64
+pub fn preimage_by(table: &[u64], events: u64, pairs: usize, set: u64) -> u64
     requires { ⌜ (length (now table) ≡ 2048) × ((e : ℕ) → In e events → e < 32) × (pairs ≤ 32) ⌝ }
     ensures { λ r. ⌜ Is r (λ q. (q < 2 * pairs) × Preimage (Listed (now (table .entry)) events) set q) ⌝ }
 {

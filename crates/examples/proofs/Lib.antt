@@ -1,4 +1,4 @@
--- Every row of the table holds: EveryRow, every-row-holds.
+-- Every row of the table holds: EveryRow, every-row-holds. A witness of 02, S-10: WitnessOfP.
 pub mod Booleans
 pub mod Checks
 pub mod Search
@@ -9,3 +9,4 @@ pub mod NotionLaws
 pub mod NotionChecks
 pub mod Descriptions
 pub mod EveryRow
+pub mod WitnessOfP

@@ -10,7 +10,8 @@ use Rattle.leaks.proofs.Agreed.{same-finding}
 use Rattle.layout.specs.Layout.{headerAt}
 use Rattle.layout.proofs.HeaderBytes.{SameHeaders, same-k, same-secret, same-symbols, headers-back}
 use Rattle.gateway.specs.Interface.{VerifierSizes, FreshSizes, Fresh, Accept, StartSizes, Start, OfferSizes, Offer, ExploreSizes, Explore}
-use Rattle.gateway.specs.Interface.{FirstLeakSizes, FirstLeakCall}
+use Rattle.gateway.specs.Interface.{FirstLeakSizes, FirstLeakCall, WitnessSizes, Witnessing, CheckWitnessSizes, CheckingWitness}
+use Rattle.gateway.proofs.Relabelled.{same-witness-writing, same-witness-checking}
 
 module _ (a b : List ℕ) (x : SameHeaders a b) where
   verifier-sizes : (estimator judgement : List ℕ) → VerifierSizes a estimator judgement → VerifierSizes b estimator judgement
@@ -33,6 +34,14 @@ module _ (a b : List ℕ) (x : SameHeaders a b) where
   leak-sizes : (notion : ℕ) (further place : List ℕ) → FirstLeakSizes a notion further place → FirstLeakSizes b notion further place
   leak-sizes notion further place s =
       record { header-size = x .other-size; notion-known = s .notion-known; further-size = s .further-size; place-size = s .place-size }
+
+  witness-sizes : (notion : ℕ) (estimator run : List ℕ) → WitnessSizes a notion estimator run → WitnessSizes b notion estimator run
+  witness-sizes notion estimator run s =
+      record { header-size = x .other-size; notion-known = s .notion-known; estimator-size = s .estimator-size; run-size = s .run-size }
+
+  check-sizes : (notion : ℕ) (estimator valid : List ℕ) → CheckWitnessSizes a notion estimator valid → CheckWitnessSizes b notion estimator valid
+  check-sizes notion estimator valid s =
+      record { header-size = x .other-size; notion-known = s .notion-known; estimator-size = s .estimator-size; valid-size = s .valid-size }
 
 module _ (t a b : List ℕ) (x : SameHeaders a b) where
   fresh-to : (further estimator judgement : List ℕ) (n : ℕ) (after told : List ℕ) → Fresh t a further estimator judgement n after told
@@ -97,6 +106,28 @@ module _ (t a b : List ℕ) (x : SameHeaders a b) where
       FirstLeakCall.found (leak-sizes a b x notion further place s) {p = p}
       (same-finding t (headerAt a) (headerAt b) (same-symbols a b x t) (same-secret a b x) (same-k a b x) _ _ _ _ .0 o) saved
 
+  witness-to : (notion secret k : ℕ) (estimator output run : List ℕ) (n : ℕ) (after out : List ℕ)
+      → Witnessing t a notion secret k estimator output run n after out → Witnessing t b notion secret k estimator output run n after out
+  witness-to notion secret k estimator output run n after out (Witnessing.size bad) =
+      Witnessing.size (λ s. bad (witness-sizes b a (headers-back a b x) notion estimator run s))
+  witness-to notion secret k estimator output run n after out (Witnessing.refused s o) =
+      Witnessing.refused (witness-sizes a b x notion estimator run s)
+      (same-witness-writing t (headerAt a) (headerAt b) (same-symbols a b x t) (same-secret a b x) (same-k a b x) _ _ secret k output _ _ .0 o)
+  witness-to notion secret k estimator output run n after out (Witnessing.written s o saved) =
+      Witnessing.written (witness-sizes a b x notion estimator run s)
+      (same-witness-writing t (headerAt a) (headerAt b) (same-symbols a b x t) (same-secret a b x) (same-k a b x) _ _ secret k output _ _ .0 o) saved
+
+  check-to : (notion secret k start : ℕ) (estimator pairs valid : List ℕ) (n : ℕ) (out : List ℕ)
+      → CheckingWitness t a notion secret k start estimator pairs valid n out → CheckingWitness t b notion secret k start estimator pairs valid n out
+  check-to notion secret k start estimator pairs valid n out (CheckingWitness.size bad) =
+      CheckingWitness.size (λ s. bad (check-sizes b a (headers-back a b x) notion estimator valid s))
+  check-to notion secret k start estimator pairs valid n out (CheckingWitness.refused s o) =
+      CheckingWitness.refused (check-sizes a b x notion estimator valid s)
+      (same-witness-checking t (headerAt a) (headerAt b) (same-symbols a b x t) (same-secret a b x) (same-k a b x) _ _ secret k start pairs _ .0 o)
+  check-to notion secret k start estimator pairs valid n out (CheckingWitness.checked s holds o) =
+      CheckingWitness.checked (check-sizes a b x notion estimator valid s) holds
+      (same-witness-checking t (headerAt a) (headerAt b) (same-symbols a b x t) (same-secret a b x) (same-k a b x) _ _ secret k start pairs _ .0 o)
+
 module _ (t a b : List ℕ) (x : SameHeaders a b) where
   pub same-fresh : (further estimator judgement : List ℕ) (n : ℕ) (after told : List ℕ)
       → Fresh t a further estimator judgement n after told ↔ Fresh t b further estimator judgement n after told
@@ -129,3 +160,17 @@ module _ (t a b : List ℕ) (x : SameHeaders a b) where
       → FirstLeakCall t a notion further events place n out ↔ FirstLeakCall t b notion further events place n out
   same-leak notion further events place n out =
       (leak-to t a b x notion further events place n out, leak-to t b a (headers-back a b x) notion further events place n out)
+
+  pub same-witness : (notion secret k : ℕ) (estimator output run : List ℕ) (n : ℕ) (after out : List ℕ)
+      → Witnessing t a notion secret k estimator output run n after out ↔ Witnessing t b notion secret k estimator output run n after out
+  same-witness notion secret k estimator output run n after out = (
+    witness-to t a b x notion secret k estimator output run n after out,
+    witness-to t b a (headers-back a b x) notion secret k estimator output run n after out,
+  )
+
+  pub same-check : (notion secret k start : ℕ) (estimator pairs valid : List ℕ) (n : ℕ) (out : List ℕ)
+      → CheckingWitness t a notion secret k start estimator pairs valid n out ↔ CheckingWitness t b notion secret k start estimator pairs valid n out
+  same-check notion secret k start estimator pairs valid n out = (
+    check-to t a b x notion secret k start estimator pairs valid n out,
+    check-to t b a (headers-back a b x) notion secret k start estimator pairs valid n out,
+  )

@@ -2,6 +2,7 @@
 -- lent slice as it was. A slice of another length than its layout has, and a notion that is none, get 9 before anything else.
 use Prim.Native.Nat.{ℕ, zero, suc, _≤_, _<_}
 use mathlib.Core.Path.{_≡_}
+use mathlib.Core.Bool.{Bool, true, false}
 use mathlib.Core.List.{List}
 use lib.ListN.{length, getD}
 use Rattle.automaton.specs.Run.{automatonOf}
@@ -24,10 +25,11 @@ use Rattle.canonical.specs.Writing as canonical
 use Rattle.canonical.specs.Writing.{Writing}
 use Rattle.leaks.specs.FirstLeaks as leaking
 use Rattle.leaks.specs.FirstLeaks.{Finding}
+use Rattle.witness.specs.Answers.{Told, Says, WritingIn, CheckingIn}
 use Rattle.layout.specs.Sizes as sizes
 use Rattle.layout.specs.Layout.{headerAt, headerBytes, furtherAt, estimatorAt, estimatorBytes, EstimatorSaved}
 use Rattle.layout.specs.Layout.{notionAt, enforcerAt, enforcerBytes, EnforcerSaved, judgementBytes, releaseBytes, explorationBytes, ExplorationSaved}
-use Rattle.layout.specs.Layout.{firstLeakBytes, writtenBytes, NumberSaved}
+use Rattle.layout.specs.Layout.{firstLeakBytes, writtenBytes, NumberSaved, runBytes, RunSaved, validBytes}
 
 -- decode: the answer, the table after and the header's bytes after
 pub data Decode (encoding table header : List ℕ) : ℕ → List ℕ → List ℕ → Type 0 where
@@ -145,6 +147,45 @@ pub data CanonicalCall (encoding output lent : List ℕ) : ℕ → List ℕ → 
       → CanonicalCall encoding output lent n output lent
   written : length lent ≡ sizes.writtenSize → {n : ℕ} {after : List ℕ} → Writing encoding output (canonical.wrote n) after → NumberSaved n
       → CanonicalCall encoding output lent 0 after (writtenBytes n)
+
+-- the slices of a call for a witness have the lengths of their layouts, and the notion is one
+pub record WitnessSizes (header : List ℕ) (notion : ℕ) (estimator run : List ℕ) : Type 0 where
+  pub header-size : length header ≡ sizes.headerSize
+  pub notion-known : notion ≤ sizes.strongByte
+  pub estimator-size : length estimator ≡ sizes.estimatorSize
+  pub run-size : length run ≡ sizes.runSize
+
+-- witness: the answer, the output after and the run's bytes after
+pub data Witnessing (t header : List ℕ) (notion secret k : ℕ) (estimator output run : List ℕ) : ℕ → List ℕ → List ℕ → Type 0 where
+  size : (WitnessSizes header notion estimator run → ⊥) → Witnessing t header notion secret k estimator output run 9 output run
+  refused : WitnessSizes header notion estimator run → {n : ℕ}
+      → WritingIn t (headerAt header) (estimatorAt estimator) (notionAt notion) secret k output (Told.refused n) output
+      → Witnessing t header notion secret k estimator output run n output run
+  written : WitnessSizes header notion estimator run → {start pairs : ℕ} {after : List ℕ}
+      → WritingIn t (headerAt header) (estimatorAt estimator) (notionAt notion) secret k output (Told.written start pairs) after → RunSaved start pairs
+      → Witnessing t header notion secret k estimator output run 0 after (runBytes start pairs)
+
+-- so of a call that checks one
+pub record CheckWitnessSizes (header : List ℕ) (notion : ℕ) (estimator valid : List ℕ) : Type 0 where
+  pub header-size : length header ≡ sizes.headerSize
+  pub notion-known : notion ≤ sizes.strongByte
+  pub estimator-size : length estimator ≡ sizes.estimatorSize
+  pub valid-size : length valid ≡ sizes.validSize
+
+-- what is said of a run
+abbrev pub validSaid : Bool → Says
+validSaid false = Says.no
+validSaid true = Says.yes
+
+-- check_witness: the answer and the byte after it
+pub data CheckingWitness (t header : List ℕ) (notion secret k start : ℕ) (estimator pairs valid : List ℕ) : ℕ → List ℕ → Type 0 where
+  size : (CheckWitnessSizes header notion estimator valid → ⊥) → CheckingWitness t header notion secret k start estimator pairs valid 9 valid
+  refused : CheckWitnessSizes header notion estimator valid → {n : ℕ}
+      → CheckingIn t (headerAt header) (estimatorAt estimator) (notionAt notion) secret k start pairs (Says.refused n)
+      → CheckingWitness t header notion secret k start estimator pairs valid n valid
+  checked : CheckWitnessSizes header notion estimator valid → (holds : Bool)
+      → CheckingIn t (headerAt header) (estimatorAt estimator) (notionAt notion) secret k start pairs (validSaid holds)
+      → CheckingWitness t header notion secret k start estimator pairs valid 0 (validBytes holds)
 
 -- what a fresh call answers on a header that was decoded, with slices of their lengths: 0 where the further secrets may be given, and else 13 or 14, each
 -- on its condition

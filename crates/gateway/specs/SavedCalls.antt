@@ -1,5 +1,6 @@
 -- A gateway that keeps a table, a header and a state as bytes, and passes each call the state's bytes as the call before left them. The promises of the
--- verifier and the enforcer, of lists of calls on their own states, are kept for it: proofs/SavedPoints; what an exploration says of it: proofs/SavedWaits.
+-- verifier and the enforcer, of lists of calls on their own states, are kept for it: proofs/SavedPoints; what an exploration says of it: proofs/SavedWaits;
+-- what is said of witnesses after calls that led to a state: proofs/SavedWitnesses.
 use Prim.Native.Nat.{ℕ, zero, suc, _+_, _≤_, _<_}
 use mathlib.Core.Bool.{Bool, true, false}
 use mathlib.Core.Path.{_≡_}
@@ -11,9 +12,10 @@ use Rattle.verifier.specs.Replies as verifier
 use Rattle.verifier.specs.Calls.{Call}
 use Rattle.enforcer.specs.Offerings as offering
 use Rattle.enforcer.specs.Offers as enforcer
+use Rattle.witness.specs.Answers as witness
 use Rattle.layout.specs.Sizes.{judgementSize, releaseSize}
-use Rattle.layout.specs.Layout.{judgementAt, releaseAt}
-use Rattle.gateway.specs.Interface.{Accept, Offer}
+use Rattle.layout.specs.Layout.{judgementAt, releaseAt, startAt, pairsAt, validAt}
+use Rattle.gateway.specs.Interface.{Accept, Offer, validSaid}
 
 -- one call of accept: the symbol, the bytes lent for the judgement, the answer, and those bytes after it
 pub record AcceptCall : Type 0 where
@@ -94,3 +96,13 @@ pub record SavedLongestWait (t header s : List ℕ) (w : ℕ) : Type 0 where
   pub in-time : (cs : List OfferCall) (e : List ℕ) → OfferCalls t header s cs e → (i : ℕ) → suc i + w ≤ length (enforcer.acceptedOf (offersOf cs))
       → i < enforcer.releasedCount (offersOf cs)
   pub reached : 0 < w → SavedPending t header s w
+
+-- what an answer of witness says: 0 that a run was written, with the start and the number of pairs that its bytes hold, and else the number of a refusal
+abbrev pub witnessSaid : ℕ → (run : List ℕ) → witness.Told
+witnessSaid zero run = witness.Told.written (startAt run) (pairsAt run)
+witnessSaid (suc n) run = witness.Told.refused (suc n)
+
+-- and one of check_witness: 0 that the byte holds yes or no
+abbrev pub checkSaid : ℕ → (valid : List ℕ) → witness.Says
+checkSaid zero valid = validSaid (validAt valid)
+checkSaid (suc n) valid = witness.Says.refused (suc n)

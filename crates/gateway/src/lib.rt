@@ -10,7 +10,9 @@ use layout::sizes;
 use leaks::LeakAnswer;
 use verifier::Answer;
 use verifier::Estimator;
-ghost use Rattle.gateway.specs.Interface.{Decode, Fresh, Accept, Start, Offer, Explore, FirstLeakCall, CanonicalCall};
+use witness::Answer as Witness;
+use witness::Checked;
+ghost use Rattle.gateway.specs.Interface.{Decode, Fresh, Accept, Start, Offer, Explore, FirstLeakCall, CanonicalCall, Witnessing, CheckingWitness};
 
 // The refusal of a slice that has not the length of its layout, and of a notion that is none.
 const MALFORMED: u8 = 9;
@@ -287,6 +289,103 @@ pub extern "C" fn opacity_canonical(encoding: &[u8], output: &mut [u8], size: &m
         Canonical::Refused(refusal) => refusal::number(refusal),
         Canonical::Written(written) => {
             layout::write_number(size, written as u64);
+            0
+        }
+    }
+}
+
+// Writes a run over the last k symbols that excuses the system of the secret with a number, by a notion, 0 weak or 1 strong: its pairs at the front of the
+// output, event and state reached; and in the bytes of a run the state it starts in and the number of pairs.
+#[no_mangle]
+pub extern "C" fn opacity_witness(
+    table: &[u64],
+    header: &[u8],
+    notion: u8,
+    secret: u8,
+    k: u8,
+    estimator: &[u8],
+    output: &mut [u8],
+    run: &mut [u8],
+) -> u8
+    ensures { λ r. ⌜ Witnessing (now (table .entry)) (now (header .entry)) notion secret k (now (estimator .entry)) (now (output .entry)) (now (run .entry))
+        r (now (output .exit)) (now (run .exit)) ⌝ }
+{
+    if header.len() != sizes::HEADER_SIZE {
+        return MALFORMED;
+    }
+    if sizes::STRONG_BYTE < notion {
+        return MALFORMED;
+    }
+    if estimator.len() != sizes::ESTIMATOR_SIZE {
+        return MALFORMED;
+    }
+    if run.len() != sizes::RUN_SIZE {
+        return MALFORMED;
+    }
+    let answer = witness::witness(
+        layout::read_estimator(estimator),
+        table,
+        layout::read_header(header),
+        layout::notion_of(notion),
+        secret,
+        k,
+        output,
+    );
+    match answer {
+        Witness::Refused(refusal) => refusal::number(refusal),
+        Witness::Written(written) => {
+            layout::write_run(run, written.start, written.pairs);
+            0
+        }
+    }
+}
+
+// Whether a start and pairs of bytes are such a run.
+#[no_mangle]
+pub extern "C" fn opacity_check_witness(
+    table: &[u64],
+    header: &[u8],
+    notion: u8,
+    secret: u8,
+    k: u8,
+    start: u8,
+    estimator: &[u8],
+    pairs: &[u8],
+    valid: &mut [u8],
+) -> u8
+    ensures { λ r. ⌜ CheckingWitness (now (table .entry)) (now (header .entry)) notion secret k start (now (estimator .entry)) (now (pairs .entry))
+        (now (valid .entry)) r (now (valid .exit)) ⌝ }
+{
+    if header.len() != sizes::HEADER_SIZE {
+        return MALFORMED;
+    }
+    if sizes::STRONG_BYTE < notion {
+        return MALFORMED;
+    }
+    if estimator.len() != sizes::ESTIMATOR_SIZE {
+        return MALFORMED;
+    }
+    if valid.len() != sizes::VALID_SIZE {
+        return MALFORMED;
+    }
+    let checked = witness::check_witness(
+        layout::read_estimator(estimator),
+        table,
+        layout::read_header(header),
+        layout::notion_of(notion),
+        secret,
+        k,
+        start,
+        pairs,
+    );
+    match checked {
+        Checked::Refused(refusal) => refusal::number(refusal),
+        Checked::Valid => {
+            layout::write_valid(valid, true);
+            0
+        }
+        Checked::Invalid => {
+            layout::write_valid(valid, false);
             0
         }
     }

@@ -7,6 +7,8 @@ ghost use lib.ListN.{length};
 // The words of the commands, as `word_at` reads them: their last eight letters.
 pub const OPEN_WORD: u64 = 0x6f70656e;
 
+pub const ANY_WORD: u64 = 0x616e79;
+
 pub const DECODE: u64 = 0x6465636f6465;
 
 const FRESH: u64 = 0x6672657368;
@@ -23,7 +25,19 @@ const FIRST_LEAK: u64 = 0x7273745f6c65616b;
 
 const CANONICAL: u64 = 0x616e6f6e6963616c;
 
-// What a function is lent: slots to read, those to write to, and whether it takes a number.
+pub const WITNESS: u64 = 0x7769746e657373;
+
+pub const CHECK_WITNESS: u64 = 0x5f7769746e657373;
+
+// The numbers that a call is given, as many as the function takes; the others are 0.
+pub struct Numbers {
+    pub first: u32,
+    pub second: u32,
+    pub third: u32,
+    pub fourth: u32,
+}
+
+// What a function is lent: slots to read, those to write to, and how many numbers it takes.
 pub struct Slots {
     pub input: usize,
     pub also: usize,
@@ -31,7 +45,7 @@ pub struct Slots {
     pub first: usize,
     pub second: usize,
     pub third: usize,
-    pub number: bool,
+    pub numbers: usize,
 }
 
 // Of a word that is no function: what most functions are lent to read, and nothing to write to.
@@ -43,7 +57,7 @@ fn header_alone() -> Slots {
         first: store::NONE,
         second: store::NONE,
         third: store::NONE,
-        number: true,
+        numbers: 1,
     }
 }
 
@@ -53,13 +67,13 @@ pub fn slots_of(call: u64) -> Slots {
     if call == DECODE {
         slots.input = store::ENCODING;
         slots.first = store::HEADER;
-        slots.number = false;
+        slots.numbers = 0;
     }
     if call == FRESH {
         slots.also = store::FURTHER;
         slots.first = store::ESTIMATOR;
         slots.second = store::JUDGEMENT;
-        slots.number = false;
+        slots.numbers = 0;
     }
     if call == ACCEPT {
         slots.first = store::ESTIMATOR;
@@ -87,12 +101,24 @@ pub fn slots_of(call: u64) -> Slots {
         slots.input = store::ENCODING;
         slots.first = store::OUTPUT;
         slots.second = store::SIZE;
-        slots.number = false;
+        slots.numbers = 0;
+    }
+    if call == WITNESS {
+        slots.also = store::ESTIMATOR;
+        slots.first = store::OUTPUT;
+        slots.second = store::RUN;
+        slots.numbers = 3;
+    }
+    if call == CHECK_WITNESS {
+        slots.also = store::ESTIMATOR;
+        slots.offered = store::PAIRS;
+        slots.first = store::VALID;
+        slots.numbers = 4;
     }
     slots
 }
 
-// The largest number that a function takes: a budget, or else a byte.
+// The largest first number that a function takes: a budget, or else a byte. The others are bytes.
 pub fn largest_of(call: u64) -> u64
     ensures { λ r. ⌜ r ≤ 4294967295 ⌝ }
 {
@@ -110,7 +136,7 @@ pub fn byte_of(number: u32) -> u8 {
 // The functions, by how many slices they write to.
 fn apply1(
     call: u64,
-    number: u32,
+    numbers: Numbers,
     table: &mut [u64],
     input: &[u8],
     also: &[u8],
@@ -121,17 +147,37 @@ fn apply1(
         return gateway::opacity_decode(input, table, first);
     }
     if call == EXPLORE {
-        return gateway::opacity_explore(table, input, also, number, first);
+        return gateway::opacity_explore(table, input, also, numbers.first, first);
     }
     if call == FIRST_LEAK {
-        return gateway::opacity_first_leak(table, input, byte_of(number), also, offered, first);
+        return gateway::opacity_first_leak(
+            table,
+            input,
+            byte_of(numbers.first),
+            also,
+            offered,
+            first,
+        );
     }
-    gateway::opacity_start(table, input, byte_of(number), also, first)
+    if call == CHECK_WITNESS {
+        return gateway::opacity_check_witness(
+            table,
+            input,
+            byte_of(numbers.first),
+            byte_of(numbers.second),
+            byte_of(numbers.third),
+            byte_of(numbers.fourth),
+            also,
+            offered,
+            first,
+        );
+    }
+    gateway::opacity_start(table, input, byte_of(numbers.first), also, first)
 }
 
 fn apply2(
     call: u64,
-    number: u32,
+    numbers: Numbers,
     table: &[u64],
     input: &[u8],
     also: &[u8],
@@ -144,13 +190,25 @@ fn apply2(
     if call == CANONICAL {
         return gateway::opacity_canonical(input, first, second);
     }
-    gateway::opacity_accept(table, input, byte_of(number), first, second)
+    if call == WITNESS {
+        return gateway::opacity_witness(
+            table,
+            input,
+            byte_of(numbers.first),
+            byte_of(numbers.second),
+            byte_of(numbers.third),
+            also,
+            first,
+            second,
+        );
+    }
+    gateway::opacity_accept(table, input, byte_of(numbers.first), first, second)
 }
 
 fn apply(
     slots: Slots,
     call: u64,
-    number: u32,
+    numbers: Numbers,
     table: &mut [u64],
     input: &[u8],
     also: &[u8],
@@ -160,19 +218,19 @@ fn apply(
     third: &mut [u8],
 ) -> u8 {
     if slots.second == store::NONE {
-        return apply1(call, number, table, input, also, offered, first);
+        return apply1(call, numbers, table, input, also, offered, first);
     }
     if slots.third == store::NONE {
-        return apply2(call, number, table, input, also, first, second);
+        return apply2(call, numbers, table, input, also, first, second);
     }
-    gateway::opacity_offer(table, input, byte_of(number), first, second, third)
+    gateway::opacity_offer(table, input, byte_of(numbers.first), first, second, third)
 }
 
 // Lends the first elements of copies, by the sizes of their slots.
 fn lend(
     call: u64,
-    number: u32,
-    sizes: &[usize; 14],
+    numbers: Numbers,
+    sizes: &[usize; 17],
     table: &mut [u64],
     input: &[u8],
     also: &[u8],
@@ -195,7 +253,7 @@ fn lend(
     apply(
         slots,
         call,
-        number,
+        numbers,
         &mut table[0..words],
         &input[0..n],
         &also[0..m],
@@ -207,7 +265,12 @@ fn lend(
 }
 
 // A call: its answer, after which the memory is as the function left it.
-pub fn answer_of(call: u64, number: u32, memory: &mut [u64; 57344], sizes: &[usize; 14]) -> u8 {
+pub fn answer_of(
+    call: u64,
+    numbers: Numbers,
+    memory: &mut [u64; 69632],
+    sizes: &[usize; 17],
+) -> u8 {
     let slots = slots_of(call);
     let mut table = store::table_of(memory);
     let input = store::copy_of(memory, slots.input);
@@ -218,7 +281,7 @@ pub fn answer_of(call: u64, number: u32, memory: &mut [u64; 57344], sizes: &[usi
     let mut third = store::copy_of(memory, slots.third);
     let answer = lend(
         call,
-        number,
+        numbers,
         sizes,
         &mut table,
         &input,

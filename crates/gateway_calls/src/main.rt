@@ -1,8 +1,8 @@
 // Calls of the gateway's functions, as its standard input lists them: one line a command, and after each call its answer and every slice that the
 // function was lent to write to, whole. tests/README.md has the commands; tests/gateway_calls.py writes the input and computes the output.
 //
-// The modules, each on those before it: `store` the memory, `print` what it holds, `calls` the functions, `open` calls whose answer is left open,
-// `parse` the parts of a line; here the commands.
+// The modules, each on those before it: `store` the memory, `print` what it holds, `calls` the functions, `open` calls whose answer is left open or of
+// which any run will do, `parse` the parts of a line; here the commands.
 ghost use mathlib.Core.Path.{_≡_};
 ghost use lib.ListN.{length};
 
@@ -14,7 +14,7 @@ mod store;
 
 // Sets an element so many times: the place behind them, or one behind the slot if they do not fit, or it is no byte.
 fn set_element(
-    memory: &mut [u64; 57344],
+    memory: &mut [u64; 69632],
     slot: usize,
     place: usize,
     word: u64,
@@ -37,7 +37,7 @@ fn set_element(
 }
 
 // Sets elements from a place of the line on.
-fn fill(memory: &mut [u64; 57344], slot: usize, line: &[u8], from: usize) -> bool {
+fn fill(memory: &mut [u64; 69632], slot: usize, line: &[u8], from: usize) -> bool {
     let mut at = from;
     let mut place: usize = 0;
     while at < line.len() {
@@ -57,8 +57,8 @@ fn fill(memory: &mut [u64; 57344], slot: usize, line: &[u8], from: usize) -> boo
 
 // A slot's size and elements: those that are not named are 0.
 fn set(
-    memory: &mut [u64; 57344],
-    sizes: &mut [usize; 14],
+    memory: &mut [u64; 69632],
+    sizes: &mut [usize; 17],
     slot: usize,
     line: &[u8],
     at: usize,
@@ -82,12 +82,16 @@ fn show_answer(line: &[u8], answer: u8) {
         io::write_all(1, b": open\n");
         return;
     }
+    if answer == open::PASSES {
+        io::write_all(1, b": passes\n");
+        return;
+    }
     io::write_all(1, b": ");
     io::print_decimal(1, answer as u64);
     io::write_all(1, b"\n");
 }
 
-fn show_call(line: &[u8], call: u64, answer: u8, memory: &[u64; 57344], sizes: &[usize; 14]) {
+fn show_call(line: &[u8], call: u64, answer: u8, memory: &[u64; 69632], sizes: &[usize; 17]) {
     let slots = calls::slots_of(call);
     show_answer(line, answer);
     if call == calls::DECODE {
@@ -98,70 +102,77 @@ fn show_call(line: &[u8], call: u64, answer: u8, memory: &[u64; 57344], sizes: &
     print::show(memory, sizes, slots.third);
 }
 
+// A call, by the word before it, if any.
 fn make_call(
     line: &[u8],
-    open: bool,
+    how: u64,
     call: u64,
-    number: u32,
-    memory: &mut [u64; 57344],
-    sizes: &[usize; 14],
+    numbers: calls::Numbers,
+    memory: &mut [u64; 69632],
+    sizes: &[usize; 17],
 ) {
-    if open {
-        show_answer(
-            line,
-            open::open_answer_of(call, calls::byte_of(number), memory, sizes),
-        );
+    if how != 0 {
+        show_answer(line, open::said_of(how, call, numbers, memory, sizes));
         return;
     }
-    let answer = calls::answer_of(call, number, memory, sizes);
+    let answer = calls::answer_of(call, numbers, memory, sizes);
     show_call(line, call, answer, memory, sizes);
 }
 
-// Whether the line has, from a place on, a call and the number that it takes, if it takes one.
+// Whether the line has, from a place on, a call and as many numbers as it takes.
 fn called(
     line: &[u8],
     at: usize,
-    open: bool,
-    memory: &mut [u64; 57344],
-    sizes: &[usize; 14],
+    how: u64,
+    memory: &mut [u64; 69632],
+    sizes: &[usize; 17],
 ) -> bool {
     let word = parse::word_at(line, at);
     let call = word.value;
-    let number = parse::number_after(line, word.next, b' ', 10);
+    let given = parse::numbers_after(line, word.next);
     let slots = calls::slots_of(call);
     if slots.first == store::NONE {
         return false;
     }
-    if slots.number != (word.next < number.next) {
+    if slots.numbers != given.count {
         return false;
     }
-    if number.next < line.len() {
+    if given.next < line.len() {
         return false;
     }
-    if calls::largest_of(call) < number.value {
+    if calls::largest_of(call) < given.first {
         return false;
     }
-    if open & !open::may_be_open(call) {
+    if (255 < given.second) | (255 < given.third) | (255 < given.fourth) {
         return false;
     }
-    make_call(line, open, call, number.value as u32, memory, sizes);
+    if (how != 0) & !open::may_be(how, call) {
+        return false;
+    }
+    let numbers = calls::Numbers {
+        first: given.first as u32,
+        second: (given.second % 256) as u32,
+        third: (given.third % 256) as u32,
+        fourth: (given.fourth % 256) as u32,
+    };
+    make_call(line, how, call, numbers, memory, sizes);
     true
 }
 
 // Whether the line is understood.
-fn obeyed(line: &[u8], memory: &mut [u64; 57344], sizes: &mut [usize; 14]) -> bool {
+fn obeyed(line: &[u8], memory: &mut [u64; 69632], sizes: &mut [usize; 17]) -> bool {
     let word = parse::word_at(line, 0);
     let slot = parse::slot_of(word.value);
     let end = word.next;
     if slot < store::NONE {
         return set(memory, sizes, slot, line, end);
     }
-    if word.value == calls::OPEN_WORD {
+    if (word.value == calls::OPEN_WORD) | (word.value == calls::ANY_WORD) {
         if end < line.len() {
-            return called(line, end + 1, true, memory, sizes);
+            return called(line, end + 1, word.value, memory, sizes);
         }
     }
-    called(line, 0, false, memory, sizes)
+    called(line, 0, 0, memory, sizes)
 }
 
 // An empty line, or one that says something to the reader.
@@ -172,7 +183,7 @@ fn comment(line: &[u8]) -> bool {
     line[0] == b'#'
 }
 
-fn run(line: &[u8], memory: &mut [u64; 57344], sizes: &mut [usize; 14]) {
+fn run(line: &[u8], memory: &mut [u64; 69632], sizes: &mut [usize; 17]) {
     if comment(line) {
         io::write_all(1, line);
         io::write_all(1, b"\n");
@@ -183,7 +194,7 @@ fn run(line: &[u8], memory: &mut [u64; 57344], sizes: &mut [usize; 14]) {
     }
 }
 
-fn all(input: &[u8], memory: &mut [u64; 57344], sizes: &mut [usize; 14]) {
+fn all(input: &[u8], memory: &mut [u64; 69632], sizes: &mut [usize; 17]) {
     let mut at: usize = 0;
     while at < input.len() {
         let end = parse::line_end(input, at);
@@ -201,8 +212,8 @@ fn room() -> [u8; 1048576]
 
 fn main() {
     let mut input = room();
-    let mut memory = [0u64; 57344];
-    let mut sizes = [0usize; 14];
+    let mut memory = [0u64; 69632];
+    let mut sizes = [0usize; 17];
     let n = io::read_full(0, &mut input);
     all(&input[0..n], &mut memory, &mut sizes);
 }

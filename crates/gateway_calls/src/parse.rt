@@ -81,6 +81,44 @@ pub fn number_after(line: &[u8], at: usize, mark: u8, base: u8) -> Number
     Number { value: 0, next: at }
 }
 
+// The numbers that stand from a place on, one space before each, up to four; how many they are, and where the line goes on.
+pub struct Numbers {
+    pub first: u64,
+    pub second: u64,
+    pub third: u64,
+    pub fourth: u64,
+    pub count: usize,
+    pub next: usize,
+}
+
+pub fn numbers_after(line: &[u8], at: usize) -> Numbers {
+    let first = number_after(line, at, b' ', 10);
+    let second = number_after(line, first.next, b' ', 10);
+    let third = number_after(line, second.next, b' ', 10);
+    let fourth = number_after(line, third.next, b' ', 10);
+    let mut count: usize = 0;
+    if at < first.next {
+        count = 1;
+    }
+    if first.next < second.next {
+        count = 2;
+    }
+    if second.next < third.next {
+        count = 3;
+    }
+    if third.next < fourth.next {
+        count = 4;
+    }
+    Numbers {
+        first: first.value,
+        second: second.value,
+        third: third.value,
+        fourth: fourth.value,
+        count: count,
+        next: fourth.next,
+    }
+}
+
 // How many times an element is meant.
 fn times_at(line: &[u8], at: usize) -> Number {
     let times = number_after(line, at, b'*', 10);
@@ -144,6 +182,9 @@ pub fn slot_of(name: u64) -> usize {
         0x6576656e7473 => store::EVENTS,
         0x706c616365 => store::PLACE,
         0x73697a65 => store::SIZE,
+        0x72756e => store::RUN,
+        0x7061697273 => store::PAIRS,
+        0x76616c6964 => store::VALID,
         0x6c6f726174696f6e => store::EXPLORATION,
         _ => store::NONE,
     }

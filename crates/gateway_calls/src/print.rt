@@ -3,7 +3,7 @@ use super::store;
 ghost use Prim.Native.Nat.{_≤_, _<_, _+_};
 
 // How often the element at a place stands from there on, before the slot's size.
-fn run_at(memory: &[u64; 57344], slot: usize, at: usize, size: usize) -> usize
+fn run_at(memory: &[u64; 69632], slot: usize, at: usize, size: usize) -> usize
     requires { ⌜ at < size ⌝ }
     ensures { λ r. ⌜ (0 < r) × (at + r ≤ size) ⌝ }
 {
@@ -36,7 +36,7 @@ fn show_run(before: u64, at: usize, word: u64, times: usize) {
     }
 }
 
-fn show_runs(memory: &[u64; 57344], slot: usize, size: usize) {
+fn show_runs(memory: &[u64; 69632], slot: usize, size: usize) {
     let mut before: u64 = 0;
     let mut at: usize = 0;
     while at < size {
@@ -64,11 +64,11 @@ fn show_name(names: &[u8], slot: usize) {
 }
 
 // The line of a slot: its name, its size, and its elements that are not 0.
-pub fn show(memory: &[u64; 57344], sizes: &[usize; 14], slot: usize) {
+pub fn show(memory: &[u64; 69632], sizes: &[usize; 17], slot: usize) {
     if slot < store::NONE {
         let size = store::size_of(sizes, slot);
         show_name(
-            b"table    encoding header   estimatorjudgementenforcer output   release  further  events   place    size     ",
+            b"table    encoding header   estimatorjudgementenforcer output   release  further  events   place    size     run      pairs    valid    ",
             slot,
         );
         io::write_all(1, b" ");

@@ -30,10 +30,16 @@ pub const PLACE: usize = 10;
 
 pub const SIZE: usize = 11;
 
-pub const EXPLORATION: usize = 12;
+pub const RUN: usize = 12;
+
+pub const PAIRS: usize = 13;
+
+pub const VALID: usize = 14;
+
+pub const EXPLORATION: usize = 15;
 
 // What is lent where a function takes nothing; its size stays 0.
-pub const NONE: usize = 13;
+pub const NONE: usize = 16;
 
 pub fn wide(byte: u8) -> usize
     ensures { λ r. ⌜ (r ≡ byte) × (r ≤ 255) ⌝ }
@@ -42,32 +48,32 @@ pub fn wide(byte: u8) -> usize
 }
 
 fn place_of(slot: usize, i: usize) -> usize
-    ensures { λ r. ⌜ r < 57344 ⌝ }
+    ensures { λ r. ⌜ r < 69632 ⌝ }
 {
     if slot <= NONE {
         if i < SLOT {
             return slot * SLOT + i;
         }
     }
-    57343
+    69631
 }
 
-pub fn word_of(memory: &[u64; 57344], slot: usize, i: usize) -> u64 {
+pub fn word_of(memory: &[u64; 69632], slot: usize, i: usize) -> u64 {
     memory[place_of(slot, i)]
 }
 
-pub fn byte_of(memory: &[u64; 57344], slot: usize, i: usize) -> u8 {
+pub fn byte_of(memory: &[u64; 69632], slot: usize, i: usize) -> u8 {
     (word_of(memory, slot, i) % 256) as u8
 }
 
-pub fn set_word(memory: &mut [u64; 57344], slot: usize, i: usize, word: u64) {
+pub fn set_word(memory: &mut [u64; 69632], slot: usize, i: usize, word: u64) {
     memory[place_of(slot, i)] = word;
 }
 
-pub fn size_of(sizes: &[usize; 14], slot: usize) -> usize
+pub fn size_of(sizes: &[usize; 17], slot: usize) -> usize
     ensures { λ r. ⌜ r ≤ 4096 ⌝ }
 {
-    if slot < 14 {
+    if slot < 17 {
         let n = sizes[slot];
         if n <= SLOT {
             return n;
@@ -76,14 +82,14 @@ pub fn size_of(sizes: &[usize; 14], slot: usize) -> usize
     0
 }
 
-pub fn set_size(sizes: &mut [usize; 14], slot: usize, n: usize) {
+pub fn set_size(sizes: &mut [usize; 17], slot: usize, n: usize) {
     if slot < NONE {
         sizes[slot] = n;
     }
 }
 
 // Copies of the table and of another slot, to be lent to a call.
-pub fn table_of(memory: &[u64; 57344]) -> [u64; 4096]
+pub fn table_of(memory: &[u64; 69632]) -> [u64; 4096]
     ensures { λ r. ⌜ 4096 ≡ length r ⌝ }
 {
     let mut words = [0u64; 4096];
@@ -95,7 +101,7 @@ pub fn table_of(memory: &[u64; 57344]) -> [u64; 4096]
     words
 }
 
-pub fn copy_of(memory: &[u64; 57344], slot: usize) -> [u8; 4096]
+pub fn copy_of(memory: &[u64; 69632], slot: usize) -> [u8; 4096]
     ensures { λ r. ⌜ 4096 ≡ length r ⌝ }
 {
     let mut bytes = [0u8; 4096];
@@ -108,7 +114,7 @@ pub fn copy_of(memory: &[u64; 57344], slot: usize) -> [u8; 4096]
 }
 
 // What a call left in a copy.
-pub fn keep_table(memory: &mut [u64; 57344], words: &[u64; 4096]) {
+pub fn keep_table(memory: &mut [u64; 69632], words: &[u64; 4096]) {
     let mut i: usize = 0;
     while i < 4096 {
         memory[i] = words[i];
@@ -116,7 +122,7 @@ pub fn keep_table(memory: &mut [u64; 57344], words: &[u64; 4096]) {
     }
 }
 
-pub fn keep(memory: &mut [u64; 57344], slot: usize, bytes: &[u8; 4096]) {
+pub fn keep(memory: &mut [u64; 69632], slot: usize, bytes: &[u8; 4096]) {
     let mut i: usize = 0;
     while i < 4096 {
         set_word(memory, slot, i, wide(bytes[i]) as u64);
@@ -126,10 +132,10 @@ pub fn keep(memory: &mut [u64; 57344], slot: usize, bytes: &[u8; 4096]) {
 
 // Whether n words of a slot are as those of a slot of another memory, each from a place on.
 pub fn matches(
-    memory: &[u64; 57344],
+    memory: &[u64; 69632],
     slot: usize,
     from: usize,
-    other: &[u64; 57344],
+    other: &[u64; 69632],
     there: usize,
     at: usize,
     n: usize,
@@ -146,7 +152,7 @@ pub fn matches(
     true
 }
 
-pub fn repeat(memory: &mut [u64; 57344], slot: usize, from: usize, word: u64, times: usize)
+pub fn repeat(memory: &mut [u64; 69632], slot: usize, from: usize, word: u64, times: usize)
     requires { ⌜ from + times ≤ 4096 ⌝ }
 {
     let mut i: usize = 0;

@@ -125,6 +125,10 @@ by-five bytes refusal.LookBackTooLarge e =
     absurd (subst (λ (p : Parsed Encoding). Never 14 p) e (encoding-never 14 refl (bitsOf bytes) (λ x. omega arith) 0) refl)
 by-five bytes refusal.BudgetSpent e =
     absurd (subst (λ (p : Parsed Encoding). Never 15 p) e (encoding-never 15 refl (bitsOf bytes) (λ x. omega arith) 0) refl)
+by-five bytes refusal.NoWitness e =
+    absurd (subst (λ (p : Parsed Encoding). Never 16 p) e (encoding-never 16 refl (bitsOf bytes) (λ x. omega arith) 0) refl)
+by-five bytes refusal.StepTooFar e =
+    absurd (subst (λ (p : Parsed Encoding). Never 17 p) e (encoding-never 17 refl (bitsOf bytes) (λ x. omega arith) 0) refl)
 
 pub not-nine : (bytes : List ℕ) (r : Refusal) → encoding (bitsOf bytes) 0 ≡ parser.refused r → numberOf r ≡ 9 → ⊥
 not-nine bytes r e = subst (λ (p : Parsed Encoding). Never 9 p) e (encoding-never 9 refl (bitsOf bytes) (λ x. omega arith) 0)

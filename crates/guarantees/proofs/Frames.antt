@@ -1,7 +1,8 @@
 -- The first point of the functions on bytes, row by row of their contracts. Assumes nothing.
 use mathlib.Core.Path.{refl}
-use Rattle.gateway.specs.Interface.{Decode, Fresh, Accept, Start, Offer, Explore, FirstLeakCall, CanonicalCall}
+use Rattle.gateway.specs.Interface.{Decode, Fresh, Accept, Start, Offer, Explore, FirstLeakCall, CanonicalCall, Witnessing, CheckingWitness}
 use Rattle.guarantees.specs.SavedBytes.{DecodeSaved, FreshSaved, AcceptSaved, StartSaved, OfferSaved, ExploreSaved, FirstLeakSaved, CanonicalSaved}
+use Rattle.guarantees.specs.SavedBytes.{WitnessSaved, CheckSaved}
 
 pub decode-saved : DecodeSaved
 decode-saved encoding table header answer t after (Decode.size bad) = (λ x. refl, λ x. (refl, refl), λ size. absurd (bad size))
@@ -51,3 +52,17 @@ canonical-saved encoding output size answer after out (CanonicalCall.size bad) =
 canonical-saved encoding output size answer after out (CanonicalCall.refused sized y) = (λ bad. absurd (bad sized), λ z. (refl, refl), λ w z. y)
 canonical-saved encoding output size answer after out (CanonicalCall.written sized x saved) =
     (λ bad. absurd (bad sized), λ z. absurd (z refl), λ w z. absurd (z refl))
+
+pub witness-saved : WitnessSaved
+witness-saved t header notion secret k estimator output run answer after out (Witnessing.size bad) =
+    (λ x. refl, λ x. (refl, refl), λ sizes. absurd (bad sizes))
+witness-saved t header notion secret k estimator output run answer after out (Witnessing.refused sizes y) =
+    (λ bad. absurd (bad sizes), λ z. (refl, refl), λ w z. y)
+witness-saved t header notion secret k estimator output run answer after out (Witnessing.written sizes x saved) =
+    (λ bad. absurd (bad sizes), λ z. absurd (z refl), λ w z. absurd (z refl))
+
+pub check-saved : CheckSaved
+check-saved t header notion secret k start estimator pairs valid answer out (CheckingWitness.size bad) = (λ x. refl, λ x. refl, λ sizes. absurd (bad sizes))
+check-saved t header notion secret k start estimator pairs valid answer out (CheckingWitness.refused sizes y) = (λ bad. absurd (bad sizes), λ z. refl, λ w z. y)
+check-saved t header notion secret k start estimator pairs valid answer out (CheckingWitness.checked sizes holds x) =
+    (λ bad. absurd (bad sizes), λ z. absurd (z refl), λ w z. absurd (z refl))

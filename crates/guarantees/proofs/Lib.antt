@@ -4,5 +4,6 @@ pub mod Answers
 pub mod Explorations
 pub mod FirstLeaks
 pub mod OneEncoding
+pub mod Witnesses
 pub mod Frames
 pub mod Shown

@@ -7,6 +7,7 @@ use Rattle.guarantees.specs.Symbols as symbols
 use Rattle.guarantees.specs.Exploration as exploration
 use Rattle.guarantees.specs.FirstLeaks as leaks
 use Rattle.guarantees.specs.OneEncoding as canonical
+use Rattle.guarantees.specs.Witnesses as witnesses
 use Rattle.guarantees.specs.WholeLog as log
 use Rattle.guarantees.specs.SavedBytes as saved
 use Rattle.verifier.proofs.Growing as growing
@@ -33,17 +34,24 @@ use Rattle.leaks.proofs.Agreed as agreed-leaks
 use Rattle.canonical.proofs.OneForm as one-form
 use Rattle.canonical.proofs.Compared as compared
 use Rattle.canonical.proofs.Calls as writings
+use Rattle.witness.specs.Answers.{Usable, InReachOf, IsWitness}
+use Rattle.witness.proofs.WholeTrace as whole-trace
+use Rattle.witness.proofs.Answering as answering
+use Rattle.witness.proofs.Calling as called
 use Rattle.monitor.proofs.LogOutput as log-output
 use Rattle.monitor.proofs.OneOutput as one-log-output
 use Rattle.monitor.proofs.Idle as idle
+use Rattle.gateway.specs.SavedCalls.{witnessSaid, checkSaid}
 use Rattle.gateway.proofs.SavedPoints as saved-points
 use Rattle.gateway.proofs.SavedWaits as saved-explorations
 use Rattle.gateway.proofs.SavedLeaks as saved-leaks
 use Rattle.gateway.proofs.SavedForms as saved-forms
+use Rattle.gateway.proofs.SavedWitnesses as saved-witnesses
 use Rattle.guarantees.proofs.Answers.{decode-answers, fresh-answers, accept-answers, accept-by-answers, start-answers, offer-answers, advance-answers}
 use Rattle.guarantees.proofs.Explorations as explorations
 use Rattle.guarantees.proofs.FirstLeaks as first-leaks
 use Rattle.guarantees.proofs.OneEncoding as one-encoding
+use Rattle.guarantees.proofs.Witnesses as witness-rows
 use Rattle.guarantees.proofs.Frames as frames
 
 -- the first point
@@ -79,6 +87,12 @@ every-search = first-leaks.search-answers
 
 pub every-canonical : first.EveryCanonical
 every-canonical = one-encoding.canonical-answers
+
+pub every-witness : first.EveryWitness
+every-witness = witness-rows.witness-answers
+
+pub every-check : first.EveryCheck
+every-check = witness-rows.check-answers
 
 -- the second point
 pub second-point : second.SecondPoint
@@ -234,6 +248,49 @@ every-space = one-encoding.every-space
 pub longer-refused : canonical.LongerRefused
 longer-refused = one-encoding.longer-refused
 
+-- the run that excuses the system
+pub grown-writing : witnesses.GrownWriting
+grown-writing t h f j s cs e fresh calls = called.called-writing t h f j s cs e fresh calls
+
+pub grown-checking : witnesses.GrownChecking
+grown-checking t h f j s cs e fresh calls = called.called-checking t h f j s cs e fresh calls
+
+pub odd-is-no : witnesses.OddIsNo
+odd-is-no t h s notion number k start bytes said u x =
+    answering.odd-no (Usable t h s) (InReachOf h s number k) (IsWitness t h s notion number k start) bytes u said x
+
+pub far-is-no : witnesses.FarIsNo
+far-is-no t h s notion number k start bytes said u x =
+    answering.far-no (Usable t h s) (InReachOf h s number k) (IsWitness t h s notion number k start) bytes u said x
+
+pub written-passes : witnesses.WrittenPasses
+written-passes t h s notion number k output start pairs after said =
+    answering.written-checked (Usable t h s) (InReachOf h s number k) (IsWitness t h s notion number k) output start pairs after said
+
+pub from-initial : witnesses.FromInitial
+from-initial = whole-trace.whole-starts
+
+pub end-of-run : witnesses.EndOfRun
+end-of-run notion p secret trace k reached = whole-trace.witness-end p secret trace k reached notion
+
+pub every-end : witnesses.EveryEnd
+every-end notion p secret trace k reached = whole-trace.every-clear p secret trace k reached notion
+
+pub none-where-sure : witnesses.NoneWhereSure
+none-where-sure notion p secret trace = answering.sure-no-witness notion p secret trace
+
+pub verdict-by-witness : witnesses.VerdictByWitness
+verdict-by-witness notion p secret trace = answering.words-by-witness notion p secret trace
+
+pub verdict-by-answers : witnesses.VerdictByAnswers
+verdict-by-answers t h f j s cs e fresh calls = called.called-verdict t h f j s cs e fresh calls
+
+pub told-by-answers : witnesses.ToldByAnswers
+told-by-answers t h f j s cs e fresh calls byte told m accepts = called.called-told t h f j s cs e fresh calls byte told m accepts
+
+pub opening-by-answers : witnesses.OpeningByAnswers
+opening-by-answers = called.opening-told
+
 -- a whole log
 pub prints-exactly : log.PrintsExactly
 prints-exactly = log-output.prints-exactly
@@ -292,6 +349,31 @@ first-leak-past-count = saved-leaks.saved-leak-past-count
 
 pub canonical-saved : saved.CanonicalSaved
 canonical-saved = frames.canonical-saved
+
+pub witness-saved : saved.WitnessSaved
+witness-saved = frames.witness-saved
+
+pub check-saved : saved.CheckSaved
+check-saved = frames.check-saved
+
+pub saved-witness : saved.SavedWitness
+saved-witness t header further before lent s told cs e fresh calls notion secret k output run answer after out known size x =
+    answering.exact-writing (Unit {0}) _ _ output tt (witnessSaid answer out) after
+    (saved-witnesses.saved-witness t header further before lent s told cs e fresh calls notion secret k output run answer after out known size x)
+
+pub saved-check : saved.SavedCheck
+saved-check t header further before lent s told cs e fresh calls notion secret k start pairs valid answer out known size x =
+    answering.exact-checking (Unit {0}) _ _ pairs tt (checkSaid answer out)
+    (saved-witnesses.saved-check t header further before lent s told cs e fresh calls notion secret k start pairs valid answer out known size x)
+
+pub witness-in-bytes : saved.WitnessInBytes
+witness-in-bytes = saved-witnesses.witness-back
+
+pub check-in-bytes : saved.CheckInBytes
+check-in-bytes = saved-witnesses.check-back
+
+pub saved-passes : saved.SavedPasses
+saved-passes = saved-witnesses.written-passes
 
 pub canonical-in-bytes : saved.CanonicalInBytes
 canonical-in-bytes = saved-forms.canonical-back

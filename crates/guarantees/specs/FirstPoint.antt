@@ -42,6 +42,8 @@ use Rattle.leaks.specs.declared.Search.{Search}
 use Rattle.leaks.specs.FirstLeaks as leaking
 use Rattle.leaks.specs.FirstLeaks.{FirstLeak, NoneLeaks, Finding}
 use Rattle.leaks.specs.Searches.{saidOf, Within, Beginning, Advancing}
+use Rattle.witness.specs.Answers.{Says, Told, Usable, InReachOf, IsWitness, CheckingIn, WritingIn}
+use Rattle.witness.specs.Traces.{ExactWriting, ExactChecking}
 
 -- `decoding::decode`, of an encoding (01: description): 9 exactly where the table has not 2,048 words; else what the layout says of the bytes: the refusal of
 -- its first field or check that fails, or the header and a table with exactly the transitions that are listed. A refusal leaves the table, and hands back no
@@ -250,3 +252,27 @@ pub record CanonicalAnswers (bytes output : List ℕ) (answer : writing.Outcome)
 abbrev pub EveryCanonical : Type 0
 EveryCanonical = (bytes output : List ℕ) (answer : writing.Outcome) (after : List ℕ) → Writing bytes output answer after
     → CanonicalAnswers bytes output answer after
+
+-- `witness::witness`, of an estimator, a secret by its number and a step (02, S-10): 9 exactly for a table, header and estimator that cannot be used; then 17
+-- exactly where the secret is not given or the step is above its own K or above what is remembered, 10 exactly where the output has fewer than 2,172 bytes,
+-- 16 exactly where no run excuses the system; else one. A refusal leaves the output
+pub record WitnessAnswers (t : List ℕ) (h : Header) (s : Estimator) (notion : Notion) (number k : ℕ) (output : List ℕ) (said : Told) (after : List ℕ)
+    : Type 0 where
+  pub malformed : (said ≡ Told.refused 9) ↔ (Usable t h s → ⊥)
+  pub others : Usable t h s → ExactWriting (InReachOf h s number k) (IsWitness t h s notion number k) output said after
+  pub no-other : (n : ℕ) → said ≡ Told.refused n → (n ≡ 9) ⊎ ((n ≡ 17) ⊎ ((n ≡ 10) ⊎ (n ≡ 16)))
+  pub unchanged : (n : ℕ) → said ≡ Told.refused n → after ≡ output
+
+abbrev pub EveryWitness : Type 0
+EveryWitness = (t : List ℕ) (h : Header) (s : Estimator) (notion : Notion) (number k : ℕ) (output : List ℕ) (said : Told) (after : List ℕ)
+    → WritingIn t h s notion number k output said after → WitnessAnswers t h s notion number k output said after
+
+-- `witness::check_witness`: 9 as above and no other refusal; else yes exactly where the bytes are such a run, and no exactly where they are not
+pub record CheckAnswers (t : List ℕ) (h : Header) (s : Estimator) (notion : Notion) (number k start : ℕ) (bytes : List ℕ) (said : Says) : Type 0 where
+  pub malformed : (said ≡ Says.refused 9) ↔ (Usable t h s → ⊥)
+  pub others : Usable t h s → ExactChecking (InReachOf h s number k) (IsWitness t h s notion number k start) bytes said
+  pub no-other : (n : ℕ) → said ≡ Says.refused n → n ≡ 9
+
+abbrev pub EveryCheck : Type 0
+EveryCheck = (t : List ℕ) (h : Header) (s : Estimator) (notion : Notion) (number k start : ℕ) (bytes : List ℕ) (said : Says)
+    → CheckingIn t h s notion number k start bytes said → CheckAnswers t h s notion number k start bytes said

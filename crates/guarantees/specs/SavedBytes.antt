@@ -1,8 +1,9 @@
--- A gateway that keeps a table, a header and a state as bytes: the three points of the C functions, the exploration, the first leak and the canonical
--- form.
+-- A gateway that keeps a table, a header and a state as bytes: the three points of the C functions, the exploration, the first leak, the canonical form and
+-- the witness.
 use mathlib.Core.Path.{_≡_}
+use mathlib.Core.Bool.{true}
 use mathlib.Core.List.{List}
-use Prim.Native.Nat.{ℕ, _≤_}
+use Prim.Native.Nat.{ℕ, _*_, _≤_}
 use lib.ListN.{length, getD, take}
 use Rattle.automaton.specs.Run.{automatonOf}
 use Rattle.automaton.specs.declared.Header.{Header}
@@ -12,7 +13,7 @@ use Rattle.verifier.specs.Estimators as estimator
 use Rattle.verifier.specs.declared.Estimator.{Estimator}
 use Rattle.verifier.specs.Replies as verifier
 use Rattle.verifier.specs.Replies.{Opening, Accepting}
-use Rattle.verifier.specs.Calls.{VerifierPromise}
+use Rattle.verifier.specs.Calls.{VerifierPromise, acceptedOf}
 use Rattle.enforcer.specs.Enforcers as enforcer
 use Rattle.enforcer.specs.declared.Enforcer.{Enforcer}
 use Rattle.enforcer.specs.Offerings as offering
@@ -28,14 +29,19 @@ use Rattle.canonical.specs.Meanings.{Meaning, Means, canonicalBytes}
 use Rattle.canonical.specs.Writing as writing
 use Rattle.canonical.specs.Writing.{Writing}
 use Rattle.layout.specs.Sizes.{headerSize, furtherSize, estimatorSize, strongByte, notionPlace, enforcerSize, judgementSize, explorationSize, firstLeakSize}
-use Rattle.layout.specs.Sizes.{writtenSize}
+use Rattle.witness.specs.Answers.{Told, Says, InReach, WritingIn, CheckingIn}
+use Rattle.witness.specs.Traces.{IsWitnessOf, ExactWriting, ExactChecking}
+use Rattle.layout.specs.Sizes.{writtenSize, runSize, validSize}
 use Rattle.layout.specs.Layout.{headerAt, furtherAt, estimatorAt, notionAt, enforcerAt, judgementAt, explorationAt, firstLeakAt, writtenAt}
+use Rattle.layout.specs.Layout.{startAt, pairsAt, validAt}
 use Rattle.gateway.specs.Interface.{Decode, FreshSizes, Fresh, VerifierSizes, Accept, StartSizes, Start, OfferSizes, Offer, ExploreSizes, Explore}
 use Rattle.gateway.specs.Interface.{FirstLeakSizes, FirstLeakCall, leakSaid, CanonicalCall, ByOutput}
+use Rattle.gateway.specs.Interface.{WitnessSizes, Witnessing, CheckWitnessSizes, CheckingWitness}
 use Rattle.gateway.specs.Interface.{ByFurther, ByStart, ByExplore}
 use Rattle.gateway.specs.SavedCalls.{AcceptCall, AcceptCalls, callsOf, OfferCall, OfferCalls, offersOf, SavedLongestWait}
+use Rattle.gateway.specs.SavedCalls.{witnessSaid, checkSaid}
 
--- the first point, of each of the eight functions: 9 where a slice has not its length or the notion is none; else the refusal of the entry below (FirstPoint);
+-- the first point, of each of the ten functions: 9 where a slice has not its length or the notion is none; else the refusal of the entry below (FirstPoint);
 -- whatever is not 0 leaves every lent slice as it was
 abbrev pub DecodeSaved : Type 0
 DecodeSaved = (encoding table header : List ℕ) (answer : ℕ) (t after : List ℕ) → Decode encoding table header answer t after
@@ -86,6 +92,20 @@ abbrev pub CanonicalSaved : Type 0
 CanonicalSaved = (encoding output size : List ℕ) (answer : ℕ) (after out : List ℕ) → CanonicalCall encoding output size answer after out
     → ((length size ≡ writtenSize → ⊥) → answer ≡ 9) × ((answer ≡ 0 → ⊥) → (after ≡ output) × (out ≡ size))
     × (length size ≡ writtenSize → (answer ≡ 0 → ⊥) → Writing encoding output (writing.refuse answer) output)
+
+abbrev pub WitnessSaved : Type 0
+WitnessSaved = (t header : List ℕ) (notion secret k : ℕ) (estimator output run : List ℕ) (answer : ℕ) (after out : List ℕ)
+    → Witnessing t header notion secret k estimator output run answer after out
+    → ((WitnessSizes header notion estimator run → ⊥) → answer ≡ 9) × ((answer ≡ 0 → ⊥) → (after ≡ output) × (out ≡ run))
+    × (WitnessSizes header notion estimator run → (answer ≡ 0 → ⊥)
+    → WritingIn t (headerAt header) (estimatorAt estimator) (notionAt notion) secret k output (Told.refused answer) output)
+
+abbrev pub CheckSaved : Type 0
+CheckSaved = (t header : List ℕ) (notion secret k start : ℕ) (estimator pairs valid : List ℕ) (answer : ℕ) (out : List ℕ)
+    → CheckingWitness t header notion secret k start estimator pairs valid answer out
+    → ((CheckWitnessSizes header notion estimator valid → ⊥) → answer ≡ 9) × ((answer ≡ 0 → ⊥) → out ≡ valid)
+    × (CheckWitnessSizes header notion estimator valid → (answer ≡ 0 → ⊥)
+    → CheckingIn t (headerAt header) (estimatorAt estimator) (notionAt notion) secret k start pairs (Says.refused answer))
 
 -- after a decode that answered 0, with slices of their lengths: a fresh call and a first leak are refused by 13 and 14 only, a start by these and by 8, an
 -- exploration by these two and by 15, each on its condition
@@ -152,6 +172,43 @@ SavedWaits = (t header a b : List ℕ) (budget : ℕ) (lent out : List ℕ) (not
 abbrev pub FirstLeakInBytes : Type 0
 FirstLeakInBytes = (t header : List ℕ) (notion : ℕ) (further events lent out : List ℕ) → FirstLeakCall t header notion further events lent 0 out
     → Finding (notionAt notion) t (headerAt header) (furtherAt further 0) events (leakSaid (firstLeakAt out))
+
+-- of the bytes of an estimator that a fresh call and a list of calls led to, a witness is written, and checked, over the accepted symbols, with the secrets as
+-- they were given (Witnesses: GrownWriting, GrownChecking)
+abbrev pub SavedWitness : Type 0
+SavedWitness = (t header further before lent s told : List ℕ) (cs : List AcceptCall) (e : List ℕ) → Fresh t header further before lent 0 s told
+    → AcceptCalls t header s cs e → (notion secret k : ℕ) (output run : List ℕ) (answer : ℕ) (after out : List ℕ) → notion ≤ strongByte
+    → length run ≡ runSize → Witnessing t header notion secret k e output run answer after out
+    → ExactWriting (InReach (headerAt header) (furtherAt further 0) (length (acceptedOf (callsOf (furtherAt further 0 .count) cs))) secret k)
+    (IsWitnessOf t (headerAt header) (furtherAt further 0) (acceptedOf (callsOf (furtherAt further 0 .count) cs)) (notionAt notion) secret k)
+    output (witnessSaid answer out) after
+
+abbrev pub SavedCheck : Type 0
+SavedCheck = (t header further before lent s told : List ℕ) (cs : List AcceptCall) (e : List ℕ) → Fresh t header further before lent 0 s told
+    → AcceptCalls t header s cs e → (notion secret k start : ℕ) (pairs valid : List ℕ) (answer : ℕ) (out : List ℕ) → notion ≤ strongByte
+    → length valid ≡ validSize → CheckingWitness t header notion secret k start e pairs valid answer out
+    → ExactChecking (InReach (headerAt header) (furtherAt further 0) (length (acceptedOf (callsOf (furtherAt further 0 .count) cs))) secret k)
+    (IsWitnessOf t (headerAt header) (furtherAt further 0) (acceptedOf (callsOf (furtherAt further 0 .count) cs)) (notionAt notion) secret k start)
+    pairs (checkSaid answer out)
+
+-- of any saved estimator, grown or not: where a run was written, or checked, the bytes hold what `witness` or `check_witness` answered (FirstPoint:
+-- EveryWitness, EveryCheck)
+abbrev pub WitnessInBytes : Type 0
+WitnessInBytes = (t header : List ℕ) (notion secret k : ℕ) (estimator output run after out : List ℕ)
+    → Witnessing t header notion secret k estimator output run 0 after out
+    → WritingIn t (headerAt header) (estimatorAt estimator) (notionAt notion) secret k output (Told.written (startAt out) (pairsAt out)) after
+
+abbrev pub CheckInBytes : Type 0
+CheckInBytes = (t header : List ℕ) (notion secret k start : ℕ) (estimator pairs valid out : List ℕ)
+    → CheckingWitness t header notion secret k start estimator pairs valid 0 out
+    → CheckingIn t (headerAt header) (estimatorAt estimator) (notionAt notion) secret k start pairs (checkSaid 0 out)
+
+-- what was written passes the checker
+abbrev pub SavedPasses : Type 0
+SavedPasses = (t header : List ℕ) (notion secret k : ℕ) (estimator output run after out valid : List ℕ) (answer : ℕ) (left : List ℕ)
+    → Witnessing t header notion secret k estimator output run 0 after out → length valid ≡ validSize
+    → CheckingWitness t header notion secret k (startAt out) estimator (take (2 * pairsAt out) after) valid answer left
+    → (answer ≡ 0) × (validAt left ≡ true)
 
 -- the canonical form: where it answered 0, its bytes hold how many bytes were written; there is one answer; after a decode that answered 0 it is 0 or 10,
 -- each on its condition, and after one that did not it is that number; and what was written decodes to the same table and the same header's bytes

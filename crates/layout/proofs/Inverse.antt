@@ -1,7 +1,8 @@
--- What is saved reads back: a header, further secrets, an estimator, an enforcer and an exploration whose numbers fit their bytes and whose arrays have their
--- sizes, and a verdict. Assumes nothing.
+-- What is saved reads back: a header, further secrets, an estimator, an enforcer, an exploration and a run whose numbers fit their bytes and whose arrays
+-- have their sizes, and a verdict. Assumes nothing.
 use Prim.Native.Nat.{ℕ, zero, suc, _+_, _*_, _/_, _%_, _^_, _≤_, _<_}
 use mathlib.Core.Path.{_≡_, refl, ap, sym, _∙_}
+use mathlib.Core.Bool.{Bool, true, false}
 use mathlib.Core.List.{List, [], _∷_, _++_, append-assoc, append-nil}
 use native.Mathlib.Omega.{arith}
 use borrow.Author.Tests.{ne-eqb}
@@ -22,7 +23,7 @@ use Rattle.layout.specs.Sizes as sizes
 use Rattle.layout.specs.Layout.{littleEndianAt, littleEndianBytes, wordBytes, wordsAt, wordsBytes, bytesAt, headerAt, headerBytes, HeaderSized}
 use Rattle.layout.specs.Layout.{placeAt, placeBytes, furtherAt, furtherBytes, FurtherSized, estimatorAt, estimatorBytes, EstimatorSized, EstimatorSaved}
 use Rattle.layout.specs.Layout.{notionAt, notionByte, enforcerAt, enforcerBytes, EnforcerSized, EnforcerSaved, verdictAt, verdictByte}
-use Rattle.layout.specs.Layout.{explorationBytes, ExplorationSaved, NumberSaved}
+use Rattle.layout.specs.Layout.{explorationBytes, ExplorationSaved, NumberSaved, runBytes, RunSaved, validBytes, validAt}
 use Rattle.layout.proofs.Bytes.{number-more, number-none, bytes-length, words-bytes-length}
 
 -- a text stands in the bytes from a place on, between others
@@ -268,3 +269,18 @@ exploration-saved e small =
 -- a number of a word: the place of a first leak, a written size
 pub number-saved : (number : ℕ) → number < 2 ^ 64 → NumberSaved number
 number-saved number small = record { size = bytes-length sizes.wordSize number; back = number-back sizes.wordSize number small (stands-all (wordBytes number)) }
+
+-- the run of a witness
+pub run-length : (start pairs : ℕ) → length (runBytes start pairs) ≡ sizes.runSize
+run-length start pairs = ap suc (bytes-length sizes.runPairsSize pairs)
+
+pub run-saved : (start pairs : ℕ) → pairs < 2 ^ 16 → RunSaved start pairs
+run-saved start pairs small =
+    let number = littleEndianBytes sizes.runPairsSize pairs in
+    let from-pairs = stands-second (start ∷ []) number (stands-all (runBytes start pairs)) sizes.runPairsPlace refl in
+    record { size = run-length start pairs; start-back = refl; pairs-back = number-back sizes.runPairsSize pairs small from-pairs }
+
+-- what the checker says
+pub valid-back : (valid : Bool) → validAt (validBytes valid) ≡ valid
+valid-back false = refl
+valid-back true = refl

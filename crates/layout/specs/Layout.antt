@@ -1,8 +1,9 @@
--- The bytes of headers, further secrets, saved estimators, saved enforcers, judgements, releases, explorations and first leaks: what is read from bytes
--- (headerAt ..), and the bytes that are written (headerBytes ..). A number of several bytes has the least significant first. Sizes has every place and size.
+-- The bytes of headers, further secrets, saved estimators, saved enforcers, judgements, releases, explorations, first leaks, written sizes, the runs of
+-- witnesses and what their checker says: what is read from bytes (headerAt ..), and the bytes that are written (headerBytes ..). A number of several bytes has
+-- the least significant first. Sizes has every place and size.
 use Prim.Native.Nat.{ℕ, zero, suc, _+_, _*_, _/_, _%_, _≤_, _<_, _^_}
 use mathlib.Core.Path.{_≡_}
-use mathlib.Core.Bool.{cond}
+use mathlib.Core.Bool.{Bool, true, false, cond}
 use mathlib.Core.List.{List, [], _∷_, _++_, map}
 use lib.Dec.{eqb}
 use lib.ListN.{length, getD, take, drop}
@@ -248,3 +249,30 @@ writtenAt bytes = wordAt bytes 0
 pub record NumberSaved (number : ℕ) : Type 0 where
   pub size : length (wordBytes number) ≡ sizes.wordSize
   pub back : wordAt (wordBytes number) 0 ≡ number
+
+-- the run of a witness: the state it starts in and the number of its pairs
+abbrev pub runBytes : (start pairs : ℕ) → List ℕ
+runBytes start pairs = start ∷ littleEndianBytes sizes.runPairsSize pairs
+
+abbrev pub startAt : List ℕ → ℕ
+startAt bytes = getD bytes sizes.runStartPlace 0
+
+abbrev pub pairsAt : List ℕ → ℕ
+pairsAt bytes = littleEndianAt bytes sizes.runPairsPlace sizes.runPairsSize
+
+-- the bytes that a call leaves for it: they have their length, and read back as it is
+pub record RunSaved (start pairs : ℕ) : Type 0 where
+  pub size : length (runBytes start pairs) ≡ sizes.runSize
+  pub start-back : startAt (runBytes start pairs) ≡ start
+  pub pairs-back : pairsAt (runBytes start pairs) ≡ pairs
+
+-- what the checker of witnesses says: true is yes
+abbrev pub validByteOf : Bool → ℕ
+validByteOf false = sizes.invalidByte
+validByteOf true = sizes.validByte
+
+abbrev pub validBytes : Bool → List ℕ
+validBytes valid = validByteOf valid ∷ []
+
+abbrev pub validAt : List ℕ → Bool
+validAt bytes = eqb (getD bytes sizes.validPlace 0) sizes.validByte

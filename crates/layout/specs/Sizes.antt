@@ -165,3 +165,29 @@ firstLeakSize = wordSize
 -- a written size: how many bytes were written, a word
 abbrev pub writtenSize : ℕ
 writtenSize = wordSize
+
+-- the run of a witness: the state it starts in, the number of its pairs
+abbrev pub runStartPlace : ℕ
+runStartPlace = 0
+
+abbrev pub runPairsPlace : ℕ
+runPairsPlace = 1
+
+abbrev pub runPairsSize : ℕ
+runPairsSize = 2
+
+abbrev pub runSize : ℕ
+runSize = runPairsPlace + runPairsSize
+
+-- what the checker of witnesses says: one byte
+abbrev pub invalidByte : ℕ
+invalidByte = 0
+
+abbrev pub validByte : ℕ
+validByte = 1
+
+abbrev pub validPlace : ℕ
+validPlace = 0
+
+abbrev pub validSize : ℕ
+validSize = validPlace + 1

@@ -1,6 +1,6 @@
-// The bytes of headers, further secrets, saved estimators, saved enforcers, judgements, releases, explorations, first leaks and written sizes, as
-// specs/Layout has them, each read from its bytes and written to them. What is required is that the bytes have room: who calls tests their length.
-// Every place and size is a constant of `sizes`.
+// The bytes of headers, further secrets, saved estimators, saved enforcers, judgements, releases, explorations, first leaks, written sizes, the runs of
+// witnesses and what their checker says, as specs/Layout has them, each read from its bytes and written to them. What is required is that the bytes have
+// room: who calls tests their length. Every place and size is a constant of `sizes`.
 use automaton::Header;
 use enforcer::Enforcer;
 use enforcer::Release;
@@ -23,6 +23,7 @@ ghost use Rattle.layout.specs.Layout.{Stored, littleEndianAt, littleEndi
 ghost use Rattle.layout.specs.Layout.{headerAt, headerBytes, placeAt, placeBytes, furtherAt, furtherBytes, FurtherSized};
 ghost use Rattle.layout.specs.Layout.{estimatorAt, estimatorBytes, EstimatorSized, notionAt, notionByte, enforcerAt, enforcerBytes, EnforcerSized};
 ghost use Rattle.layout.specs.Layout.{verdictByte, toldBytes, allFindings, judgementBytes, releaseBytes, explorationBytes};
+ghost use Rattle.layout.specs.Layout.{runBytes, validByteOf, validBytes};
 
 pub mod sizes;
 
@@ -318,7 +319,7 @@ pub fn write_enforcer(bytes: &mut [u8], enforcer: Enforcer)
     store_bytes(bytes, sizes::WAITS_PLACE, &waits);
 }
 
-// ---- judgements, releases, explorations, first leaks and written sizes
+// ---- judgements, releases, explorations, first leaks, written sizes and witnesses
 
 fn verdict_byte(verdict: Verdict) -> u8
     ensures { λ r. ⌜ r ≡ verdictByte (stepsOf verdict) ⌝ }
@@ -383,4 +384,35 @@ pub fn write_number(bytes: &mut [u8], number: u64)
     ensures { λ _. ⌜ now (bytes .exit) ≡ wordBytes number ⌝ }
 {
     store_number(bytes, 0, sizes::WORD_SIZE, number);
+}
+
+// The run of a witness: the state it starts in and the number of its pairs, of which there are 1,086 at most.
+pub fn write_run(bytes: &mut [u8], start: u8, pairs: usize)
+    requires { ⌜ length (now bytes) ≡ sizes.runSize ⌝ }
+    ensures { λ _. ⌜ now (bytes .exit) ≡ runBytes start pairs ⌝ }
+{
+    put(bytes, sizes::RUN_START_PLACE, start);
+    store_number(
+        bytes,
+        sizes::RUN_PAIRS_PLACE,
+        sizes::RUN_PAIRS_SIZE,
+        pairs as u64,
+    );
+}
+
+// What the checker of witnesses says.
+fn valid_byte(valid: bool) -> u8
+    ensures { λ r. ⌜ r ≡ validByteOf valid ⌝ }
+{
+    if valid {
+        return sizes::VALID_BYTE;
+    }
+    sizes::INVALID_BYTE
+}
+
+pub fn write_valid(bytes: &mut [u8], valid: bool)
+    requires { ⌜ length (now bytes) ≡ sizes.validSize ⌝ }
+    ensures { λ _. ⌜ now (bytes .exit) ≡ validBytes valid ⌝ }
+{
+    put(bytes, sizes::VALID_PLACE, valid_byte(valid));
 }

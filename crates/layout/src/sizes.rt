@@ -112,3 +112,21 @@ pub const FIRST_LEAK_SIZE: usize = WORD_SIZE;
 
 // A written size: how many bytes were written, a word.
 pub const WRITTEN_SIZE: usize = WORD_SIZE;
+
+// The run of a witness: the state it starts in, the number of its pairs.
+pub const RUN_START_PLACE: usize = 0;
+
+pub const RUN_PAIRS_PLACE: usize = 1;
+
+pub const RUN_PAIRS_SIZE: usize = 2;
+
+pub const RUN_SIZE: usize = RUN_PAIRS_PLACE + RUN_PAIRS_SIZE;
+
+// What the checker of witnesses says: one byte.
+pub const INVALID_BYTE: u8 = 0;
+
+pub const VALID_BYTE: u8 = 1;
+
+pub const VALID_PLACE: usize = 0;
+
+pub const VALID_SIZE: usize = VALID_PLACE + 1;

@@ -69,7 +69,7 @@ begins t h s events n says m a b c x =
     }
 
 -- the events among the first bytes
-drop-take : (a n : ℕ) (l : List ℕ) → a ≤ n → n ≤ length l → take (n - a) (drop a l) ≡ drop a (take n l)
+pub drop-take : (a n : ℕ) (l : List ℕ) → a ≤ n → n ≤ length l → take (n - a) (drop a l) ≡ drop a (take n l)
 drop-take a n l h k =
     let z : a + (n - a) ≡ n = omega arith in
     sym (drop-at (take a l) (take (n - a) (drop a l)) a (length-take-le a l (omega arith)))

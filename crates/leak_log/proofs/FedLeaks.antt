@@ -148,12 +148,12 @@ module _ (first rest : List ℕ) (whole : frontSize first ≤ length first) wher
       ∙ ap (take most) (drop-append-le (frontSize first) first rest whole)
 
 -- all of it
-record OnEvents (most : ℕ) (first bytes later : List ℕ) (t : List ℕ) (h : Header) : Type 0 where
-  searchable : Searchable ((first ++ bytes) ++ later) t h
-  events : take most (drop (frontSize ((first ++ bytes) ++ later)) ((first ++ bytes) ++ later))
+pub record OnEvents (most : ℕ) (first bytes later : List ℕ) (t : List ℕ) (h : Header) : Type 0 where
+  pub searchable : Searchable ((first ++ bytes) ++ later) t h
+  pub events : take most (drop (frontSize ((first ++ bytes) ++ later)) ((first ++ bytes) ++ later))
       ≡ (take most (drop (frontSize first) first) ++ bytes) ++ take (most - length (take most (drop (frontSize first) first)) - length bytes) later
 
-on-events : (most : ℕ) (first bytes later t : List ℕ) (h : Header) → frontSize first ≤ length first → Decodes first h accept t
+pub on-events : (most : ℕ) (first bytes later t : List ℕ) (h : Header) → frontSize first ≤ length first → Decodes first h accept t
     → length bytes ≤ most - length (take most (drop (frontSize first) first)) → OnEvents most first bytes later t h
 on-events most first bytes later t h whole d few =
     let e : first ++ (bytes ++ later) ≡ (first ++ bytes) ++ later = sym (append-assoc first bytes later) in
@@ -166,7 +166,7 @@ on-events most first bytes later t h whole d few =
 
 -- ---- a log that was searched and read on
 
-begun-well-formed : (notion : Notion) (t : List ℕ) (h : Header) (s : Search) → Beginning notion t h noFurther nowhere s → WellFormed t h
+pub begun-well-formed : (notion : Notion) (t : List ℕ) (h : Header) (s : Search) → Beginning notion t h noFurther nowhere s → WellFormed t h
 begun-well-formed notion t h s (Beginning.begun so allowed limits going zero x) = so
 
 few-of : (left n limit allowed k : ℕ) → left + n ≡ limit → limit ≤ allowed → allowed ≡ k → n ≤ k
@@ -175,11 +175,11 @@ few-of left n limit allowed k a b c = omega arith
 most-of : (limit allowed m k : ℕ) → limit ≤ allowed → allowed ≡ m - k → limit ≤ m
 most-of limit allowed m k a b = omega arith
 
-few-taken : (n : ℕ) (l : List ℕ) → length (take n l) ≤ n
+pub few-taken : (n : ℕ) (l : List ℕ) → length (take n l) ≤ n
 few-taken n l = omega (arith, length-take n l)
 
 -- nothing more of the input counts
-no-later : (k : ℕ) (l later : List ℕ) → (later ≡ []) ⊎ (k ≡ 0) → l ++ take k later ≡ l
+pub no-later : (k : ℕ) (l later : List ℕ) → (later ≡ []) ⊎ (k ≡ 0) → l ++ take k later ≡ l
 no-later k l later (inl e) = ap (λ (x : List ℕ). l ++ take k x) e ∙ ap (λ (x : List ℕ). l ++ x) (take-nil {A = ℕ} k) ∙ append-nil l
 no-later k l later (inr e) = ap (λ (n : ℕ). l ++ take n later) e ∙ append-nil l
 
@@ -229,7 +229,7 @@ module _ (notion : Notion) (first t : List ℕ) (h : Header) (s : Search) (b : B
 
 -- ---- a refused log
 
-refuses : {notion : Notion} {first t : List ℕ} {h : Header} {s : Search} {n : ℕ} (later : List ℕ) → (frontSize first ≤ length first) ⊎ (later ≡ [])
+pub refuses : {notion : Notion} {first t : List ℕ} {h : Header} {s : Search} {n : ℕ} (later : List ℕ) → (frontSize first ≤ length first) ⊎ (later ≡ [])
     → Opening notion first (refused n) t h s → Refused (first ++ later) n
 refuses later (inl l) (opens.truncated short out) = absurd (omega arith)
 refuses {first = first} later (inr e) (opens.truncated short out) =

@@ -1,6 +1,6 @@
 // A log that is read from standard input and searched for its first leak by one notion (02, S-8): its place is written to standard output, or `-`. `streams`
 // reads and writes, `leaks` searches. Here the types, and a log from its first read to its one line. The modules stand beside one another.
-mod opening; // the search of a log with its first bytes
+pub mod opening; // the search of a log with its first bytes
 mod telling; // the one line
 
 use automaton::Header;

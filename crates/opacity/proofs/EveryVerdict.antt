@@ -69,7 +69,8 @@ clear? Weak p secret trace j h = clear-at? p (secret .states) trace j h
 clear? Strong p secret trace j h = clear-from? p (secret .states) trace j
 
 -- where no run excuses the system, the reader is sure
-unclear-sure : (notion : Notion) (p : Automaton) (secret : Secret) (trace : List ℕ) (j : ℕ) → (Clear notion p secret trace j → ⊥) → Sure notion p secret trace j
+pub unclear-sure : (notion : Notion) (p : Automaton) (secret : Secret) (trace : List ℕ) (j : ℕ) → (Clear notion p secret trace j → ⊥)
+    → Sure notion p secret trace j
 unclear-sure Weak p secret trace j never = λ run f m c. elim (in? (stateAt p m) (secret .states)) [
   | yes bad ↦ bad
   | no good ↦ absurd (never (record { run = run; compatible = f; position = m; here = c; outside = good }))

@@ -17,6 +17,8 @@ pub enum Refusal {
     TooManySecrets,
     LookBackTooLarge,
     BudgetSpent,
+    NoWitness,
+    StepTooFar,
 }
 
 // The number of a refusal in 01's table.
@@ -37,5 +39,7 @@ pub fn number(refusal: Refusal) -> u8
         Refusal::TooManySecrets => 13,
         Refusal::LookBackTooLarge => 14,
         Refusal::BudgetSpent => 15,
+        Refusal::NoWitness => 16,
+        Refusal::StepTooFar => 17,
     }
 }

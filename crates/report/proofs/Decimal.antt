@@ -92,6 +92,11 @@ all-digits (suc f) n i h = by-test (ltb n 10) refl (all-digits f (n / 10)) h
     by-test true e rest l = digit-more [] (48 + n) (λ j k. absurd (omega arith)) (omega arith) (omega (arith, ltb-true n 10 e)) i l
     by-test false e rest l = digit-more (digits f (n / 10)) (48 + n % 10) rest (omega arith) (omega arith) i l
 
+-- a number begins with a digit
+pub begins-digit : (n : ℕ) → (0 < length (decimal n)) × (getD (decimal n) 0 0 ≤ 57)
+unfolding decimal
+begins-digit n = (some-digits 9 n, all-digits 10 n 0 (some-digits 9 n) .1)
+
 -- the first digit of a number above 9 is that of its tenth
 first-digit : (f n : ℕ) → n < 10 ^ suc f → getD (digits (suc f) n) 0 0 ≡ 48 → n ≡ 0
 unfolding digits

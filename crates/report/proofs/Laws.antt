@@ -42,7 +42,7 @@ fit {m} {n} {at} {next} {d} {d′} {xs} {ys} e h p = record {
   size = p .size;
 }
 
-led-snoc : (s : ℕ) (xs : List (List ℕ)) (x : List ℕ) → led s (xs ++ (x ∷ [])) ≡ led s xs ++ (s ∷ x)
+pub led-snoc : (s : ℕ) (xs : List (List ℕ)) (x : List ℕ) → led s (xs ++ (x ∷ [])) ≡ led s xs ++ (s ∷ x)
 led-snoc s [] x = ap (λ (l : List ℕ). s ∷ l) (append-nil x)
 led-snoc s (y ∷ ys) x = ap (λ (l : List ℕ). s ∷ (y ++ l)) (led-snoc s ys x) ∙ ap (λ (l : List ℕ). s ∷ l) (sym (append-assoc y (led s ys) (s ∷ x)))
 

@@ -1,4 +1,6 @@
-// The lines of the log program, written into a lent output. Bytes past the written ones stay as they were.
+// The lines of the log programs, written into a lent output. Bytes past the written ones stay as they were.
+pub mod witnesses; // the lines of the witnesses of a log
+
 use opacity::Verdict;
 use refusal::Refusal;
 use verifier::Judgement;

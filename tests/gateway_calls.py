@@ -1298,14 +1298,19 @@ def random_state(rng, k):
     return changed(state, 0, rng.randrange(largest + 1)), largest
 
 
+def lent_automata(calls, name, count):
+    """So many random automata, of which those with an observable event are lent, each with the random numbers that it came from."""
+    for i in range(count):
+        rng = random.Random(f"{name} {SEED} {i}")
+        automaton = random_automaton(rng)
+        if automaton.observable:
+            calls.lend(automaton)
+            yield rng, automaton
+
+
 def random_open(calls):
     """The same on random automata."""
-    for i in range(OPEN):
-        rng = random.Random(f"open {SEED} {i}")
-        automaton = random_automaton(rng)
-        if not automaton.observable:
-            continue
-        calls.lend(automaton)
+    for rng, automaton in lent_automata(calls, "open", OPEN):
         lend_all(calls)
         for _ in range(2):
             calls.put(estimator=random_state(rng, automaton.k)[0])
@@ -1795,12 +1800,7 @@ def witness_states(calls):
             check(calls, 0, 0, k, start, pairs)
         check(calls, 1, 0, 0, 1, ())
     calls.say("witness and check: the same, random ones")
-    for i in range(UNGROWN):
-        rng = random.Random(f"ungrown {SEED} {i}")
-        automaton = random_automaton(rng)
-        if not automaton.observable:
-            continue
-        calls.lend(automaton)
+    for rng, automaton in lent_automata(calls, "ungrown", UNGROWN):
         shown = sorted(automaton.symbol_of.values())
         state, _ = random_state(rng, automaton.k)
         if rng.random() < 0.7:  # symbols that events have

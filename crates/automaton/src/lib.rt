@@ -1,4 +1,6 @@
 // Automata: the header and the lent table, whether the two are well-formed, the events of each symbol, and the sets of states that runs reach by events.
+#![tactic(auto)]
+
 ghost use Rattle.std.specs.Prelude.{◌≡◌, List, [], ◌∷◌, ◌++◌, ℕ, ◌+◌, ◌*◌, ◌<◌, ◌≤◌, max, length, get_or, take, drop, replicate};
 ghost use Rattle.stateset.specs.Set.{In, Is, Decided};
 ghost use Rattle.automaton.specs.Run.{Automaton, automaton_of, SmallSymbols, WellFormed};
@@ -10,7 +12,7 @@ use relation::StateSets;
 // What an encoding says beside its transitions (01: head): the initial state, the look-back K, the secret states, the observable events, and
 // the observation symbol of each event (02: lamp), which counts only where the event is observable. (The symbols stand first: a header is copied
 // sixteen bytes at a time, and so are they read.)
-#[derive(Drop)]
+#[derive(Clone, Copy)]
 pub struct Header {
     pub symbols: [u8; 32],
     pub secret: u64,
@@ -20,7 +22,7 @@ pub struct Header {
 }
 
 // States that unobservable events do not leave, and those whose rows are known.
-#[derive(Drop)]
+#[derive(Clone, Copy)]
 pub struct Reach {
     pub states: u64,
     pub known: u64,

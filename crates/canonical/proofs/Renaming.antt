@@ -8,7 +8,7 @@ use native.Mathlib.Omega.{arith}
 use native.Mathlib.Numerals.{add-one}
 use native.Mathlib.Nat.{zero-add, eq-or-lt_of_le, le_of_suc-le-suc}
 use native.Mathlib.Decide.{ℕ_discrete, dec_lt}
-use borrow.Author.Tests.{eq_eqb, ne_eqb}
+use borrow.Author.Tests.{eq-eqb, ne_eqb}
 use lib.Dec.{eqb}
 use lib.ListN.{length, get_or, take, get_or-eq_default}
 use Rattle.stateset.specs.Set.{bit, In}
@@ -27,10 +27,10 @@ pub not_observable : (observable : ℕ) (symbols : ℕ → ℕ) (e : ℕ) → (I
 not_observable observable symbols e n = rw (ne_eqb (bit e observable) 1 n)
 
 pub own_number : (observable : ℕ) (symbols : ℕ → ℕ) (e : ℕ) → In e observable → symbols e ≡ e → false ≡ renamed observable symbols e
-own_number observable symbols e i own = rw (eq_eqb (bit e observable) 1 i, eq_eqb (symbols e) e own)
+own_number observable symbols e i own = rw (eq-eqb (bit e observable) 1 i, eq-eqb (symbols e) e own)
 
 pub other_number : (observable : ℕ) (symbols : ℕ → ℕ) (e : ℕ) → In e observable → (symbols e ≡ e → ⊥) → true ≡ renamed observable symbols e
-other_number observable symbols e i other = rw (eq_eqb (bit e observable) 1 i, ne_eqb (symbols e) e other)
+other_number observable symbols e i other = rw (eq-eqb (bit e observable) 1 i, ne_eqb (symbols e) e other)
 
 -- all below a number: none so far, one more, and the first that is
 pub none_start : (observable : ℕ) (symbols : ℕ → ℕ) → some_renamed observable symbols 0 ≡ false

@@ -2,6 +2,8 @@
 // The whole encoding is checked first (`first_pass`), so that a refusal leaves the table as it was; then the table is cleared and filled (`second_pass`).
 // Each pass makes one Reader of `bitfields` where it begins, which goes from field to field; what the fields answer is judged by `encoding` below. Only
 // `decode` is an entry: it demands nothing of its caller, and nor does `check_bytes`, the first pass alone, which is inner, for `canonical` above.
+#![tactic(auto)]
+
 pub mod first_pass; // all of an encoding is in order
 mod second_pass; // what it says is stored
 
@@ -15,13 +17,13 @@ use refusal::Refusal;
 use second_pass::read_bytes;
 
 // What decoding answers. The header stands beside it; of a refused call it is none: K is 255, outside its limit, so that every entry refuses it.
-#[derive(Drop)]
+#[derive(Clone, Copy)]
 pub enum Answer {
     Accepted,
     Refused(Refusal),
 }
 
-#[derive(Drop)]
+#[derive(Clone, Copy)]
 pub struct Decoded {
     pub header: Header,
     pub answer: Answer,

@@ -7,7 +7,7 @@ use mathlib.Core.Logic.{◌⊎◌, inl, inr, ⊎_elim}
 use native.Mathlib.Omega.{arith}
 use native.Mathlib.Decide.{ℕ_discrete}
 use native.Mathlib.Nat.{eq-or-lt_of_le, le_of_suc-le-suc}
-use borrow.Author.Tests.{eq_eqb, ne_eqb, eqb-true}
+use borrow.Author.Tests.{eq-eqb, ne_eqb, eqb-true}
 use lib.Dec.{eqb}
 use lib.ListN.{length}
 use Rattle.bitfields.specs.Bits.{bits_of, number_at}
@@ -38,7 +38,7 @@ same_equal t x h = go (eqb t.from x.from) (eqb t.event x.event) (eqb t.to x.to) 
     go true true false f g k h = absurd (false≢true h)
 
 same_self : (t : ListedTransition) → same_transition t t ≡ true
-same_self t = rw (eq_eqb t.from t.from refl, eq_eqb t.event t.event refl, eq_eqb t.to t.to refl)
+same_self t = rw (eq-eqb t.from t.from refl, eq-eqb t.event t.event refl, eq-eqb t.to t.to refl)
 
 pub first_listed : (t : ListedTransition) (ts : List ListedTransition) → listed t (t ∷ ts) ≡ true
 first_listed t ts = rw same_self
@@ -101,7 +101,7 @@ same_bits bs p q hp hq = go (ℕ_discrete (number_at bits p 17) (number_at bits 
         let from : number_at bits q 6 ≡ number_at bits p 6 = omega (arith, at_p, at_q) in
         let event : number_at bits (q + 6) 5 ≡ number_at bits (p + 6) 5 = omega (arith, at_p, at_q) in
         let to : number_at bits (q + 6 + 5) 6 ≡ number_at bits (p + 6 + 5) 6 = omega (arith, at_p, at_q) in
-        rw (eq_eqb _ _ e, eq_eqb _ _ from, eq_eqb _ _ event, eq_eqb _ _ to)
+        rw (eq-eqb _ _ e, eq-eqb _ _ from, eq-eqb _ _ event, eq-eqb _ _ to)
     go (no n) =
         let other : same_transition (transition_at bits q) (transition_at bits p) ≡ true → ⊥ =
         λ h. n (at_p ∙ ap packed (sym (same_equal (transition_at bits q) (transition_at bits p) h)) ∙ sym at_q) in

@@ -1,6 +1,8 @@
 // The enforcer (01: Holder): it keeps symbols back until no reader of what is released can be sure of a secret, and rests on the verifier's verdicts alone.
 // `Enforcer::start` makes one under a notion, `Enforcer::offer` takes one symbol and releases those that have waited
 // long enough; neither demands anything of its caller.
+#![tactic(auto)]
+
 ghost use Rattle.std.specs.Prelude.{◌≡◌, ◌++◌, ℕ, ◌+◌, ◌-◌, ◌≤◌, ◌<◌, length, get_or, take, drop};
 ghost use Rattle.stateset.specs.Set.{Decided};
 ghost use Rattle.automaton.specs.Run.{WellFormed};
@@ -19,7 +21,7 @@ use refusal::Refusal;
 use verifier::{Answer, AnswerBy, Estimator, VerdictsBy};
 
 // The estimator, the notion, and the pending symbols, the oldest first, each with the number of later ones that it waits for (01: Holder).
-#[derive(Drop)]
+#[derive(Clone, Copy)]
 pub struct Enforcer {
     pub estimator: Estimator,
     pub notion: Notion,
@@ -28,13 +30,13 @@ pub struct Enforcer {
     pub waits: [u8; 16],
 }
 
-#[derive(Drop)]
+#[derive(Clone, Copy)]
 pub enum StartAnswer {
     Refused(Refusal),
     Started,
 }
 
-#[derive(Drop)]
+#[derive(Clone, Copy)]
 pub struct Start {
     pub enforcer: Enforcer,
     pub answer: StartAnswer,
@@ -42,19 +44,19 @@ pub struct Start {
 
 // How many symbols were released to the front of the output (01: freed, tray), and how many states are possible after all that were accepted (02: how
 // many fit), 1 to 64.
-#[derive(Drop)]
+#[derive(Clone, Copy)]
 pub struct Release {
     pub count: u8,
     pub size: u8,
 }
 
-#[derive(Drop)]
+#[derive(Clone, Copy)]
 pub enum OfferAnswer {
     Refused(Refusal),
     Released(Release),
 }
 
-#[derive(Drop)]
+#[derive(Clone, Copy)]
 pub struct OfferReply {
     pub enforcer: Enforcer,
     pub answer: OfferAnswer,

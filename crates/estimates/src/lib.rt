@@ -1,5 +1,7 @@
 // What is remembered of the symbols, and which states are possible: now, right after a symbol and with the unobservable transitions after it; and before,
 // over the steps back. None of these functions is an entry: `verifier` calls them, and proves what they require.
+#![tactic(auto)]
+
 pub mod look_back; // over the steps back: the verdicts of one secret, and the sets m(l) for all
 
 ghost use Rattle.std.specs.Prelude.{◌≡◌, ℕ, ◌+◌, ◌≤◌, ◌<◌, min, length};
@@ -12,7 +14,7 @@ use automaton::{Header, Reach};
 
 // What is kept of a trace for look backs: how many symbols are remembered, these, the newest first, and for each step back the states right after the last
 // one that is left.
-#[derive(Drop)]
+#[derive(Clone, Copy)]
 pub struct Remembered {
     pub count: u8,
     pub symbols: [u8; 15],
@@ -21,7 +23,7 @@ pub struct Remembered {
 
 // The states that are possible: right after the last symbol, then with the unobservable transitions after it, and how many these are. And states
 // that unobservable events do not leave, with all of them among these.
-#[derive(Drop)]
+#[derive(Clone, Copy)]
 pub struct Estimate {
     pub entry: u64,
     pub states: u64,
@@ -30,7 +32,7 @@ pub struct Estimate {
 }
 
 // The states that are possible after one more symbol, if a run is left.
-#[derive(Drop)]
+#[derive(Clone, Copy)]
 pub enum NextEstimate {
     States(Estimate),
     Empty,

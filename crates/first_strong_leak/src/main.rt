@@ -1,5 +1,6 @@
 // Reads a log from standard input and writes the place of its first leak by the strong notion, or `-` (02, S-8). The input is streamed, and once
 // the leak is found, no further read is made.
+#![tactic(auto)]
 
 fn main() {
     leak_log::first_leak_program(opacity::Notion::Strong);

@@ -1,5 +1,7 @@
 // The interface for a gateway in C or Rust: include/opacity.h describes it. Headers and saved states are bytes of a fixed layout (`layout`); each function
 // answers 0, or the number of a refusal, and then leaves every slice that it was lent as it was.
+#![tactic(auto)]
+
 ghost use Rattle.gateway.specs.Interface.{Decode, Fresh, Accept, Start, Offer, Explore, FirstLeakCall, CanonicalCall, Witnessing, CheckingWitness};
 
 use canonical::Answer as Canonical;

@@ -29,7 +29,7 @@ pub const WITNESS: u64 = 0x7769746e657373;
 pub const CHECK_WITNESS: u64 = 0x5f7769746e657373;
 
 // The numbers that a call is given, as many as the function takes; the others are 0.
-#[derive(Drop)]
+#[derive(Clone, Copy)]
 pub struct Numbers {
     pub first: u32,
     pub second: u32,
@@ -38,7 +38,7 @@ pub struct Numbers {
 }
 
 // What a function is lent: slots to read, those to write to, and how many numbers it takes.
-#[derive(Drop)]
+#[derive(Clone, Copy)]
 pub struct Slots {
     pub input: usize,
     pub also: usize,

@@ -3,6 +3,8 @@
 //
 // The modules, each on those before it: `store` the memory, `print` what it holds, `calls` the functions, `open` calls whose answer is left open or of
 // which any run will do, `parse` the parts of a line; here the commands.
+#![tactic(auto)]
+
 ghost use Rattle.std.specs.Prelude.{◌≡◌, length};
 
 mod calls;

@@ -4,14 +4,14 @@ ghost use Rattle.std.specs.Prelude.{◌≤◌, ◌<◌, length};
 use super::store;
 
 // A number or a word of the line, and where the line goes on.
-#[derive(Drop)]
+#[derive(Clone, Copy)]
 pub struct Number {
     pub value: u64,
     pub next: usize,
 }
 
 // An element of a slot, how many times it is meant, and where the line goes on; at its start, if it is malformed.
-#[derive(Drop)]
+#[derive(Clone, Copy)]
 pub struct Element {
     pub place: usize,
     pub word: u64,
@@ -84,7 +84,7 @@ pub fn number_after(line: &[u8], at: usize, mark: u8, base: u8) -> Number
 }
 
 // The numbers that stand from a place on, one space before each, up to four; how many they are, and where the line goes on.
-#[derive(Drop)]
+#[derive(Clone, Copy)]
 pub struct Numbers {
     pub first: u64,
     pub second: u64,

@@ -1,6 +1,8 @@
 // The bytes of headers, further secrets, saved estimators, saved enforcers, judgements, releases, explorations, first leaks, written sizes, the runs of
 // witnesses and what their checker says, as specs/Layout has them, each read from its bytes and written to them. What is required is that the bytes have
 // room: who calls tests their length. Every place and size is a constant of `sizes`.
+#![tactic(auto)]
+
 ghost use Rattle.std.specs.Prelude.{◌≡◌, [], ◌∷◌, ℕ, ◌+◌, ◌*◌, ◌≤◌, ◌<◌, ◌^◌, length, get_or};
 ghost use Rattle.opacity.specs.Verdicts.{steps_of};
 ghost use Rattle.verifier.specs.Replies.{told_of};

@@ -1,5 +1,7 @@
 // A log that is read from standard input and searched for its first leak by one notion (02, S-8): its place is written to standard output, or `-`. `streams`
 // reads and writes, `leaks` searches. Here the types, and a log from its first read to its one line. The modules stand beside one another.
+#![tactic(auto)]
+
 pub mod opening; // the search of a log with its first bytes
 mod telling; // the one line
 
@@ -17,7 +19,7 @@ use streams::{Fetched, Gathered};
 use telling::finish;
 
 // Why a search ended.
-#[derive(Drop)]
+#[derive(Clone, Copy)]
 pub enum Status {
     // The first leak is found: no byte behind it is looked at, and no further read is made.
     Found,
@@ -28,7 +30,7 @@ pub enum Status {
 }
 
 // The automaton of a log, and the search of no event yet. (The table is no lent one: a refusal may come after it is filled.)
-#[derive(Drop)]
+#[derive(Clone, Copy)]
 pub struct Opened {
     pub table: [u64; 2048],
     pub header: Header,
@@ -37,21 +39,21 @@ pub struct Opened {
 }
 
 // The search after the events among the first bytes of a log, and how many event bytes the log may still have.
-#[derive(Drop)]
+#[derive(Clone, Copy)]
 pub struct Begun {
     pub search: Search,
     pub allowed: usize,
 }
 
 // The search after one more read, and what the read found.
-#[derive(Drop)]
+#[derive(Clone, Copy)]
 struct Reading {
     search: Search,
     fetched: Fetched,
 }
 
 // How a search was left, and how many bytes might still have been read.
-#[derive(Drop)]
+#[derive(Clone, Copy)]
 pub struct Rest {
     pub search: Search,
     pub status: Status,

@@ -1,5 +1,7 @@
 // Searches the logs of its input for their first leaks: before each log one byte for the notion, 0 weak and 1 strong, and two bytes, high first, for the length
 // of the log. Any other notion is the end. It runs the programs' own loop, with reads of three bytes and an output that has room for one line.
+#![tactic(auto)]
+
 use opacity::Notion;
 
 fn length_of(high: u8, low: u8) -> usize {

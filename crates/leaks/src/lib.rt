@@ -1,6 +1,8 @@
 // The first leak of a long log (02, S-8): the place of the first accepted event whose verdict by one notion is a leak, of any secret that is given.
 // `first_leak` takes the offered bytes in one slice. A list that is longer than the memory is searched block after block: `Search::begin`, and `advance` for
 // each block, which takes the search by value and hands it back. None of them demands anything of its caller.
+#![tactic(auto)]
+
 ghost use Rattle.std.specs.Prelude.{◌≡◌, false, [], ◌∷◌};
 ghost use Rattle.stateset.specs.Set.{Decided};
 ghost use Rattle.opacity.specs.declared.Verdict.TheVariants as case;
@@ -14,7 +16,7 @@ use refusal::Refusal;
 use verifier::{Answer, AnswerBy, Estimator, VerdictsBy};
 
 // What a search has found so far: the place of the first leak among the accepted events, from 1; or that none of them leaks.
-#[derive(Drop)]
+#[derive(Clone, Copy)]
 pub enum LeakAnswer {
     Refused(Refusal),
     Nowhere,
@@ -23,7 +25,7 @@ pub enum LeakAnswer {
 
 // A search for the first leak by one notion: the estimator after the bytes so far, how many of them were accepted, and whether the last of these leaks. It is
 // the first then, and the search goes no further.
-#[derive(Drop)]
+#[derive(Clone, Copy)]
 pub struct Search {
     pub estimator: Estimator,
     pub notion: Notion,
@@ -31,7 +33,7 @@ pub struct Search {
     pub found: bool,
 }
 
-#[derive(Drop)]
+#[derive(Clone, Copy)]
 pub struct SearchReply {
     pub search: Search,
     pub answer: LeakAnswer,

@@ -1,5 +1,7 @@
 // A log that is read from standard input and monitored, with its lines written to standard output: the log program's loop. `streams` reads and writes.
 // Here the types, and a log from its first read to its last line. The modules, each on those before it:
+#![tactic(auto)]
+
 mod output; // lines are written out
 mod following; // the monitor follows event bytes
 mod ending; // the last lines
@@ -16,7 +18,7 @@ use output::{going, with_status, written_out};
 use streams::reads::{fetch, gather, least};
 use streams::{Fetched, Gathered};
 
-#[derive(Drop)]
+#[derive(Clone, Copy)]
 pub enum Status {
     // More event bytes may follow.
     Going,
@@ -29,7 +31,7 @@ pub enum Status {
 }
 
 // The monitor after the events so far, and where the next line goes in the output.
-#[derive(Drop)]
+#[derive(Clone, Copy)]
 pub struct Progress {
     pub monitor: Monitor,
     pub at: usize,
@@ -37,7 +39,7 @@ pub struct Progress {
 }
 
 // The automaton of a log, and how far it is monitored.
-#[derive(Drop)]
+#[derive(Clone, Copy)]
 pub struct Monitored {
     pub table: [u64; 2048],
     pub header: Header,
@@ -45,21 +47,21 @@ pub struct Monitored {
 }
 
 // The progress by some event bytes.
-#[derive(Drop)]
+#[derive(Clone, Copy)]
 struct Part {
     progress: Progress,
     taken: usize,
 }
 
 // What one more read leaves, and how many bytes it brought.
-#[derive(Drop)]
+#[derive(Clone, Copy)]
 struct Reading {
     progress: Progress,
     brought: usize,
 }
 
 // How a log was left, and how many bytes might still have been read.
-#[derive(Drop)]
+#[derive(Clone, Copy)]
 pub struct Rest {
     pub progress: Progress,
     pub left: usize,

@@ -1,5 +1,7 @@
 // Monitors a log (01: Log program): a verifier and a weak enforcer follow its events, and each event becomes a line.
 // Here the types and the entries: `open`, `has_encoding`, `Monitor::advance` and `Monitor::end` demand nothing of their callers.
+#![tactic(auto)]
+
 mod opening; // the monitor of a log with its first bytes
 mod stepping; // one event byte, and its line
 
@@ -20,7 +22,7 @@ use verifier::{Estimator, Judgement};
 
 // The opening verdicts with how many states are possible, the verifier's and the enforcer's state, and how many event bytes were offered, events accepted,
 // and events released.
-#[derive(Drop)]
+#[derive(Clone, Copy)]
 pub struct Monitor {
     pub opening: Judgement,
     pub estimator: Estimator,
@@ -31,32 +33,32 @@ pub struct Monitor {
 }
 
 // The monitor after an event byte, and where the next line goes.
-#[derive(Drop)]
+#[derive(Clone, Copy)]
 struct Entry {
     monitor: Monitor,
     next: usize,
 }
 
 // How many event bytes were taken, and where the next line goes.
-#[derive(Drop)]
+#[derive(Clone, Copy)]
 pub struct Advance {
     pub taken: usize,
     pub next: usize,
 }
 
-#[derive(Drop)]
+#[derive(Clone, Copy)]
 pub enum AdvanceAnswer {
     Refused(Refusal),
     Taken(Advance),
 }
 
-#[derive(Drop)]
+#[derive(Clone, Copy)]
 pub struct Advanced {
     pub monitor: Monitor,
     pub answer: AdvanceAnswer,
 }
 
-#[derive(Drop)]
+#[derive(Clone, Copy)]
 pub enum OpenAnswer {
     Refused(Refusal),
     // Where the events start.
@@ -64,7 +66,7 @@ pub enum OpenAnswer {
 }
 
 // A log's automaton and its monitor. (The table is no lent one: a refusal may come after it is filled.)
-#[derive(Drop)]
+#[derive(Clone, Copy)]
 pub struct Opened {
     pub table: [u64; 2048],
     pub header: Header,

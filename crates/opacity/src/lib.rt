@@ -1,31 +1,33 @@
 // What a reader can be sure of: the two notions of opacity, secrets, and verdicts by definition (specs/Verdicts), with the secrets that are given and their
 // numbers (specs/Secrets). No estimator and no answer stands here: the verifier works out these verdicts, and the enforcer rests on their definition alone.
+#![tactic(auto)]
+
 ghost use Rattle.std.specs.Prelude.{◌≡◌};
 ghost use Rattle.opacity.specs.Secrets.{further_of, secrets_of, secret_at, look_back_of, cleared_of, no_further};
 
 use automaton::Header;
 
 // 01's "none", or "leak" with its steps.
-#[derive(Drop)]
+#[derive(Clone, Copy)]
 pub enum Verdict {
     NoLeak,
     Leak(u8),
 }
 
-#[derive(Drop)]
+#[derive(Clone, Copy)]
 pub enum Notion {
     Weak,
     Strong,
 }
 
-#[derive(Drop)]
+#[derive(Clone, Copy)]
 pub struct Verdicts {
     pub weak: Verdict,
     pub strong: Verdict,
 }
 
 // A secret (02: recipe): a set of states, and its own look-back K.
-#[derive(Drop)]
+#[derive(Clone, Copy)]
 pub struct Secret {
     pub states: u64,
     pub k: u8,
@@ -34,7 +36,7 @@ pub struct Secret {
 // Up to three further secrets: three places, each a set of states and its K, and how many are given. A place past the count counts for nothing. (Two
 // arrays, and not three secrets side by side: an estimator is copied at each event, and whole words are copied faster than words with single bytes
 // between them.)
-#[derive(Drop)]
+#[derive(Clone, Copy)]
 pub struct Further {
     pub states: [u64; 3],
     pub k: [u8; 3],

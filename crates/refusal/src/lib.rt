@@ -1,9 +1,11 @@
 // Why a call is turned back, and the number that 01 gives each reason. Every crate above refuses by these; nothing here needs an automaton.
+#![tactic(auto)]
+
 ghost use Rattle.std.specs.Prelude.{◌≡◌};
 ghost use Rattle.refusal.specs.Refusals.{number_of};
 
 // Why a call was turned back, in the order of 01's refusal table and then 02's numbers.
-#[derive(Drop)]
+#[derive(Clone, Copy)]
 pub enum Refusal {
     Truncated,
     StateOutOfRange,

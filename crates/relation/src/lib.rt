@@ -1,12 +1,14 @@
 // Relations between states as 64 rows: row q is the set of the states that q is related to. Images, preimages, the other way round and closures, of one set
 // and of four sets side by side. Nothing here knows an automaton. (All of it inner: for the crates above, which hold the conditions.)
+#![tactic(auto)]
+
 ghost use Rattle.std.specs.Prelude.{◌≡◌, ◌⊎◌, ℕ, ◌+◌, ◌-◌, ◌*◌, ◌<◌, ◌≤◌, length, replicate};
 ghost use Rattle.std.specs.Int.Bits.{bit_and, bit_or};
 ghost use Rattle.stateset.specs.Set.{In, Is, complement};
 ghost use Rattle.relation.specs.Relation.{Row, Rows, Image, Preimage, Reached, Put, Masks, Swapped, set_at};
 
 // Four sets of states side by side, one for each of four secrets: what is asked of all is worked out in one pass.
-#[derive(Drop)]
+#[derive(Clone, Copy)]
 pub struct StateSets {
     pub own: u64,
     pub first: u64,

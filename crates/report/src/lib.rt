@@ -1,4 +1,6 @@
 // The lines of the log programs, written into a lent output. Bytes past the written ones stay as they were.
+#![tactic(auto)]
+
 pub mod witnesses; // the lines of the witnesses of a log
 
 ghost use Rattle.std.specs.Prelude.{◌≡◌, [], ◌∷◌, ◌++◌, map, ◌+◌, ◌*◌, ◌%◌, ◌≤◌, ◌<◌, length};
@@ -16,7 +18,7 @@ use verifier::Judgement;
 pub const LINE: usize = 256;
 
 // Where the next line goes; or nothing was written, since there is no room for the line.
-#[derive(Drop)]
+#[derive(Clone, Copy)]
 pub enum Line {
     Next(usize),
     NoRoom,

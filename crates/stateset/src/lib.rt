@@ -1,4 +1,6 @@
 // Sets of states, a bit for each: state q is in the set where bit q, counted from the least significant, is 1.
+#![tactic(auto)]
+
 ghost use Rattle.std.specs.Prelude.{◌≡◌, ◌⊎◌, ℕ, ◌<◌, ◌≤◌};
 ghost use Rattle.stateset.specs.Set.{In, Is, Counts, Decided};
 

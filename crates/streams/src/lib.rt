@@ -1,10 +1,12 @@
 // Standard input and standard output of the programs: what they share, whatever they do with what is read. Here what a read finds, and what the first bytes
 // of an input are. The modules stand beside one another.
+#![tactic(auto)]
+
 pub mod reads; // bytes are read, and the first ones gathered
 pub mod writes; // lines are written out, and the one line of a refused log
 
 // What a read finds.
-#[derive(Drop)]
+#[derive(Clone, Copy)]
 pub enum Fetched {
     Bytes(usize),
     End,
@@ -12,7 +14,7 @@ pub enum Fetched {
 }
 
 // The first bytes of an input: so many are there, or that is all of the input, or a read failed.
-#[derive(Drop)]
+#[derive(Clone, Copy)]
 pub enum Gathered {
     Bytes(usize),
     All(usize),

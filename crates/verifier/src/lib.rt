@@ -2,6 +2,8 @@
 // Here the types, what is chosen by a notion, and the estimator's entries: `fresh`, `well_formed`, `accept`, `accept_by` demand nothing of their callers.
 // What is remembered of the symbols, the states that are possible now, and the look backs of one secret are worked out in the crate `estimates`.
 // The modules, each on those before it:
+#![tactic(auto)]
+
 mod several; // the strong verdicts of several secrets in one pass
 mod each_secret; // the verdicts of each secret
 
@@ -23,7 +25,7 @@ use opacity::{Further, Notion, Verdict, Verdicts};
 use refusal::Refusal;
 
 // The two verdicts of each secret: the automaton's own, number 0, and the further ones, 1 to 3. Those of a place that is not given are NoLeak.
-#[derive(Drop)]
+#[derive(Clone, Copy)]
 pub struct SecretVerdicts {
     pub own: Verdicts,
     pub first: Verdicts,
@@ -32,13 +34,13 @@ pub struct SecretVerdicts {
 }
 
 // What an accepted answer holds: how many states are possible (02: how many fit), 1 to 64, and the verdicts.
-#[derive(Drop)]
+#[derive(Clone, Copy)]
 pub struct Judgement {
     pub size: u8,
     pub verdicts: SecretVerdicts,
 }
 
-#[derive(Drop)]
+#[derive(Clone, Copy)]
 pub enum Answer {
     Refused(Refusal),
     Accepted(Judgement),
@@ -46,7 +48,7 @@ pub enum Answer {
 
 // The last symbols (02: lamps), the newest first, and for each step back the states right after the last one that is left; and the further secrets
 // (01: watch).
-#[derive(Drop)]
+#[derive(Clone, Copy)]
 pub struct Estimator {
     pub count: u8,
     pub symbols: [u8; 15],
@@ -54,14 +56,14 @@ pub struct Estimator {
     pub further: Further,
 }
 
-#[derive(Drop)]
+#[derive(Clone, Copy)]
 pub struct Reply {
     pub estimator: Estimator,
     pub answer: Answer,
 }
 
 // The verdict of each secret by one notion alone.
-#[derive(Drop)]
+#[derive(Clone, Copy)]
 pub struct VerdictsBy {
     pub own: Verdict,
     pub first: Verdict,
@@ -69,26 +71,26 @@ pub struct VerdictsBy {
     pub third: Verdict,
 }
 
-#[derive(Drop)]
+#[derive(Clone, Copy)]
 pub struct JudgementBy {
     pub verdicts: VerdictsBy,
     pub size: u8,
 }
 
-#[derive(Drop)]
+#[derive(Clone, Copy)]
 pub enum AnswerBy {
     Refused(Refusal),
     Accepted(JudgementBy),
 }
 
-#[derive(Drop)]
+#[derive(Clone, Copy)]
 pub struct ReplyBy {
     pub estimator: Estimator,
     pub answer: AnswerBy,
 }
 
 // The notions whose verdicts are asked for.
-#[derive(Drop)]
+#[derive(Clone, Copy)]
 struct Asked {
     weak: bool,
     strong: bool,

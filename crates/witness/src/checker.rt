@@ -13,7 +13,7 @@ use opacity::Notion;
 use verifier::Estimator;
 
 // How many of the last symbols are left, or that an event did not show the next of them.
-#[derive(Drop)]
+#[derive(Clone, Copy)]
 enum Left {
     Symbols(u8),
     Wrong,

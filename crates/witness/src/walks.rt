@@ -8,7 +8,7 @@ ghost use Rattle.automaton.specs.Reaching.{Showing, Entered};
 ghost use Rattle.witness.specs.Inner.{Silently, Onward, Layered, Leads, Ahead, Moved};
 
 // A state, and where in the output the next pair goes.
-#[derive(Drop)]
+#[derive(Clone, Copy)]
 pub struct Place {
     pub state: u8,
     pub at: usize,

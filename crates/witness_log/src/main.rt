@@ -1,6 +1,8 @@
 // Reads a log from standard input and writes, for each notion and each step up to K and the accepted events, a run that excuses the system after the last
 // event, or that there is none (02, S-10: alibis). The input is streamed. Here the types, and a log from its first read to its last line.
 // The modules, each on those before it:
+#![tactic(auto)]
+
 mod following; // the estimator follows event bytes
 mod telling; // the lines of what it has followed
 
@@ -26,28 +28,28 @@ const INPUT: usize = 131072;
 const OUTPUT: usize = 766656;
 
 // The estimator after the events so far, and how many of them were accepted.
-#[derive(Drop)]
+#[derive(Clone, Copy)]
 struct Followed {
     estimator: Estimator,
     accepted: u32,
 }
 
 // After the events among the first bytes of a log, and how many event bytes the log may still have.
-#[derive(Drop)]
+#[derive(Clone, Copy)]
 struct Begun {
     followed: Followed,
     allowed: usize,
 }
 
 // After one more read, and what the read found.
-#[derive(Drop)]
+#[derive(Clone, Copy)]
 struct Reading {
     followed: Followed,
     fetched: Fetched,
 }
 
 // After the last read: how many bytes might still have been read, and whether a read failed.
-#[derive(Drop)]
+#[derive(Clone, Copy)]
 struct Rest {
     followed: Followed,
     left: usize,

@@ -2,7 +2,7 @@
 use Prim.Native.Nat.{ℕ, ◌-◌, ◌*◌, ◌<◌}
 use mathlib.Core.Path.{◌≡◌, refl}
 use mathlib.Core.List.{List}
-use borrow.Author.Tests.{le-ltb, lt-ltb, eq_eqb, ne_eqb}
+use borrow.Author.Tests.{le-ltb, lt-ltb, eq-eqb, ne_eqb}
 use native.Mathlib.Omega.{arith}
 use lib.ListN.{length}
 use Rattle.encoding.specs.Encoding.{ending}
@@ -23,7 +23,7 @@ loose bytes at v few is other = rw (length_bits bytes, lt-ltb (length bytes * 8 
 padded : (bytes : List ℕ) (at v : ℕ) → length bytes * 8 - at < 8 → v ≡ number_at (bits_of bytes) at (length bytes * 8 - at) → v ≡ 0
     → done tt at ≡ ending (bits_of bytes) at
 unfolding ending
-padded bytes at v few is nothing = rw (length_bits bytes, lt-ltb (length bytes * 8 - at) 8 few, ← is, eq_eqb v 0 nothing)
+padded bytes at v few is nothing = rw (length_bits bytes, lt-ltb (length bytes * 8 - at) 8 few, ← is, eq-eqb v 0 nothing)
 
 add-if1 : tie.Need-overflow-add-if1
 add-if1 c = search rules

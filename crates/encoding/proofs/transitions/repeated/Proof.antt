@@ -4,7 +4,7 @@ use mathlib.Core.Path.{◌≡◌, sym, subst, ◌∙◌}
 use mathlib.Core.Bool.{false}
 use native.Mathlib.Omega.{arith}
 use native.Mathlib.Numerals.{add-one}
-use borrow.Author.Tests.{eq_eqb, ne_eqb}
+use borrow.Author.Tests.{eq-eqb, ne_eqb}
 use lib.Dec.{eqb}
 use Rattle.bitfields.specs.Bits.{bits_of}
 use Rattle.encoding.specs.Transitions.{same_transition, listed, transition_at, transitions_at}
@@ -54,7 +54,7 @@ returns c =
     let a = c.before.before.before.before.before.before.args in
     let l = c.before.before.before.loop in
     sym
-    (listed_stays _ (bits_of a.bytes.now) a.at l.i (sym (compared c.before) ∙ eq_eqb _ _ c.if1.true) a.n (omega arith))
+    (listed_stays _ (bits_of a.bytes.now) a.at l.i (sym (compared c.before) ∙ eq-eqb _ _ c.if1.true) a.n (omega arith))
 
 add-i : tie.Need-overflow-add-i invariant-loop decreases-loop
 add-i c = omega arith

@@ -108,9 +108,9 @@ reaches s e bits at checked.Valid h = omega (arith, transition_in s e bits at (s
 reaches s e bits at (checked.Refused r) h = tt
 
 -- the number that was read through a reader, at the position that it came to; and that its field lies inside the bytes
-pub number_at : (r : Reader) (w : ℕ) (b : Bor (List ℕ)) (at : ℕ) → r.bytes ≡ b → r.position ≡ at → {t : ℕ} → t
+pub number-at : (r : Reader) (w : ℕ) (b : Bor (List ℕ)) (at : ℕ) → r.bytes ≡ b → r.position ≡ at → {t : ℕ} → t
     ≡ number_at (bits_of r.bytes.now) r.position w → t ≡ number_at (bits_of b.now) at w
-number_at r w b at e p {t} h = moved (λ (x : Bor (List ℕ)) (n : ℕ). t ≡ number_at (bits_of x.now) n w) r e p h
+number-at r w b at e p {t} h = moved (λ (x : Bor (List ℕ)) (n : ℕ). t ≡ number_at (bits_of x.now) n w) r e p h
 
 pub inside_at : (r : Reader) (w : ℕ) (b : Bor (List ℕ)) (at : ℕ) → r.bytes ≡ b → r.position ≡ at → Inside b.now at w
     → Inside r.bytes.now r.position w

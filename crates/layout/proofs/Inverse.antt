@@ -83,7 +83,7 @@ words_back [] small s = refl
 words_back {at = at} (w ∷ ws) small s =
     let first = number_back sizes.word_size w (small 0) (stands_first (word_bytes w) (words_bytes ws) s) in
     let next = stands_second (word_bytes w) (words_bytes ws) s (at + sizes.word_size) (omega (arith, bytes_length sizes.word_size w)) in
-    let others = words_back ws (λ l. small (suc l)) next in
+    let others = words_back {at = at + sizes.word_size} ws (λ l. small (suc l)) next in
     λ i. first i ∷ others i
 
 -- a header

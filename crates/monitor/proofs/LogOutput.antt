@@ -109,7 +109,7 @@ slice_is [] out at h = ap (λ (k : ℕ). slice at k out) (add-zero at) ∙ slice
 slice_is (x ∷ l) out at (inl e) = let z : ◌≡◌ {A = ℕ} 0 1 = cc in absurd (omega arith)
 slice_is (x ∷ l) out at (inr h) = slice_sets (x ∷ l) out at h
 
-line_is : {room at next : ℕ} {out text out' : List ℕ} → Written room out at text (Next next) out' → slice at next out' ≡ text
+line_is : {room at : ℕ} {out text : List ℕ} {next : ℕ} {out' : List ℕ} → Written room out at text (Next next) out' → slice at next out' ≡ text
 line_is {at = at} {out = out} {text = text} (written free fit) = slice_sets text out at (omega arith)
 
 no_lines : {t : List ℕ} {h : Header} {m e : Monitor} {text : List ℕ} → Lines t h m [] text e → (text ≡ []) × (e ≡ m)

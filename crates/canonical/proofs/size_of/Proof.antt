@@ -7,28 +7,28 @@ use borrow.Author.Rules.{rules}
 use Rattle.canonical.proofs.size_of.Statement.{statement}
 use Rattle.canonical.proofs.size_of.Tie as tie
 
-preamble-end-requires : tie.Need-preamble-end-requires
+preamble-end-requires : tie.Need-preamble_end-requires
 preamble-end-requires c κs = search rules
 
-mul-result : tie.Need-overflow-mul-result
+mul-result : tie.Need-overflow_mul-result
 mul-result c = search rules
 
 -- where the preamble ends at the most
-early : (c : tie.After-struct-known) → c.before.preamble-end.result ≤ 288
+early : (c : tie.After-struct_known-1) → c.before.preamble-end.result ≤ 288
 early c =
-    let x = c.before.before.before.requires.fixed in
+    let x = c.before.before.before.requires.fixed-1 in
     omega (arith, c.before.preamble-end.ensures, symbols_few _ x, x.topstate, x.topevent)
 
-add-result : tie.Need-overflow-add-result
-add-result c = omega (arith, early c, c.before.before.before.requires.fixed.count)
+add-result : tie.Need-overflow_add-result
+add-result c = omega (arith, early c, c.before.before.before.requires.fixed-1.count)
 
-add-result-2 : tie.Need-overflow-add-result-2
-add-result-2 c = omega (arith, early c, c.before.before.before.requires.fixed.count)
+add-result-2 : tie.Need-overflow_add-result-2
+add-result-2 c = omega (arith, early c, c.before.before.before.requires.fixed-1.count)
 
 returns : tie.Need-returns
 unfolding size_of
 returns c = rw c.before.preamble-end.ensures
 
-pub size-of-spec : {M : Type 1} → statement M
-size-of-spec =
+pub size_of_spec : {M : Type 1} → statement M
+size_of_spec =
     tie.close (tie.spec preamble-end-requires mul-result add-result add-result-2 returns)

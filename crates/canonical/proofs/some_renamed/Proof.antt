@@ -9,47 +9,47 @@ use Rattle.canonical.proofs.Renaming.{none_start, none_turn, some_found}
 use Rattle.canonical.proofs.some_renamed.Statement.{statement}
 use Rattle.canonical.proofs.some_renamed.Tie as tie
 
-abbrev invariant-loop : tie.invariant-loop
+abbrev invariant-loop : tie.invariant-loop-e
 invariant-loop observable symbols n e₀ e = (e ≤ n) × (some_renamed observable (λ x. get_or symbols x 0) e ≡ false)
 
-abbrev decreases-loop : tie.decreases-loop
+abbrev decreases-loop : tie.decreases-loop-e
 decreases-loop observable symbols n e₀ e = n - e
 
 abbrev symbols : tie.Start invariant-loop decreases-loop → ℕ → ℕ
 symbols s x = get_or s.args.symbols.now x 0
 
-loop-holds : tie.Need-loop-init invariant-loop decreases-loop
+loop-holds : tie.Need-loop-e-init invariant-loop decreases-loop
 loop-holds c = (omega arith, none_start _ (symbols c.before))
 
-is-renamed-requires : tie.Need-is-renamed-requires invariant-loop decreases-loop
+is-renamed-requires : tie.Need-is_renamed-requires invariant-loop decreases-loop
 is-renamed-requires c κs = omega arith
 
-returns : tie.Need-returns invariant-loop decreases-loop
+returns : tie.Need-returns-then-is_renamed invariant-loop decreases-loop
 returns c =
     let s = c.before.before.before.before.before in
-    sym (some_found s.args.observable (symbols s) c.before.before.before.loop.e s.args.n
-    (sym c.before.is-renamed.ensures ∙ c.if1.true) (omega arith))
+    sym (some_found s.args.observable (symbols s) c.before.before.before.loop-e.e s.args.n
+    (sym c.before.is-renamed.ensures ∙ c.if-is_renamed.true) (omega arith))
 
-add-e : tie.Need-overflow-add-e invariant-loop decreases-loop
+add-e : tie.Need-overflow_add-e invariant-loop decreases-loop
 add-e c = omega arith
 
-loop-less : tie.Need-loop-smaller invariant-loop decreases-loop
+loop-less : tie.Need-loop-e-smaller invariant-loop decreases-loop
 loop-less c = omega arith
 
-loop-again : tie.Need-loop-preserved invariant-loop decreases-loop
+loop-again : tie.Need-loop-e-preserved invariant-loop decreases-loop
 loop-again c =
     let s = c.before.before.before.before.before in
-    let l = c.before.before.before.loop in
-    (omega arith, none_turn s.args.observable (symbols s) l.e l.invariant.1 (sym c.before.is-renamed.ensures ∙ c.if1.false))
+    let l = c.before.before.before.loop-e in
+    (omega arith, none_turn s.args.observable (symbols s) l.e l.invariant.1 (sym c.before.is-renamed.ensures ∙ c.if-is_renamed.false))
 
-returns-2 : tie.Need-returns-2 invariant-loop decreases-loop
+returns-2 : tie.Need-returns invariant-loop decreases-loop
 returns-2 c =
-    let l = c.before.loop in
+    let l = c.before.loop-e in
     let e : l.e ≡ c.before.before.before.args.n = omega arith in
     rw (← e) (sym l.invariant.1)
 
-pub some-renamed-spec : {M : Type 1} → statement M
-some-renamed-spec =
+pub some_renamed_spec : {M : Type 1} → statement M
+some_renamed_spec =
     tie.close
     (tie.spec
     invariant-loop

@@ -6,5 +6,5 @@ use Rattle.canonical.proofs.with_flag.Tie as tie
 returns : tie.Need-returns
 returns c = refl
 
-pub with-flag-spec : {M : Type 1} → statement M
-with-flag-spec = tie.close (tie.spec returns)
+pub with_flag_spec : {M : Type 1} → statement M
+with_flag_spec = tie.close (tie.spec returns)

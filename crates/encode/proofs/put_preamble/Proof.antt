@@ -6,35 +6,35 @@ use borrow.Author.Rules.{rules}
 use Rattle.encode.proofs.put_preamble.Statement.{statement}
 use Rattle.encode.proofs.put_preamble.Tie as tie
 
-put-front-requires : tie.Need-put-front-requires
+put-front-requires : tie.Need-put_front-at-requires
 put-front-requires c κs = search rules
 
-symbol-count-requires : tie.Need-symbol-count-requires
+symbol-count-requires : tie.Need-symbol_count-n-requires
 symbol-count-requires c κs = search rules
 
-put-symbols-requires : tie.Need-put-symbols-requires
+put-symbols-requires : tie.Need-put_symbols-requires
 put-symbols-requires c κs =
     let s = c.before.before.before.before.before.before.before.before in
     let small = s.requires.0.fixed in
     omega (
       arith,
-      c.before.symbol-count.ensures,
+      c.before.symbol_count-n.ensures,
       symbols_few s.args.front.fixed small,
-      c.before.before.before.before.put_front.ensures.0,
+      c.before.before.before.before.put_front-at.ensures.0,
       small.topstate,
       small.topevent,
     )
 
-same_length : tie.Need-same-length
+same_length : tie.Need-shape_of-output
 same_length c = search rules
 
 returns : tie.Need-returns
 returns c =
-    let front = c.before.before.before.before.before.before.before.put_front.ensures in
+    let front = c.before.before.before.before.before.before.before.put_front-at.ensures in
     let given = c.before.before.put-symbols.ensures in
-    preamble_all _ _ _ _ _ front.0 front.1 c.before.before.before.before.symbol-count.ensures given.0 given.1
+    preamble_all _ _ _ _ _ front.0 front.1 c.before.before.before.before.symbol_count-n.ensures given.0 given.1
 
-pub put-preamble-spec : {M : Type 1} → statement M
-put-preamble-spec =
+pub put_preamble_spec : {M : Type 1} → statement M
+put_preamble_spec =
     tie.close
     (tie.spec put-front-requires symbol-count-requires put-symbols-requires same_length returns)

@@ -9,58 +9,58 @@ use Rattle.encode.proofs.Steps.{symbols_start, symbols_turn}
 use Rattle.encode.proofs.put_symbols.Statement.{statement}
 use Rattle.encode.proofs.put_symbols.Tie as tie
 
-abbrev invariant-loop : tie.invariant-loop
+abbrev invariant-loop : tie.invariant-loop-i
 invariant-loop output₀ at n symbols i₀ output i = (i ≤ n) × Wrote (symbols_bits (take i symbols)) at output₀ output
 
-abbrev decreases-loop : tie.decreases-loop
+abbrev decreases-loop : tie.decreases-loop-i
 decreases-loop output₀ at n symbols i₀ output i = n - i
 
-loop-holds : tie.Need-loop-init invariant-loop decreases-loop
+loop-holds : tie.Need-loop-i-init invariant-loop decreases-loop
 loop-holds c = (omega arith, symbols_start c.before.before.args.symbols.now _ _)
 
-shared-slice-read-symbol : tie.Need-shared-slice-read-symbol invariant-loop decreases-loop
+shared-slice-read-symbol : tie.Need-bounds-symbols-i invariant-loop decreases-loop
 shared-slice-read-symbol c = omega arith
 
-cast-symbol : tie.Need-overflow-cast-symbol invariant-loop decreases-loop
-cast-symbol c = omega (arith, c.shared-slice-known2.given c.before.before.loop.i)
+cast-symbol : tie.Need-overflow_cast-symbol invariant-loop decreases-loop
+cast-symbol c = omega (arith, c.shared_slice_known-in-loop-i-1.given c.before.before.loop-i.i)
 
-mul-put-number : tie.Need-overflow-mul-put-number invariant-loop decreases-loop
+mul-put-number : tie.Need-overflow_mul-i invariant-loop decreases-loop
 mul-put-number c = omega arith
 
-add-put-number : tie.Need-overflow-add-put-number invariant-loop decreases-loop
+add-put-number : tie.Need-overflow_add-at invariant-loop decreases-loop
 add-put-number c = omega arith
 
-put-number-requires : tie.Need-put-number-requires invariant-loop decreases-loop
+put-number-requires : tie.Need-put_number-requires invariant-loop decreases-loop
 put-number-requires c κs = omega arith
 
-add-i : tie.Need-overflow-add-i invariant-loop decreases-loop
+add-i : tie.Need-overflow_add-i invariant-loop decreases-loop
 add-i c = omega arith
 
-loop-less : tie.Need-loop-smaller invariant-loop decreases-loop
+loop-less : tie.Need-loop-i-smaller invariant-loop decreases-loop
 loop-less c = omega arith
 
-loop-again : tie.Need-loop-preserved invariant-loop decreases-loop
+loop-again : tie.Need-loop-i-preserved invariant-loop decreases-loop
 loop-again c =
-    let l = c.before.before.before.before.before.before.loop in
+    let l = c.before.before.before.before.before.before.loop-i in
     (omega arith, symbols_turn _ _ _ (omega arith) l.invariant.1 c.before.before.put-number.ensures.1)
 
-mul-result : tie.Need-overflow-mul-result invariant-loop decreases-loop
+mul-result : tie.Need-overflow_mul-result invariant-loop decreases-loop
 mul-result c = omega arith
 
-add-result : tie.Need-overflow-add-result invariant-loop decreases-loop
+add-result : tie.Need-overflow_add-result invariant-loop decreases-loop
 add-result c = omega arith
 
-same_length : tie.Need-same-length invariant-loop decreases-loop
-same_length c = c.before.loop.invariant.1.size
+same_length : tie.Need-shape_of-output invariant-loop decreases-loop
+same_length c = c.before.loop-i.invariant.1.size
 
 returns : tie.Need-returns invariant-loop decreases-loop
 returns c =
-    let l = c.before.loop in
+    let l = c.before.loop-i in
     let e : l.i ≡ c.before.before.before.before.args.n = omega arith in
     (refl, rw (← e) l.invariant.1)
 
-pub put-symbols-spec : {M : Type 1} → statement M
-put-symbols-spec =
+pub put_symbols_spec : {M : Type 1} → statement M
+put_symbols_spec =
     tie.close
     (tie.spec
     invariant-loop

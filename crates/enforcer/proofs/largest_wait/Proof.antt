@@ -31,45 +31,45 @@ module _ (h : Header) (f : Further) (v : VerdictsBy) where
       let many = how_many_most h f in
       largest_given (secrets_of h f) steps _ w many (largest_of_four (secrets_of h f) steps a b c d w (omega (arith, many, allowed.few)) A B C D e)
 
-wait-at-requires : tie.Need-wait-at-requires
+wait-at-requires : tie.Need-wait_at-w0-requires
 wait-at-requires c κs = search rules
 
-returns : tie.Need-returns
+returns : tie.Need-returns-then-further-eq0
 returns c =
     let s = c.before.before.before in
     let a = s.args in
-    let one : length (secrets_of a.header a.further) ≤ 1 = omega (arith, how_many_most a.header a.further, c.if1.true) in
-    largest_steps a.header a.further a.verdicts _ 0 0 0 _ s.requires.1 c.before.before.wait-at.ensures
+    let one : length (secrets_of a.header a.further) ≤ 1 = omega (arith, how_many_most a.header a.further, c.if-further-eq0.true) in
+    largest_steps a.header a.further a.verdicts _ 0 0 0 _ s.requires.1 c.before.before.wait_at-w0.ensures
     (no_wait _ 1 _ one) (no_wait _ 2 _ (omega arith)) (no_wait _ 3 _ (omega arith)) (omega arith)
 
-wait-at-requires-2 : tie.Need-wait-at-requires-2
+wait-at-requires-2 : tie.Need-wait_at-w1-requires
 wait-at-requires-2 c κs = search rules
 
-wait-at-requires-3 : tie.Need-wait-at-requires-3
+wait-at-requires-3 : tie.Need-wait_at-w2-requires
 wait-at-requires-3 c κs = search rules
 
-wait-at-requires-4 : tie.Need-wait-at-requires-4
+wait-at-requires-4 : tie.Need-wait_at-w3-requires
 wait-at-requires-4 c κs = search rules
 
-larger-requires : tie.Need-larger-requires
+larger-requires : tie.Need-larger-a-requires
 larger-requires c κs = search rules
 
-larger-requires-2 : tie.Need-larger-requires-2
+larger-requires-2 : tie.Need-larger-b-requires
 larger-requires-2 c κs = search rules
 
-larger-requires-3 : tie.Need-larger-requires-3
+larger-requires-3 : tie.Need-larger-requires
 larger-requires-3 c κs = search rules
 
-returns-2 : tie.Need-returns-2
+returns-2 : tie.Need-returns
 returns-2 c =
     let w4 = c.before.before.before in
     let w1 = w4.before.before.before.before.before in
     let s = w1.before in
-    largest_steps s.args.header s.args.further s.args.verdicts _ _ _ _ _ s.requires.1 w1.wait-at.ensures w4.before.before.wait-at2.ensures
-    w4.before.wait-at3.ensures w4.wait-at4.ensures (c.larger3.ensures ∙ ap₂ max c.before.before.larger.ensures c.before.larger2.ensures)
+    largest_steps s.args.header s.args.further s.args.verdicts _ _ _ _ _ s.requires.1 w1.wait_at-w0.ensures w4.before.before.wait_at-w1.ensures
+    w4.before.wait_at-w2.ensures w4.wait_at-w3.ensures (c.larger.ensures ∙ ap₂ max c.before.before.larger-a.ensures c.before.larger-b.ensures)
 
-pub largest-wait-spec : {M : Type 1} → statement M
-largest-wait-spec =
+pub largest_wait_spec : {M : Type 1} → statement M
+largest_wait_spec =
     tie.close
     (tie.spec
     wait-at-requires

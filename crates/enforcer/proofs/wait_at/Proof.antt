@@ -14,15 +14,15 @@ use Rattle.enforcer.proofs.wait_at.Statement.{statement}
 use Rattle.enforcer.proofs.wait_at.Tie as tie
 
 -- it is given
-given : (u : tie.Else1) → u.before.before.args.i < length (secrets_of u.before.before.args.header u.before.before.args.further)
-given u = let s = u.before.before in omega (arith, u.if1.false, how_many s.args.header s.args.further s.requires.1.few)
+given : (u : tie.Else-further-i) → u.before.before.args.i < length (secrets_of u.before.before.args.header u.before.before.args.further)
+given u = let s = u.before.before in omega (arith, u.if-further-i.false, how_many s.args.header s.args.further s.requires.1.few)
 
-returns : tie.Need-returns
+returns : tie.Need-returns-then-further-i
 returns c =
     let a = c.before.before.args in
-    no_wait (secrets_of a.header a.further) a.i _ (omega (arith, c.if1.true, how_many_most a.header a.further))
+    no_wait (secrets_of a.header a.further) a.i _ (omega (arith, c.if-further-i.true, how_many_most a.header a.further))
 
-secret-at-requires : tie.Need-secret-at-requires
+secret-at-requires : tie.Need-secret_at-secret-requires
 secret-at-requires c κs = search rules
 
 wait-requires : tie.Need-wait-requires
@@ -30,15 +30,15 @@ wait-requires c κs =
     let s = c.before.before.before in
     let low = secret_back s.args.header s.args.further s.args.i (given c.before) in
     let small = look_back_small s.args.header s.args.further s.requires.0 s.requires.1 in
-    omega (arith, ap (λ (x : Secret). x.k) c.secret-at.ensures, low, small)
+    omega (arith, ap (λ (x : Secret). x.k) c.secret_at-secret.ensures, low, small)
 
-returns-2 : tie.Need-returns-2
+returns-2 : tie.Need-returns
 returns-2 c =
     let u = c.before.before in
     record {
-      given = λ g. c.wait.ensures ∙ ap (λ (x : Secret). wait_of x.k (steps_of u.before.before.args.verdict)) c.before.secret-at.ensures;
+      given = λ g. c.wait.ensures ∙ ap (λ (x : Secret). wait_of x.k (steps_of u.before.before.args.verdict)) c.before.secret_at-secret.ensures;
       other = λ o. absurd (omega (arith, given u, o));
     }
 
-pub wait-at-spec : {M : Type 1} → statement M
-wait-at-spec = tie.close (tie.spec returns secret-at-requires wait-requires returns-2)
+pub wait_at_spec : {M : Type 1} → statement M
+wait_at_spec = tie.close (tie.spec returns secret-at-requires wait-requires returns-2)

@@ -11,10 +11,10 @@ use Rattle.stateset.proofs.Bits.{or_l, or_r}
 use Rattle.estimates.proofs.entered.Statement.{statement}
 use Rattle.estimates.proofs.entered.Tie as tie
 
-abbrev invariant-loop : tie.invariant-loop
+abbrev invariant-loop : tie.invariant-loop-l
 invariant-loop entries r₀ l₀ r l = (l ≤ 16) × ((k q : ℕ) → k < l → In q (get_or entries k 0) → In q r)
 
-abbrev decreases-loop : tie.decreases-loop
+abbrev decreases-loop : tie.decreases-loop-l
 decreases-loop entries r₀ l₀ r l = 16 - l
 
 more : (entries : List ℕ) (r l k q : ℕ) → ((k q : ℕ) → k < l → In q (get_or entries k 0) → In q r) → Dec (k ≡ l) → k ≤ l → In q (get_or entries k 0)
@@ -22,30 +22,30 @@ more : (entries : List ℕ) (r l k q : ℕ) → ((k q : ℕ) → k < l → In q 
 more entries r l k q f (yes e) h i = or_r q r (get_or entries l 0) (subst (λ (x : ℕ). In q (get_or entries x 0)) e i)
 more entries r l k q f (no n) h i = or_l q r (get_or entries l 0) (f k q (omega arith) i)
 
-loop-holds : tie.Need-loop-init invariant-loop decreases-loop
+loop-holds : tie.Need-loop-l-init invariant-loop decreases-loop
 loop-holds c = (omega arith, λ k q l. absurd (omega arith))
 
-mul-r : tie.Need-overflow-mul-r invariant-loop decreases-loop
+mul-r : tie.Need-offset_bounds-entries-l invariant-loop decreases-loop
 mul-r c = omega arith
 
-array-read-r : tie.Need-array-read-r invariant-loop decreases-loop
+array-read-r : tie.Need-bounds-entries-l invariant-loop decreases-loop
 array-read-r c = omega arith
 
-add-l : tie.Need-overflow-add-l invariant-loop decreases-loop
+add-l : tie.Need-overflow_step-l invariant-loop decreases-loop
 add-l c = omega arith
 
-loop-less : tie.Need-loop-smaller invariant-loop decreases-loop
+loop-less : tie.Need-loop-l-smaller invariant-loop decreases-loop
 loop-less c = omega arith
 
-loop-again : tie.Need-loop-preserved invariant-loop decreases-loop
+loop-again : tie.Need-loop-l-preserved invariant-loop decreases-loop
 loop-again c =
-    let l = c.before.loop in
+    let l = c.before.loop-l in
     (omega arith, λ k q h i. more c.before.before.args.t1 l.r l.l k q l.invariant.1 (ℕ_discrete k l.l) (omega arith) i)
 
 returns : tie.Need-returns invariant-loop decreases-loop
-returns c = λ k q h i. c.before.loop.invariant.1 k q (omega arith) i
+returns c = λ k q h i. c.before.loop-l.invariant.1 k q (omega arith) i
 
-pub entered-spec : {M : Type 1} → statement M
-entered-spec =
+pub entered_spec : {M : Type 1} → statement M
+entered_spec =
     tie.close
     (tie.spec invariant-loop decreases-loop loop-holds mul-r array-read-r add-l loop-less loop-again returns)

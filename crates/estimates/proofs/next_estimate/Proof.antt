@@ -15,44 +15,44 @@ use Rattle.estimates.proofs.next_estimate.Statement.{statement}
 use Rattle.estimates.proofs.next_estimate.Tie as tie
 
 -- the way back to where the call began
-abbrev begin : tie.After-observable-reach → tie.Start
+abbrev begin : tie.After-observable_reach-after → tie.Start
 begin c = c.before.before.before.before.before
 
 -- the states right after one more symbol
-next_entry : (c : tie.After-observable-reach) (symbol : ℕ)
+next_entry : (c : tie.After-observable_reach-after) (symbol : ℕ)
     → Showing (automaton_of (begin c).args.table.now (begin c).args.header) symbol (begin c).args.events → (trace : List ℕ)
     → Is (begin c).args.entry (Enters (automaton_of (begin c).args.table.now (begin c).args.header) trace)
-    → Is c.observable-reach.result (Enters (automaton_of (begin c).args.table.now (begin c).args.header) (trace ++ symbol ∷ []))
+    → Is c.observable_reach-after.result (Enters (automaton_of (begin c).args.table.now (begin c).args.header) (trace ++ symbol ∷ []))
 next_entry c symbol shown trace E =
     let s = begin c in
     let g = s.pre.3 in
-    c.observable-reach.ensures _ trace symbol refl shown (c.before.unobservable-reach.ensures.1 _ trace s.pre.1 (gained_closed _ _ _ _ g) g.more E)
+    c.observable_reach-after.ensures _ trace symbol refl shown (c.before.unobservable_reach-estimate.ensures.1 _ trace s.pre.1 (gained_closed _ _ _ _ g) g.more E)
 
-unobservable-reach-requires : tie.Need-unobservable-reach-requires
+unobservable-reach-requires : tie.Need-unobservable_reach-estimate-requires
 unobservable-reach-requires c κs = (gained_closed _ _ _ _ c.before.before.before.requires.3).size
 
-observable-reach-requires : tie.Need-observable-reach-requires
+observable-reach-requires : tie.Need-observable_reach-after-requires
 observable-reach-requires c κs = let s = c.before.before.before.before in (s.requires.0, s.requires.2)
 
-same_length : tie.Need-same-length
+same_length : tie.Need-shape_of-silent-then-after-eq0
 same_length c = search rules
 
-returns : tie.Need-returns
-returns c = λ symbol shown. no_run (λ trace E. entry_impossible _ (trace ++ symbol ∷ []) _ c.if1.true (next_entry c.before symbol shown trace E))
+returns : tie.Need-returns-then-after-eq0
+returns c = λ symbol shown. no_run (λ trace E. entry_impossible _ (trace ++ symbol ∷ []) _ c.if-after-eq0.true (next_entry c.before symbol shown trace E))
 
-estimate-from-requires : tie.Need-estimate-from-requires
+estimate-from-requires : tie.Need-estimate_from-next-requires
 estimate-from-requires c κs = let s = c.before.before.before.before.before.before.before in (s.requires.0, s.requires.1, s.requires.3.known_are)
 
-same-length-2 : tie.Need-same-length-2
+same-length-2 : tie.Need-shape_of-silent
 same-length-2 c = search rules
 
-returns-2 : tie.Need-returns-2
+returns-2 : tie.Need-returns
 returns-2 c = λ symbol shown.
     let i = c.before.before.before.before in
-    some_run (stepping _ _ _ symbol i.before.observable-reach.result _ _ c.before.before.estimate-from.ensures i.if1.false (omega arith)
+    some_run (stepping _ _ _ symbol i.before.observable_reach-after.result _ _ c.before.before.estimate_from-next.ensures i.if-after-eq0.false (omega arith)
     (next_entry i.before symbol shown))
 
-pub next-estimate-spec : {M : Type 1} → statement M
-next-estimate-spec =
+pub next_estimate_spec : {M : Type 1} → statement M
+next_estimate_spec =
     tie.close
     (tie.spec unobservable-reach-requires observable-reach-requires same_length returns estimate-from-requires same-length-2 returns-2)

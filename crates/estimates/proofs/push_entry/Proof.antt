@@ -6,44 +6,44 @@ use Rattle.estimates.proofs.Storing.{Storing, store_start, store_turn, store_end
 use Rattle.estimates.proofs.push_entry.Statement.{statement}
 use Rattle.estimates.proofs.push_entry.Tie as tie
 
-abbrev invariant-loop : tie.invariant-loop
+abbrev invariant-loop : tie.invariant-loop-l
 invariant-loop n entry entries r₀ next₀ l₀ r next l = Storing entry entries n 16 r next l
 
-abbrev decreases-loop : tie.decreases-loop
+abbrev decreases-loop : tie.decreases-loop-l
 decreases-loop n entry entries r₀ next₀ l₀ r next l = n - l
 
-loop-holds : tie.Need-loop-init invariant-loop decreases-loop
+loop-holds : tie.Need-loop-l-init invariant-loop decreases-loop
 loop-holds c = store_start _ _ _ 16
 
-cast-at : tie.Need-overflow-cast-at invariant-loop decreases-loop
+cast-at : tie.Need-overflow_cast-at invariant-loop decreases-loop
 cast-at c = search rules
 
-mul-r : tie.Need-overflow-mul-r invariant-loop decreases-loop
+mul-r : tie.Need-offset_bounds-r-at invariant-loop decreases-loop
 mul-r c = search rules
 
-array-write-r : tie.Need-array-write-r invariant-loop decreases-loop
+array-write-r : tie.Need-bounds-r-at invariant-loop decreases-loop
 array-write-r c = search rules
 
-mul_next : tie.Need-overflow-mul-next invariant-loop decreases-loop
+mul_next : tie.Need-offset_bounds-entries-at invariant-loop decreases-loop
 mul_next c = search rules
 
-array-read-next : tie.Need-array-read-next invariant-loop decreases-loop
+array-read-next : tie.Need-bounds-entries-at invariant-loop decreases-loop
 array-read-next c = search rules
 
-add-l : tie.Need-overflow-add-l invariant-loop decreases-loop
+add-l : tie.Need-overflow_add-l invariant-loop decreases-loop
 add-l c = search rules
 
-loop-less : tie.Need-loop-smaller invariant-loop decreases-loop
+loop-less : tie.Need-loop-l-smaller invariant-loop decreases-loop
 loop-less c = search rules
 
-loop-again : tie.Need-loop-preserved invariant-loop decreases-loop
-loop-again c = store_turn (omega arith) (omega arith) c.before.loop.invariant
+loop-again : tie.Need-loop-l-preserved invariant-loop decreases-loop
+loop-again c = store_turn (omega arith) (omega arith) c.before.loop-l.invariant
 
 returns : tie.Need-returns invariant-loop decreases-loop
-returns c = store_end (omega arith) c.before.loop.invariant
+returns c = store_end (omega arith) c.before.loop-l.invariant
 
-pub push-entry-spec : {M : Type 1} → statement M
-push-entry-spec =
+pub push_entry_spec : {M : Type 1} → statement M
+push_entry_spec =
     tie.close
     (tie.spec
     invariant-loop

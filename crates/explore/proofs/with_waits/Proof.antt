@@ -9,19 +9,19 @@ use Rattle.enforcer.specs.Waits.{LargestWait}
 use Rattle.explore.proofs.with_waits.Statement.{statement}
 use Rattle.explore.proofs.with_waits.Tie as tie
 
-choose-each-requires : tie.Need-choose-each-requires
+choose-each-requires : tie.Need-choose_each-weak-requires
 choose-each-requires c κs = search rules
 
-choose-each-requires-2 : tie.Need-choose-each-requires-2
+choose-each-requires-2 : tie.Need-choose_each-strong-requires
 choose-each-requires-2 c κs = search rules
 
-largest-wait-requires : tie.Need-largest-wait-requires
+largest-wait-requires : tie.Need-largest_wait-weak_wait-requires
 largest-wait-requires c κs = search rules
 
-largest-wait-requires-2 : tie.Need-largest-wait-requires-2
+largest-wait-requires-2 : tie.Need-largest_wait-strong_wait-requires
 largest-wait-requires-2 c κs = search rules
 
-remembered-of-requires : tie.Need-remembered-of-requires
+remembered-of-requires : tie.Need-remembered_of-remembered-requires
 remembered-of-requires c κs = search rules
 
 returns : tie.Need-returns
@@ -30,13 +30,13 @@ returns c =
     let weak = strong.before in
     let a = weak.before.before.before.args in
     let Largest : VerdictsBy → ℕ → Type 0 = λ v w. LargestWait (secrets_of a.header a.further) (steps_each a.further v) w in (
-      c.remembered-of.ensures,
-      subst (λ (v : VerdictsBy). Largest v weak.largest-wait.result) weak.before.before.choose-each.ensures weak.largest-wait.ensures,
-      subst (λ (v : VerdictsBy). Largest v strong.largest-wait2.result) weak.before.choose-each2.ensures strong.largest-wait2.ensures,
+      c.remembered_of-remembered.ensures,
+      subst (λ (v : VerdictsBy). Largest v weak.largest_wait-weak_wait.result) weak.before.before.choose_each-weak.ensures weak.largest_wait-weak_wait.ensures,
+      subst (λ (v : VerdictsBy). Largest v strong.largest_wait-strong_wait.result) weak.before.choose_each-strong.ensures strong.largest_wait-strong_wait.ensures,
     )
 
-pub with-waits-spec : {M : Type 1} → statement M
-with-waits-spec =
+pub with_waits_spec : {M : Type 1} → statement M
+with_waits_spec =
     tie.close
     (tie.spec
     choose-each-requires

@@ -5,39 +5,39 @@ use Rattle.leaks.proofs.Leaking.{leak_among, last_among}
 use Rattle.leaks.proofs.any_leak.Statement.{statement}
 use Rattle.leaks.proofs.any_leak.Tie as tie
 
-is-leak-requires : tie.Need-is-leak-requires
+is-leak-requires : tie.Need-is_leak-requires
 is-leak-requires c κs = search rules
 
-returns : tie.Need-returns
-returns c = leak_among _ 0 (holds c.before.is-leak.result c.if1.true c.before.is-leak.ensures)
+returns : tie.Need-returns-then-is_leak
+returns c = leak_among _ 0 (holds c.before.is-leak.result c.if-is_leak.true c.before.is-leak.ensures)
 
-is-leak-requires-2 : tie.Need-is-leak-requires-2
+is-leak-requires-2 : tie.Need-is_leak-requires-2
 is-leak-requires-2 c κs = search rules
 
-returns-2 : tie.Need-returns-2
-returns-2 c = leak_among _ 1 (holds c.before.is-leak2.result c.if2.true c.before.is-leak2.ensures)
+returns-2 : tie.Need-returns-then-is_leak-2
+returns-2 c = leak_among _ 1 (holds c.before.is_leak-2.result c.if-is_leak-2.true c.before.is_leak-2.ensures)
 
-is-leak-requires-3 : tie.Need-is-leak-requires-3
+is-leak-requires-3 : tie.Need-is_leak-requires-3
 is-leak-requires-3 c κs = search rules
 
-returns-3 : tie.Need-returns-3
-returns-3 c = leak_among _ 2 (holds c.before.is-leak3.result c.if3.true c.before.is-leak3.ensures)
+returns-3 : tie.Need-returns-then-is_leak-3
+returns-3 c = leak_among _ 2 (holds c.before.is_leak-3.result c.if-is_leak-3.true c.before.is_leak-3.ensures)
 
-is-leak-requires-4 : tie.Need-is-leak-requires-4
+is-leak-requires-4 : tie.Need-is_leak-requires-4
 is-leak-requires-4 c κs = search rules
 
-returns-4 : tie.Need-returns-4
+returns-4 : tie.Need-returns
 returns-4 c =
-    decided_as c.is-leak4.result (leak_among _ 3)
+    decided_as c.is_leak-4.result (leak_among _ 3)
     (last_among _
-    (fails c.before.before.before.before.before.before.is-leak.result c.before.before.before.before.before.if1.false
+    (fails c.before.before.before.before.before.before.is-leak.result c.before.before.before.before.before.if-is_leak.false
     c.before.before.before.before.before.before.is-leak.ensures)
-    (fails c.before.before.before.before.is-leak2.result c.before.before.before.if2.false c.before.before.before.before.is-leak2.ensures)
-    (fails c.before.before.is-leak3.result c.before.if3.false c.before.before.is-leak3.ensures))
-    c.is-leak4.ensures
+    (fails c.before.before.before.before.is_leak-2.result c.before.before.before.if-is_leak-2.false c.before.before.before.before.is_leak-2.ensures)
+    (fails c.before.before.is_leak-3.result c.before.if-is_leak-3.false c.before.before.is_leak-3.ensures))
+    c.is_leak-4.ensures
 
-pub any-leak-spec : {M : Type 1} → statement M
-any-leak-spec =
+pub any_leak_spec : {M : Type 1} → statement M
+any_leak_spec =
     tie.close
     (tie.spec
     is-leak-requires

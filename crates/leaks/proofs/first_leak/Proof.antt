@@ -9,49 +9,49 @@ use Rattle.leaks.proofs.Outcomes.{finding_refused, never_at, finding_advanced}
 use Rattle.leaks.proofs.first_leak.Statement.{statement}
 use Rattle.leaks.proofs.first_leak.Tie as tie
 
-begin-requires : tie.Need-begin-requires
+begin-requires : tie.Need-begin-begun-requires
 begin-requires c κs = search rules
 
-enum-known-answer : tie.Need-enum-known-answer
+enum-known-answer : tie.Need-enum_known-answer
 enum-known-answer c = search rules
 
-enum_told : tie.Need-enum-told
+enum_told : tie.Need-enum_told-1
 enum_told c = search rules
 
-advance-requires : tie.Need-advance-requires
+advance-requires : tie.Need-advance-reply-requires
 advance-requires c κs = search rules
 
-enum-known-answer-2 : tie.Need-enum-known-answer-2
+enum-known-answer-2 : tie.Need-enum_known-answer-in-At-1
 enum-known-answer-2 c = search rules
 
-returns : tie.Need-returns
+returns : tie.Need-returns-in-Refused
 returns c =
-    let called = c.before.before.before.begin in
+    let called = c.before.before.before.begin-begun in
     let a = c.before.before.before.before.before.before.args in
-    finding_refused a.notion a.table.now a.header a.further a.bytes.now _ called.result.search
-    (subst (λ (x : LeakAnswer). Beginning a.notion a.table.now a.header a.further (said x) called.result.search)
-    c.before.answer.given.1 called.ensures)
+    finding_refused a.notion a.table.now a.header a.further a.bytes.now _ called.result.search-1
+    (subst (λ (x : LeakAnswer). Beginning a.notion a.table.now a.header a.further (said x) called.result.search-1)
+    c.before.answer-1.given.1 called.ensures)
 
-returns-2 : tie.Need-returns-2
+returns-2 : tie.Need-returns-in-Nowhere
 returns-2 c =
-    let called = c.before.before.before.before.begin in
+    let called = c.before.before.before.before.begin-begun in
     let s = c.before.before.before.before.before.before.before in
     let a = s.args in
-    finding_advanced a.notion a.table.now a.header a.further a.bytes.now called.result.search c.advance.result.search _
+    finding_advanced a.notion a.table.now a.header a.further a.bytes.now called.result.search-1 c.advance-reply.result.search-1 _
     (omega (arith, s.well_formed))
-    (subst (λ (x : LeakAnswer). Beginning a.notion a.table.now a.header a.further (said x) called.result.search)
-    c.before.before.enum_told.given.1 called.ensures) c.advance.ensures
+    (subst (λ (x : LeakAnswer). Beginning a.notion a.table.now a.header a.further (said x) called.result.search-1)
+    c.before.before.enum_told-1.given.1 called.ensures) c.advance-reply.ensures
 
-returns-3 : tie.Need-returns-3
+returns-3 : tie.Need-returns-in-At
 returns-3 c =
-    let called = c.before.before.before.begin in
+    let called = c.before.before.before.begin-begun in
     let a = c.before.before.before.before.before.before.args in
-    never_at a.notion a.table.now a.header a.further _ called.result.search
-    (subst (λ (x : LeakAnswer). Beginning a.notion a.table.now a.header a.further (said x) called.result.search)
-    c.before.answer2.given.1 called.ensures)
+    never_at a.notion a.table.now a.header a.further _ called.result.search-1
+    (subst (λ (x : LeakAnswer). Beginning a.notion a.table.now a.header a.further (said x) called.result.search-1)
+    c.before.answer-in-At-1.given.1 called.ensures)
 
-pub first-leak-spec : {M : Type 1} → statement M
-first-leak-spec =
+pub first_leak_spec : {M : Type 1} → statement M
+first_leak_spec =
     tie.close
     (tie.spec
     begin-requires

@@ -4,17 +4,17 @@ use borrow.Author.Rules.{rules}
 use Rattle.opacity.proofs.clear.Statement.{statement}
 use Rattle.opacity.proofs.clear.Tie as tie
 
-further-at-requires : tie.Need-further-at-requires
+further-at-requires : tie.Need-further_at-first-requires
 further-at-requires c κs = search rules
 
-further-at-requires-2 : tie.Need-further-at-requires-2
+further-at-requires-2 : tie.Need-further_at-second-requires
 further-at-requires-2 c κs = search rules
 
-further-at-requires-3 : tie.Need-further-at-requires-3
+further-at-requires-3 : tie.Need-further_at-third-requires
 further-at-requires-3 c κs = search rules
 
 returns : tie.Need-returns
-returns c = rw (c.further-at3.ensures, c.before.further-at2.ensures, c.before.before.further-at.ensures) refl
+returns c = rw (c.further_at-third.ensures, c.before.further_at-second.ensures, c.before.before.further_at-first.ensures) refl
 
 pub clear_spec : {M : Type 1} → statement M
 clear_spec =

@@ -7,20 +7,20 @@ use borrow.Author.Rules.{rules}
 use Rattle.opacity.proofs.secret_at.Statement.{statement}
 use Rattle.opacity.proofs.secret_at.Tie as tie
 
-returns : tie.Need-returns
-returns c = rw c.if1.true refl
+returns : tie.Need-returns-then-i-eq0
+returns c = rw c.if-i-eq0.true refl
 
-sub-further-at : tie.Need-overflow-sub-further-at
+sub-further-at : tie.Need-overflow_sub-i
 sub-further-at c = search rules
 
-further-at-requires : tie.Need-further-at-requires
+further-at-requires : tie.Need-further_at-requires
 further-at-requires c κs = search rules
 
-returns-2 : tie.Need-returns-2
+returns-2 : tie.Need-returns
 returns-2 c =
     let a = c.before.before.args in
-    let e : suc (a.i - 1) ≡ a.i = omega (arith, c.before.if1.false) in
+    let e : suc (a.i - 1) ≡ a.i = omega (arith, c.before.if-i-eq0.false) in
     c.further-at.ensures ∙ ap (secret_at (secrets_of a.header a.further)) e
 
-pub secret-at-spec : {M : Type 1} → statement M
-secret-at-spec = tie.close (tie.spec returns sub-further-at further-at-requires returns-2)
+pub secret_at_spec : {M : Type 1} → statement M
+secret_at_spec = tie.close (tie.spec returns sub-further-at further-at-requires returns-2)

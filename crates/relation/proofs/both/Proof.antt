@@ -7,5 +7,5 @@ use Rattle.relation.proofs.both.Tie as tie
 returns : tie.Need-returns
 returns c = four _ refl refl refl refl
 
-pub both-spec : {M : Type 1} → statement M
-both-spec = tie.close (tie.spec returns)
+pub both_spec : {M : Type 1} → statement M
+both_spec = tie.close (tie.spec returns)

@@ -8,35 +8,35 @@ use Rattle.relation.proofs.Closing.{Closing, close_start, close_turn, close_less
 use Rattle.relation.proofs.closure.Statement.{statement}
 use Rattle.relation.proofs.closure.Tie as tie
 
-abbrev invariant-loop : tie.invariant-loop
+abbrev invariant-loop : tie.invariant-loop-missing
 invariant-loop rows allowed from wave₀ missing₀ wave missing = Closing (Row rows) allowed from missing wave
 
-abbrev decreases-loop : tie.decreases-loop
+abbrev decreases-loop : tie.decreases-loop-missing
 decreases-loop rows allowed from wave₀ missing₀ wave missing = missing
 
-loop-holds : tie.Need-loop-init invariant-loop decreases-loop
+loop-holds : tie.Need-loop-missing-init invariant-loop decreases-loop
 loop-holds c = close_start _ _ _ _ _ c.before.ranges.allowed.fits refl refl
 
 image-requires : tie.Need-image-requires invariant-loop decreases-loop
 image-requires c κs = c.before.before.before.requires
 
-returns : tie.Need-returns invariant-loop decreases-loop
-returns c = close_end _ _ _ _ _ _ _ refl c.before.image.ensures c.before.before.before.loop.invariant _ refl (λ q i. empty q _ c.if1.true i)
+returns : tie.Need-returns-then-wave-eq0 invariant-loop decreases-loop
+returns c = close_end _ _ _ _ _ _ _ refl c.before.image.ensures c.before.before.before.loop-missing.invariant _ refl (λ q i. empty q _ c.if-wave-eq0.true i)
 
-loop-less : tie.Need-loop-smaller invariant-loop decreases-loop
+loop-less : tie.Need-loop-missing-smaller invariant-loop decreases-loop
 loop-less c =
-    let l = c.before.before.before.loop in
+    let l = c.before.before.before.loop-missing in
     let fits = l.invariant.small in
     close_less _ _ _ _ _ _ _ refl c.before.image.ensures l.invariant _ refl _
-    (trailing_in 64 _ (omega (arith, c.if1.false)) (omega (arith, fits, and_le_r c.before.image.result l.missing)))
+    (trailing_in 64 _ (omega (arith, c.if-wave-eq0.false)) (omega (arith, fits, and_le_r c.before.image.result l.missing)))
 
-loop-again : tie.Need-loop-preserved invariant-loop decreases-loop
-loop-again c = close_turn _ _ _ _ _ _ _ refl c.before.image.ensures c.before.before.before.loop.invariant _ refl
+loop-again : tie.Need-loop-missing-preserved invariant-loop decreases-loop
+loop-again c = close_turn _ _ _ _ _ _ _ refl c.before.image.ensures c.before.before.before.loop-missing.invariant _ refl
 
-returns-2 : tie.Need-returns-2 invariant-loop decreases-loop
-returns-2 c = close_full _ _ _ _ _ (λ q i. empty q _ c.loop-test.false i) c.before.loop.invariant
+returns-2 : tie.Need-returns invariant-loop decreases-loop
+returns-2 c = close_full _ _ _ _ _ (λ q i. empty q _ c.loop-missing-test.false i) c.before.loop-missing.invariant
 
-pub closure-spec : {M : Type 1} → statement M
-closure-spec =
+pub closure_spec : {M : Type 1} → statement M
+closure_spec =
     tie.close
     (tie.spec invariant-loop decreases-loop loop-holds image-requires returns loop-less loop-again returns-2)

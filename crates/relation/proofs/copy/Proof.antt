@@ -8,36 +8,36 @@ use Rattle.lists.proofs.Filled.{filled}
 use Rattle.relation.proofs.copy.Statement.{statement}
 use Rattle.relation.proofs.copy.Tie as tie
 
-abbrev invariant-loop : tie.invariant-loop
+abbrev invariant-loop : tie.invariant-loop-i
 invariant-loop from to₀ i₀ to i = (i ≤ 64) × (length to ≡ 64) × ((k : ℕ) → k < i → get_or to k 0 ≡ get_or from k 0)
 
-abbrev decreases-loop : tie.decreases-loop
+abbrev decreases-loop : tie.decreases-loop-i
 decreases-loop from to₀ i₀ to i = 64 - i
 
-loop-holds : tie.Need-loop-init invariant-loop decreases-loop
+loop-holds : tie.Need-loop-i-init invariant-loop decreases-loop
 loop-holds c = (omega arith, c.requires.1, λ k l. absurd (omega arith))
 
-mul-to : tie.Need-overflow-mul-to invariant-loop decreases-loop
+mul-to : tie.Need-offset_bounds-from-i invariant-loop decreases-loop
 mul-to c = omega arith
 
-shared-slice-read-to : tie.Need-shared-slice-read-to invariant-loop decreases-loop
+shared-slice-read-to : tie.Need-bounds-from-i invariant-loop decreases-loop
 shared-slice-read-to c = omega (arith, c.before.before.before.requires.0)
 
-mul-to-2 : tie.Need-overflow-mul-to-2 invariant-loop decreases-loop
+mul-to-2 : tie.Need-offset_bounds-to-i invariant-loop decreases-loop
 mul-to-2 c = omega arith
 
-slice-write-to : tie.Need-slice-write-to invariant-loop decreases-loop
-slice-write-to c = omega (arith, c.before.before.loop.invariant.1)
+slice-write-to : tie.Need-bounds-to-i invariant-loop decreases-loop
+slice-write-to c = omega (arith, c.before.before.loop-i.invariant.1)
 
-add-i : tie.Need-overflow-add-i invariant-loop decreases-loop
+add-i : tie.Need-overflow_add-i invariant-loop decreases-loop
 add-i c = omega arith
 
-loop-less : tie.Need-loop-smaller invariant-loop decreases-loop
+loop-less : tie.Need-loop-i-smaller invariant-loop decreases-loop
 loop-less c = omega arith
 
-loop-again : tie.Need-loop-preserved invariant-loop decreases-loop
+loop-again : tie.Need-loop-i-preserved invariant-loop decreases-loop
 loop-again c =
-    let l = c.before.before.loop in
+    let l = c.before.before.loop-i in
     let from = c.before.before.before.args.from.now in (
       omega arith,
       simp length-set l.invariant.1,
@@ -45,12 +45,12 @@ loop-again c =
           refl,
     )
 
-same_length : tie.Need-same-length invariant-loop decreases-loop
-same_length c = c.before.loop.invariant.1 ∙ sym c.before.before.requires.1
+same_length : tie.Need-shape_of-to invariant-loop decreases-loop
+same_length c = c.before.loop-i.invariant.1 ∙ sym c.before.before.requires.1
 
 returns : tie.Need-returns invariant-loop decreases-loop
 returns c =
-    let l = c.before.loop in
+    let l = c.before.loop-i in
     ext_get_or 0 _ _ (l.invariant.1 ∙ sym c.before.before.requires.0) (λ k h. l.invariant.2 k (omega (arith, l.invariant.1)))
 
 pub copy_spec : {M : Type 1} → statement M

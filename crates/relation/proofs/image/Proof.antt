@@ -11,42 +11,42 @@ use Rattle.relation.proofs.Joining.{Joined, join_start, join_turn, join_end}
 use Rattle.relation.proofs.image.Statement.{statement}
 use Rattle.relation.proofs.image.Tie as tie
 
-abbrev invariant-loop : tie.invariant-loop
+abbrev invariant-loop : tie.invariant-loop-todo
 invariant-loop rows set todo₀ r₀ todo r = (todo < 2 ^ 64) × Joined (Row rows) set todo r
 
-abbrev decreases-loop : tie.decreases-loop
+abbrev decreases-loop : tie.decreases-loop-todo
 decreases-loop rows set todo₀ r₀ todo r = todo
 
-next : (c : tie.In-loop invariant-loop decreases-loop) → Taken c.before.loop.todo (count_trailing_zeros 64 c.before.loop.todo)
-    (bit_and c.before.loop.todo (c.before.loop.todo - 1))
-next c = taken c.before.loop.todo (omega arith) c.before.loop.invariant.0
+next : (c : tie.In-loop-todo invariant-loop decreases-loop) → Taken c.before.loop-todo.todo (count_trailing_zeros 64 c.before.loop-todo.todo)
+    (bit_and c.before.loop-todo.todo (c.before.loop-todo.todo - 1))
+next c = taken c.before.loop-todo.todo (omega arith) c.before.loop-todo.invariant.0
 
-loop-holds : tie.Need-loop-init invariant-loop decreases-loop
+loop-holds : tie.Need-loop-todo-init invariant-loop decreases-loop
 loop-holds c = (omega arith, join_start _ _)
 
-cast-q : tie.Need-overflow-cast-q invariant-loop decreases-loop
+cast-q : tie.Need-overflow_cast-q invariant-loop decreases-loop
 cast-q c = omega (arith, (next c).small)
 
-mul-r : tie.Need-overflow-mul-r invariant-loop decreases-loop
+mul-r : tie.Need-offset_bounds-rows-q invariant-loop decreases-loop
 mul-r c = omega (arith, (next c).small)
 
-shared-slice-read-r : tie.Need-shared-slice-read-r invariant-loop decreases-loop
+shared-slice-read-r : tie.Need-bounds-rows-q invariant-loop decreases-loop
 shared-slice-read-r c = omega (arith, (next c.before).small)
 
-sub-todo : tie.Need-overflow-sub-todo invariant-loop decreases-loop
+sub-todo : tie.Need-overflow_sub-todo invariant-loop decreases-loop
 sub-todo c = omega arith
 
-loop-less : tie.Need-loop-smaller invariant-loop decreases-loop
+loop-less : tie.Need-loop-todo-smaller invariant-loop decreases-loop
 loop-less c = (next c.before).less
 
-loop-again : tie.Need-loop-preserved invariant-loop decreases-loop
-loop-again c = (omega (arith, (next c.before).less), join_turn _ _ _ _ _ _ _ (next c.before) (own_is _) c.before.before.loop.invariant.1)
+loop-again : tie.Need-loop-todo-preserved invariant-loop decreases-loop
+loop-again c = (omega (arith, (next c.before).less), join_turn _ _ _ _ _ _ _ (next c.before) (own_is _) c.before.before.loop-todo.invariant.1)
 
 returns : tie.Need-returns invariant-loop decreases-loop
-returns c = join_end _ _ _ _ c.loop-test.false c.before.loop.invariant.1
+returns c = join_end _ _ _ _ c.loop-todo-test.false c.before.loop-todo.invariant.1
 
-pub image-spec : {M : Type 1} → statement M
-image-spec =
+pub image_spec : {M : Type 1} → statement M
+image_spec =
     tie.close
     (tie.spec
     invariant-loop

@@ -27,80 +27,80 @@ whole rows wave all r sub g =
       whole = λ x m. g.whole x (m.0, sub m.0 m.1, (m.1, m.2));
     }
 
-abbrev invariant-loop : tie.invariant-loop
+abbrev invariant-loop : tie.invariant-loop-todo
 invariant-loop rows waves todo₀ r₀ todo r = (todo < 2 ^ 64) × ((i : ℕ) → i < 4 → Joined (Adds rows (set_at waves i)) todo₀ todo (set_at r i))
 
-abbrev decreases-loop : tie.decreases-loop
+abbrev decreases-loop : tie.decreases-loop-todo
 decreases-loop rows waves todo₀ r₀ todo r = todo
 
-next : (c : tie.In-loop invariant-loop decreases-loop) → Taken c.before.loop.todo (count_trailing_zeros 64 c.before.loop.todo)
-    (bit_and c.before.loop.todo (c.before.loop.todo - 1))
-next c = taken c.before.loop.todo (omega arith) c.before.loop.invariant.0
+next : (c : tie.In-loop-todo invariant-loop decreases-loop) → Taken c.before.loop-todo.todo (count_trailing_zeros 64 c.before.loop-todo.todo)
+    (bit_and c.before.loop-todo.todo (c.before.loop-todo.todo - 1))
+next c = taken c.before.loop-todo.todo (omega arith) c.before.loop-todo.invariant.0
 
-any-requires : tie.Need-any-requires invariant-loop decreases-loop
+any-requires : tie.Need-any-todo-requires invariant-loop decreases-loop
 any-requires c κs = search rules
 
-no-sets-requires : tie.Need-no-sets-requires invariant-loop decreases-loop
+no-sets-requires : tie.Need-no_sets-r-requires invariant-loop decreases-loop
 no-sets-requires c κs = search rules
 
-loop-holds : tie.Need-loop-init invariant-loop decreases-loop
+loop-holds : tie.Need-loop-todo-init invariant-loop decreases-loop
 loop-holds c =
     let s = c.before.before.before.args in
-    let all = c.before.any.result in (
-      omega (arith, c.before.any.type-inv),
-      λ i l. subst (Joined (Adds s.rows.now (set_at s.waves i)) all all) (sym (c.no-sets.ensures i l))
+    let all = c.before.any-todo.result in (
+      omega (arith, c.before.any-todo.type_inv),
+      λ i l. subst (Joined (Adds s.rows.now (set_at s.waves i)) all all) (sym (c.no_sets-r.ensures i l))
           (join_start _ _),
     )
 
-cast-row : tie.Need-overflow-cast-row invariant-loop decreases-loop
+cast-row : tie.Need-overflow_cast-row invariant-loop decreases-loop
 cast-row c = omega (arith, (next c).small)
 
-mul-row : tie.Need-overflow-mul-row invariant-loop decreases-loop
+mul-row : tie.Need-offset_bounds-rows-q invariant-loop decreases-loop
 mul-row c = omega (arith, (next c).small)
 
-shared-slice-read-row : tie.Need-shared-slice-read-row invariant-loop decreases-loop
+shared-slice-read-row : tie.Need-bounds-rows-q invariant-loop decreases-loop
 shared-slice-read-row c = omega (arith, (next c.before).small)
 
 pick-requires : tie.Need-pick-requires invariant-loop decreases-loop
 pick-requires c κs = (next c.before).small
 
-pick-requires-2 : tie.Need-pick-requires-2 invariant-loop decreases-loop
+pick-requires-2 : tie.Need-pick-requires-in-loop-todo invariant-loop decreases-loop
 pick-requires-2 c κs = (next c.before.before).small
 
-pick-requires-3 : tie.Need-pick-requires-3 invariant-loop decreases-loop
+pick-requires-3 : tie.Need-pick-requires-in-loop-todo-2 invariant-loop decreases-loop
 pick-requires-3 c κs = (next c.before.before.before).small
 
-pick-requires-4 : tie.Need-pick-requires-4 invariant-loop decreases-loop
+pick-requires-4 : tie.Need-pick-requires-in-loop-todo-3 invariant-loop decreases-loop
 pick-requires-4 c κs = (next c.before.before.before.before).small
 
-sub-todo : tie.Need-overflow-sub-todo invariant-loop decreases-loop
+sub-todo : tie.Need-overflow_sub-todo invariant-loop decreases-loop
 sub-todo c = omega arith
 
-loop-less : tie.Need-loop-smaller invariant-loop decreases-loop
+loop-less : tie.Need-loop-todo-smaller invariant-loop decreases-loop
 loop-less c = (next c.before.before.before.before.before).less
 
-loop-again : tie.Need-loop-preserved invariant-loop decreases-loop
+loop-again : tie.Need-loop-todo-preserved invariant-loop decreases-loop
 loop-again c =
     let k = next c.before.before.before.before.before in
-    let l = c.before.before.before.before.before.before.loop in
+    let l = c.before.before.before.before.before.before.loop-todo in
     let a = c.before.before.before.before.before.before.before.before.before.before.args in
-    let all = c.before.before.before.before.before.before.before.before.any.result in (
+    let all = c.before.before.before.before.before.before.before.before.any-todo.result in (
       omega (arith, k.less),
       four (λ i. Joined (Adds a.rows.now (set_at a.waves i)) all (bit_and l.todo (l.todo - 1)) (set_at _ i))
           (join_more _ _ _ _ _ _ _ k c.before.before.before.pick.ensures (l.invariant.1 0 (omega arith)))
-          (join_more _ _ _ _ _ _ _ k c.before.before.pick2.ensures (l.invariant.1 1 (omega arith)))
-          (join_more _ _ _ _ _ _ _ k c.before.pick3.ensures (l.invariant.1 2 (omega arith)))
-          (join_more _ _ _ _ _ _ _ k c.pick4.ensures (l.invariant.1 3 (omega arith))),
+          (join_more _ _ _ _ _ _ _ k c.before.before.pick-in-loop-todo.ensures (l.invariant.1 1 (omega arith)))
+          (join_more _ _ _ _ _ _ _ k c.before.pick-in-loop-todo-2.ensures (l.invariant.1 2 (omega arith)))
+          (join_more _ _ _ _ _ _ _ k c.pick-in-loop-todo-3.ensures (l.invariant.1 3 (omega arith))),
     )
 
 returns : tie.Need-returns invariant-loop decreases-loop
 returns c =
-    let any = c.before.before.before.any in
+    let any = c.before.before.before.any-todo in
     let rows = c.before.before.before.before.before.args.rows.now in
-    λ i h. whole rows _ any.result _ (λ q m. any.ensures.whole q (i, h, m)) (join_end _ _ _ _ c.loop-test.false (c.before.loop.invariant.1 i h))
+    λ i h. whole rows _ any.result _ (λ q m. any.ensures.whole q (i, h, m)) (join_end _ _ _ _ c.loop-todo-test.false (c.before.loop-todo.invariant.1 i h))
 
-pub images-spec : {M : Type 1} → statement M
-images-spec =
+pub images_spec : {M : Type 1} → statement M
+images_spec =
     tie.close
     (tie.spec
     invariant-loop

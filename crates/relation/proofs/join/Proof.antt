@@ -7,5 +7,5 @@ use Rattle.relation.proofs.join.Tie as tie
 returns : tie.Need-returns
 returns c = four _ refl refl refl refl
 
-pub join-spec : {M : Type 1} → statement M
-join-spec = tie.close (tie.spec returns)
+pub join_spec : {M : Type 1} → statement M
+join_spec = tie.close (tie.spec returns)

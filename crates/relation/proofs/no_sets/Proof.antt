@@ -7,5 +7,5 @@ use Rattle.relation.proofs.no_sets.Tie as tie
 returns : tie.Need-returns
 returns c = four _ refl refl refl refl
 
-pub no-sets-spec : {M : Type 1} → statement M
-no-sets-spec = tie.close (tie.spec returns)
+pub no_sets_spec : {M : Type 1} → statement M
+no_sets_spec = tie.close (tie.spec returns)

@@ -6,25 +6,25 @@ use Rattle.relation.proofs.Falling.{from_start, row_turn}
 use Rattle.relation.proofs.pair.Statement.{statement}
 use Rattle.relation.proofs.pair.Tie as tie
 
-add-shift : tie.Need-overflow-add-shift
+add-shift : tie.Need-overflow_add-first
 add-shift c = search rules
 
-mul-shift : tie.Need-overflow-mul-shift
+mul-shift : tie.Need-offset_bounds-rows-first
 mul-shift c = search rules
 
-shared-slice-read-shift : tie.Need-shared-slice-read-shift
+shared-slice-read-shift : tie.Need-bounds-rows-first
 shared-slice-read-shift c = search rules
 
-shift-requires : tie.Need-shift-requires
+shift-requires : tie.Need-shift-second-requires
 shift-requires c κs = search rules
 
-mul-shift-2 : tie.Need-overflow-mul-shift-2
+mul-shift-2 : tie.Need-offset_bounds-rows-first-2
 mul-shift-2 c = search rules
 
-shared-slice-read-shift-2 : tie.Need-shared-slice-read-shift-2
+shared-slice-read-shift-2 : tie.Need-bounds-rows-first-2
 shared-slice-read-shift-2 c = search rules
 
-shift-requires-2 : tie.Need-shift-requires-2
+shift-requires-2 : tie.Need-shift-requires
 shift-requires-2 c κs = search rules
 
 returns : tie.Need-returns
@@ -35,8 +35,8 @@ returns c =
     let fits = s.requires.1 in
     let turn = row_turn a.rows.now (n + 2) a.set in
     let higher = turn (n + 1) (n + 2) 0 _ (omega arith) (omega arith) (omega (arith, fits)) (from_start _ _ (λ x m. m.0))
-    c.before.before.shift.ensures in
-    let two = turn n (n + 1) _ _ (omega arith) (omega arith) (omega (arith, fits)) higher c.shift2.ensures in
+    c.before.before.shift-second.ensures in
+    let two = turn n (n + 1) _ _ (omega arith) (omega arith) (omega (arith, fits)) higher c.shift.ensures in
     record { sound = λ d i. let m = two.sound d i in (omega (arith, m.0), m.1); whole = λ d m. two.whole d (omega (arith, m.0), m.1) }
 
 pub pair_spec : {M : Type 1} → statement M

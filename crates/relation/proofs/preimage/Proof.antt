@@ -9,10 +9,10 @@ use Rattle.relation.proofs.Falling.{From, Leading, from_start, from_turn, from_e
 use Rattle.relation.proofs.preimage.Statement.{statement}
 use Rattle.relation.proofs.preimage.Tie as tie
 
-abbrev invariant-loop : tie.invariant-loop
+abbrev invariant-loop : tie.invariant-loop-left
 invariant-loop rows pairs set r₀ left₀ r left = (left ≤ pairs) × From (Leading rows (2 * pairs) set) (2 * left) r
 
-abbrev decreases-loop : tie.decreases-loop
+abbrev decreases-loop : tie.decreases-loop-left
 decreases-loop rows pairs set r₀ left₀ r left = left
 
 -- both of a pair are below `2 pairs`
@@ -20,24 +20,24 @@ below : (P : ℕ → Type 0) (n pairs r : ℕ) → n + 2 ≤ 2 * pairs → Is r 
 below P n pairs r l x =
     record { sound = λ d i. let m = x.sound d i in (m.0, (omega (arith, m.0), m.1)); whole = λ d m. x.whole d (m.0, m.1.1) }
 
-loop-holds : tie.Need-loop-init invariant-loop decreases-loop
+loop-holds : tie.Need-loop-left-init invariant-loop decreases-loop
 loop-holds c = (omega arith, from_start _ _ (λ x m. m.0))
 
-sub-left : tie.Need-overflow-sub-left invariant-loop decreases-loop
+sub-left : tie.Need-overflow_sub-left invariant-loop decreases-loop
 sub-left c = omega arith
 
-mul-pair : tie.Need-overflow-mul-pair invariant-loop decreases-loop
+mul-pair : tie.Need-overflow_mul-left invariant-loop decreases-loop
 mul-pair c = omega arith
 
 pair-requires : tie.Need-pair-requires invariant-loop decreases-loop
 pair-requires c κs = (c.before.before.before.requires.0, omega arith)
 
-loop-less : tie.Need-loop-smaller invariant-loop decreases-loop
+loop-less : tie.Need-loop-left-smaller invariant-loop decreases-loop
 loop-less c = omega arith
 
-loop-again : tie.Need-loop-preserved invariant-loop decreases-loop
+loop-again : tie.Need-loop-left-preserved invariant-loop decreases-loop
 loop-again c =
-    let l = c.before.before.loop in
+    let l = c.before.before.loop-left in
     let s = c.before.before.before.before in
     let n = 2 * (l.left - 1) in (
       omega arith,
@@ -48,8 +48,8 @@ loop-again c =
 
 returns : tie.Need-returns invariant-loop decreases-loop
 returns c =
-    let l = c.before.loop in
+    let l = c.before.loop-left in
     from_end _ (2 * l.left) l.r (omega arith) l.invariant.1
 
-pub preimage-spec : {M : Type 1} → statement M
-preimage-spec = tie.close (tie.spec invariant-loop decreases-loop loop-holds sub-left mul-pair pair-requires loop-less loop-again returns)
+pub preimage_spec : {M : Type 1} → statement M
+preimage_spec = tie.close (tie.spec invariant-loop decreases-loop loop-holds sub-left mul-pair pair-requires loop-less loop-again returns)

@@ -11,75 +11,75 @@ use Rattle.relation.proofs.Turning.{Turning, turning_start, turning_turn, turnin
 use Rattle.relation.proofs.transpose_few.Statement.{statement}
 use Rattle.relation.proofs.transpose_few.Tie as tie
 
-abbrev invariant-loop2 : tie.invariant-loop2
+abbrev invariant-loop2 : tie.invariant-loop-todo
 invariant-loop2 rows few out₀ p todo₀ out todo = (todo < 2 ^ 64) × Turning rows out p todo
 
-abbrev decreases-loop2 : tie.decreases-loop2
+abbrev decreases-loop2 : tie.decreases-loop-todo
 decreases-loop2 rows few out₀ p todo₀ out todo = todo
 
-abbrev invariant-loop : tie.invariant-loop
+abbrev invariant-loop : tie.invariant-loop-p
 invariant-loop rows few out₀ p₀ out p = (p ≤ few) × Turning rows out p (get_or rows p 0)
 
-abbrev decreases-loop : tie.decreases-loop
+abbrev decreases-loop : tie.decreases-loop-p
 decreases-loop rows few out₀ p₀ out p = few - p
 
-next : (c : tie.In-loop2 invariant-loop2 decreases-loop2 invariant-loop decreases-loop)
-    → Taken c.before.loop2.todo (count_trailing_zeros 64 c.before.loop2.todo) (bit_and c.before.loop2.todo (c.before.loop2.todo - 1))
-next c = taken c.before.loop2.todo (omega arith) c.before.loop2.invariant.0
+next : (c : tie.In-loop-todo invariant-loop2 decreases-loop2 invariant-loop decreases-loop)
+    → Taken c.before.loop-todo.todo (count_trailing_zeros 64 c.before.loop-todo.todo) (bit_and c.before.loop-todo.todo (c.before.loop-todo.todo - 1))
+next c = taken c.before.loop-todo.todo (omega arith) c.before.loop-todo.invariant.0
 
-loop-holds : tie.Need-loop-init invariant-loop2 decreases-loop2 invariant-loop decreases-loop
+loop-holds : tie.Need-loop-p-init invariant-loop2 decreases-loop2 invariant-loop decreases-loop
 loop-holds c = (omega arith, subst (λ (l : List ℕ). Turning c.args.rows.now l 0 (get_or c.args.rows.now 0 0)) (sym c.requires.2) (turning_start _))
 
-mul-todo : tie.Need-overflow-mul-todo invariant-loop2 decreases-loop2 invariant-loop decreases-loop
+mul-todo : tie.Need-offset_bounds-rows-p invariant-loop2 decreases-loop2 invariant-loop decreases-loop
 mul-todo c = omega arith
 
-shared-slice-read-todo : tie.Need-shared-slice-read-todo invariant-loop2 decreases-loop2 invariant-loop decreases-loop
+shared-slice-read-todo : tie.Need-bounds-rows-p invariant-loop2 decreases-loop2 invariant-loop decreases-loop
 shared-slice-read-todo c = omega arith
 
-loop2-holds : tie.Need-loop2-init invariant-loop2 decreases-loop2 invariant-loop decreases-loop
-loop2-holds c = ((c.shared-slice-known.given _).fits, c.before.before.loop.invariant.1)
+loop2-holds : tie.Need-loop-todo-init invariant-loop2 decreases-loop2 invariant-loop decreases-loop
+loop2-holds c = ((c.shared_slice_known-1.given _).fits, c.before.before.loop-p.invariant.1)
 
-cast-q : tie.Need-overflow-cast-q invariant-loop2 decreases-loop2 invariant-loop decreases-loop
+cast-q : tie.Need-overflow_cast-q invariant-loop2 decreases-loop2 invariant-loop decreases-loop
 cast-q c = omega (arith, (next c).small)
 
-shl-out : tie.Need-overflow-shl-out invariant-loop2 decreases-loop2 invariant-loop decreases-loop
+shl-out : tie.Need-overflow_shl-out invariant-loop2 decreases-loop2 invariant-loop decreases-loop
 shl-out c = omega arith
 
-mul-out : tie.Need-overflow-mul-out invariant-loop2 decreases-loop2 invariant-loop decreases-loop
+mul-out : tie.Need-offset_bounds-out-q invariant-loop2 decreases-loop2 invariant-loop decreases-loop
 mul-out c = omega (arith, (next c).small)
 
-slice-read-out : tie.Need-slice-read-out invariant-loop2 decreases-loop2 invariant-loop decreases-loop
-slice-read-out c = omega (arith, (next c.before).small, c.before.before.loop2.invariant.1.size)
+slice-read-out : tie.Need-bounds-out-q invariant-loop2 decreases-loop2 invariant-loop decreases-loop
+slice-read-out c = omega (arith, (next c.before).small, c.before.before.loop-todo.invariant.1.size)
 
-slice-write-out : tie.Need-slice-write-out invariant-loop2 decreases-loop2 invariant-loop decreases-loop
-slice-write-out c = omega (arith, (next c.before).small, c.before.before.loop2.invariant.1.size)
+slice-write-out : tie.Need-bounds-out-q-in-loop-todo invariant-loop2 decreases-loop2 invariant-loop decreases-loop
+slice-write-out c = omega (arith, (next c.before).small, c.before.before.loop-todo.invariant.1.size)
 
-sub-todo : tie.Need-overflow-sub-todo invariant-loop2 decreases-loop2 invariant-loop decreases-loop
+sub-todo : tie.Need-overflow_sub-todo invariant-loop2 decreases-loop2 invariant-loop decreases-loop
 sub-todo c = omega arith
 
-loop2-less : tie.Need-loop2-smaller invariant-loop2 decreases-loop2 invariant-loop decreases-loop
+loop2-less : tie.Need-loop-todo-smaller invariant-loop2 decreases-loop2 invariant-loop decreases-loop
 loop2-less c = (next c.before).less
 
-loop2-again : tie.Need-loop2-preserved invariant-loop2 decreases-loop2 invariant-loop decreases-loop
-loop2-again c = (omega (arith, (next c.before).less), turning_turn _ _ _ _ _ _ (omega arith) (next c.before) c.before.before.loop2.invariant.1)
+loop2-again : tie.Need-loop-todo-preserved invariant-loop2 decreases-loop2 invariant-loop decreases-loop
+loop2-again c = (omega (arith, (next c.before).less), turning_turn _ _ _ _ _ _ (omega arith) (next c.before) c.before.before.loop-todo.invariant.1)
 
-add-p : tie.Need-overflow-add-p invariant-loop2 decreases-loop2 invariant-loop decreases-loop
+add-p : tie.Need-overflow_step-p invariant-loop2 decreases-loop2 invariant-loop decreases-loop
 add-p c = omega arith
 
-loop-less : tie.Need-loop-smaller invariant-loop2 decreases-loop2 invariant-loop decreases-loop
+loop-less : tie.Need-loop-p-smaller invariant-loop2 decreases-loop2 invariant-loop decreases-loop
 loop-less c = omega arith
 
-loop-again : tie.Need-loop-preserved invariant-loop2 decreases-loop2 invariant-loop decreases-loop
-loop-again c = (omega arith, turning_next _ _ _ _ c.loop2-test.false c.before.loop2.invariant.1)
+loop-again : tie.Need-loop-p-preserved invariant-loop2 decreases-loop2 invariant-loop decreases-loop
+loop-again c = (omega arith, turning_next _ _ _ _ c.loop-todo-test.false c.before.loop-todo.invariant.1)
 
-same_length : tie.Need-same-length invariant-loop2 decreases-loop2 invariant-loop decreases-loop
-same_length c = c.before.loop.invariant.1.size ∙ sym (ap length c.before.before.requires.2)
+same_length : tie.Need-shape_of-out invariant-loop2 decreases-loop2 invariant-loop decreases-loop
+same_length c = c.before.loop-p.invariant.1.size ∙ sym (ap length c.before.before.requires.2)
 
 returns : tie.Need-returns invariant-loop2 decreases-loop2 invariant-loop decreases-loop
-returns c = turning_end _ _ _ _ (omega arith) c.before.loop.invariant.1
+returns c = turning_end _ _ _ _ (omega arith) c.before.loop-p.invariant.1
 
-pub transpose-few-spec : {M : Type 1} → statement M
-transpose-few-spec =
+pub transpose_few_spec : {M : Type 1} → statement M
+transpose_few_spec =
     tie.close
     (tie.spec
     invariant-loop2

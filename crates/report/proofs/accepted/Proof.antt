@@ -5,24 +5,24 @@ use Rattle.report.proofs.Laws.{entered}
 use Rattle.report.proofs.accepted.Statement.{statement}
 use Rattle.report.proofs.accepted.Tie as tie
 
-has-room-requires : tie.Need-has-room-requires
+has-room-requires : tie.Need-has_room-requires
 has-room-requires c κs = search rules
 
-put-accepted-requires : tie.Need-put-accepted-requires
-put-accepted-requires c κs = holds _ c.before.if1.true c.before.before.has_room.ensures
+put-accepted-requires : tie.Need-put_accepted-requires
+put-accepted-requires c κs = holds _ c.before.if-has_room.true c.before.before.has_room.ensures
 
-same_length : tie.Need-same-length
+same_length : tie.Need-shape_of-out-then-has_room
 same_length c = search rules
 
-returns : tie.Need-returns
-returns c = entered (holds _ c.before.before.before.before.if1.true c.before.before.before.before.before.has_room.ensures)
+returns : tie.Need-returns-then-has_room
+returns c = entered (holds _ c.before.before.before.before.if-has_room.true c.before.before.before.before.before.has_room.ensures)
     c.before.before.put-accepted.ensures
 
-same-length-2 : tie.Need-same-length-2
+same-length-2 : tie.Need-shape_of-out
 same-length-2 c = search rules
 
-returns-2 : tie.Need-returns-2
-returns-2 c = no_room (fails _ c.if1.false c.before.has_room.ensures)
+returns-2 : tie.Need-returns
+returns-2 c = no_room (fails _ c.if-has_room.false c.before.has_room.ensures)
 
-pub accepted-spec : {M : Type 1} → statement M
-accepted-spec = tie.close (tie.spec has-room-requires put-accepted-requires same_length returns same-length-2 returns-2)
+pub accepted_spec : {M : Type 1} → statement M
+accepted_spec = tie.close (tie.spec has-room-requires put-accepted-requires same_length returns same-length-2 returns-2)

@@ -7,26 +7,26 @@ use Rattle.report.proofs.Laws.{same, entered}
 use Rattle.report.proofs.ended.Statement.{statement}
 use Rattle.report.proofs.ended.Tie as tie
 
-has-room-at-end-requires : tie.Need-has-room-at-end-requires
+has-room-at-end-requires : tie.Need-has_room_at_end-requires
 has-room-at-end-requires c κs = search rules
 
-put-end-requires : tie.Need-put-end-requires
-put-end-requires c κs = let room = holds _ c.before.if1.true c.before.before.has-room-at-end.ensures in omega arith
+put-end-requires : tie.Need-put_end-requires
+put-end-requires c κs = let room = holds _ c.before.if-has_room_at_end.true c.before.before.has-room-at-end.ensures in omega arith
 
-same_length : tie.Need-same-length
+same_length : tie.Need-shape_of-out-then-has_room_at_end
 same_length c = search rules
 
-returns : tie.Need-returns
-returns c = entered (holds _ c.before.before.before.before.if1.true c.before.before.before.before.before.has-room-at-end.ensures)
+returns : tie.Need-returns-then-has_room_at_end
+returns c = entered (holds _ c.before.before.before.before.if-has_room_at_end.true c.before.before.before.before.before.has-room-at-end.ensures)
     (same refl (omega arith) c.before.before.put-end.ensures)
 
-same-length-2 : tie.Need-same-length-2
+same-length-2 : tie.Need-shape_of-out
 same-length-2 c = search rules
 
-returns-2 : tie.Need-returns-2
-returns-2 c = no_room (fails _ c.if1.false c.before.has-room-at-end.ensures)
+returns-2 : tie.Need-returns
+returns-2 c = no_room (fails _ c.if-has_room_at_end.false c.before.has-room-at-end.ensures)
 
-pub ended-spec : {M : Type 1} → statement M
-ended-spec =
+pub ended_spec : {M : Type 1} → statement M
+ended_spec =
     tie.close
     (tie.spec has-room-at-end-requires put-end-requires same_length returns same-length-2 returns-2)

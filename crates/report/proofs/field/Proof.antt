@@ -3,17 +3,17 @@ use Rattle.report.proofs.Laws.{then}
 use Rattle.report.proofs.field.Statement.{statement}
 use Rattle.report.proofs.field.Tie as tie
 
-put-requires : tie.Need-put-requires
+put-requires : tie.Need-put-next-requires
 put-requires c κs = search rules
 
 number-requires : tie.Need-number-requires
 number-requires c κs = search rules
 
-same_length : tie.Need-same-length
+same_length : tie.Need-shape_of-out
 same_length c = search rules
 
 returns : tie.Need-returns
-returns c = then c.before.before.before.before.before.before.put.ensures c.before.before.number.ensures
+returns c = then c.before.before.before.before.before.before.put-next.ensures c.before.before.number.ensures
 
-pub field-spec : {M : Type 1} → statement M
-field-spec = tie.close (tie.spec put-requires number-requires same_length returns)
+pub field_spec : {M : Type 1} → statement M
+field_spec = tie.close (tie.spec put-requires number-requires same_length returns)

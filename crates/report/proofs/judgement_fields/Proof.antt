@@ -8,10 +8,10 @@ use Rattle.report.proofs.Laws.{then, same}
 use Rattle.report.proofs.judgement_fields.Statement.{statement}
 use Rattle.report.proofs.judgement_fields.Tie as tie
 
-verdict-field-requires : tie.Need-verdict-field-requires
+verdict-field-requires : tie.Need-verdict_field-a-requires
 verdict-field-requires c κs = search rules
 
-verdict-field-requires-2 : tie.Need-verdict-field-requires-2
+verdict-field-requires-2 : tie.Need-verdict_field-b-requires
 verdict-field-requires-2 c κs = search rules
 
 wide-requires : tie.Need-wide-requires
@@ -20,17 +20,17 @@ wide-requires c κs = search rules
 field-requires : tie.Need-field-requires
 field-requires c κs = search rules
 
-same_length : tie.Need-same-length
+same_length : tie.Need-shape_of-out
 same_length c = search rules
 
 returns : tie.Need-returns
 returns c =
     let a = c.before.before.before.before.before.before.before.before.before.before.before.before.before.before.before.before.args.judgement
     in
-    same (ap (λ (k : ℕ). (32 ∷ steps a.verdicts.own.weak) ++ ((32 ∷ steps a.verdicts.own.strong) ++ (32 ∷ decimal k)))
+    same (ap (λ (k : ℕ). (32 ∷ steps a.verdicts-1.own-1.weak) ++ ((32 ∷ steps a.verdicts-1.own-1.strong) ++ (32 ∷ decimal k)))
     c.before.before.before.wide.ensures) (omega arith)
-    (then c.before.before.before.before.before.before.before.before.before.before.before.verdict-field.ensures
-    (then c.before.before.before.before.before.before.before.verdict-field2.ensures c.before.before.field.ensures))
+    (then c.before.before.before.before.before.before.before.before.before.before.before.verdict_field-a.ensures
+    (then c.before.before.before.before.before.before.before.verdict_field-b.ensures c.before.before.field.ensures))
 
-pub judgement-fields-spec : {M : Type 1} → statement M
-judgement-fields-spec = tie.close (tie.spec verdict-field-requires verdict-field-requires-2 wide-requires field-requires same_length returns)
+pub judgement_fields_spec : {M : Type 1} → statement M
+judgement_fields_spec = tie.close (tie.spec verdict-field-requires verdict-field-requires-2 wide-requires field-requires same_length returns)

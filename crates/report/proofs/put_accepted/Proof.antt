@@ -8,25 +8,25 @@ use Rattle.report.proofs.Laws.{then, same, judgement_lined}
 use Rattle.report.proofs.put_accepted.Statement.{statement}
 use Rattle.report.proofs.put_accepted.Tie as tie
 
-number-requires : tie.Need-number-requires
+number-requires : tie.Need-number-a-requires
 number-requires c κs = search rules
 
 wide-requires : tie.Need-wide-requires
 wide-requires c κs = search rules
 
-field-requires : tie.Need-field-requires
+field-requires : tie.Need-field-b-requires
 field-requires c κs = search rules
 
-judgement-fields-requires : tie.Need-judgement-fields-requires
+judgement-fields-requires : tie.Need-judgement_fields-c-requires
 judgement-fields-requires c κs = search rules
 
-symbols-field-requires : tie.Need-symbols-field-requires
+symbols-field-requires : tie.Need-symbols_field-d-requires
 symbols-field-requires c κs = search rules
 
 put-requires : tie.Need-put-requires
 put-requires c κs = search rules
 
-same_length : tie.Need-same-length
+same_length : tie.Need-shape_of-out
 same_length c = search rules
 
 returns : tie.Need-returns
@@ -46,11 +46,11 @@ returns c =
     wide.wide.ensures
     ∙ judgement_lined (decimal a.place) (decimal a.symbol) (steps j.verdicts.own.weak) (steps j.verdicts.own.strong) (decimal j.size)
     (symbols a.released.now)) (omega arith)
-    (then place.number.ensures (then symbol.field.ensures (then judged.judgement-fields.ensures
-    (then released.symbols-field.ensures ended.put.ensures))))
+    (then place.number-a.ensures (then symbol.field-b.ensures (then judged.judgement_fields-c.ensures
+    (then released.symbols_field-d.ensures ended.put.ensures))))
 
-pub put-accepted-spec : {M : Type 1} → statement M
-put-accepted-spec =
+pub put_accepted_spec : {M : Type 1} → statement M
+put_accepted_spec =
     tie.close
     (tie.spec
     number-requires

@@ -9,22 +9,22 @@ use Rattle.report.proofs.put_end.Tie as tie
 slice-aggregate-text : tie.Need-slice-aggregate-text
 slice-aggregate-text c = search rules
 
-text-requires : tie.Need-text-requires
+text-requires : tie.Need-text-a-requires
 text-requires c κs = search rules
 
-field-requires : tie.Need-field-requires
+field-requires : tie.Need-field-b-requires
 field-requires c κs = search rules
 
-field-requires-2 : tie.Need-field-requires-2
+field-requires-2 : tie.Need-field-c-requires
 field-requires-2 c κs = search rules
 
-field-requires-3 : tie.Need-field-requires-3
+field-requires-3 : tie.Need-field-d-requires
 field-requires-3 c κs = search rules
 
 put-requires : tie.Need-put-requires
 put-requires c κs = search rules
 
-same_length : tie.Need-same-length
+same_length : tie.Need-shape_of-out
 same_length c = search rules
 
 returns : tie.Need-returns
@@ -37,10 +37,10 @@ returns c =
     let start = word.before.before.before.before in
     let a = start.args in
     same (lined (101 ∷ 110 ∷ 100 ∷ []) (decimal a.accepted ∷ decimal a.released ∷ decimal a.pending ∷ [])) (omega arith)
-    (then word.text.ensures (then accepted.field.ensures (then released.field2.ensures (then pending.field3.ensures ended.put.ensures))))
+    (then word.text-a.ensures (then accepted.field-b.ensures (then released.field-c.ensures (then pending.field-d.ensures ended.put.ensures))))
 
-pub put-end-spec : {M : Type 1} → statement M
-put-end-spec =
+pub put_end_spec : {M : Type 1} → statement M
+put_end_spec =
     tie.close
     (tie.spec
     slice-aggregate-text

@@ -6,22 +6,22 @@ use Rattle.report.proofs.Laws.{then, same, judgement_lined}
 use Rattle.report.proofs.put_idle.Statement.{statement}
 use Rattle.report.proofs.put_idle.Tie as tie
 
-number-requires : tie.Need-number-requires
+number-requires : tie.Need-number-a-requires
 number-requires c κs = search rules
 
-dash-requires : tie.Need-dash-requires
+dash-requires : tie.Need-dash-b-requires
 dash-requires c κs = search rules
 
-judgement-fields-requires : tie.Need-judgement-fields-requires
+judgement-fields-requires : tie.Need-judgement_fields-c-requires
 judgement-fields-requires c κs = search rules
 
-dash-requires-2 : tie.Need-dash-requires-2
+dash-requires-2 : tie.Need-dash-d-requires
 dash-requires-2 c κs = search rules
 
 put-requires : tie.Need-put-requires
 put-requires c κs = search rules
 
-same_length : tie.Need-same-length
+same_length : tie.Need-shape_of-out
 same_length c = search rules
 
 returns : tie.Need-returns
@@ -34,10 +34,10 @@ returns c =
     let start = zero-place.before.before.before in
     let a = start.args.opening in
     same (judgement_lined (decimal 0) (45 ∷ []) (steps a.verdicts.own.weak) (steps a.verdicts.own.strong) (decimal a.size) (45 ∷ [])) (omega arith)
-    (then zero-place.number.ensures (then no_symbol.dash.ensures (then judged.judgement-fields.ensures
-    (then none.dash2.ensures ended.put.ensures))))
+    (then zero-place.number-a.ensures (then no_symbol.dash-b.ensures (then judged.judgement_fields-c.ensures
+    (then none.dash-d.ensures ended.put.ensures))))
 
-pub put-idle-spec : {M : Type 1} → statement M
-put-idle-spec =
+pub put_idle_spec : {M : Type 1} → statement M
+put_idle_spec =
     tie.close
     (tie.spec number-requires dash-requires judgement-fields-requires dash-requires-2 put-requires same_length returns)

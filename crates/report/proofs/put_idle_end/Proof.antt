@@ -3,17 +3,17 @@ use Rattle.report.proofs.Laws.{then}
 use Rattle.report.proofs.put_idle_end.Statement.{statement}
 use Rattle.report.proofs.put_idle_end.Tie as tie
 
-put-idle-requires : tie.Need-put-idle-requires
+put-idle-requires : tie.Need-put_idle-next-requires
 put-idle-requires c κs = search rules
 
-put-end-requires : tie.Need-put-end-requires
+put-end-requires : tie.Need-put_end-requires
 put-end-requires c κs = search rules
 
-same_length : tie.Need-same-length
+same_length : tie.Need-shape_of-out
 same_length c = search rules
 
 returns : tie.Need-returns
-returns c = then c.before.before.before.before.before.before.put-idle.ensures c.before.before.put-end.ensures
+returns c = then c.before.before.before.before.before.before.put_idle-next.ensures c.before.before.put-end.ensures
 
-pub put-idle-end-spec : {M : Type 1} → statement M
-put-idle-end-spec = tie.close (tie.spec put-idle-requires put-end-requires same_length returns)
+pub put_idle_end_spec : {M : Type 1} → statement M
+put_idle_end_spec = tie.close (tie.spec put-idle-requires put-end-requires same_length returns)

@@ -5,19 +5,19 @@ use Rattle.report.proofs.Laws.{then, same, lined}
 use Rattle.report.proofs.put_no_place.Statement.{statement}
 use Rattle.report.proofs.put_no_place.Tie as tie
 
-put-requires : tie.Need-put-requires
+put-requires : tie.Need-put-next-requires
 put-requires c κs = search rules
 
-put-requires-2 : tie.Need-put-requires-2
+put-requires-2 : tie.Need-put-requires
 put-requires-2 c κs = search rules
 
-same_length : tie.Need-same-length
+same_length : tie.Need-shape_of-out
 same_length c = search rules
 
 returns : tie.Need-returns
 returns c =
     same (lined (45 ∷ []) []) (omega arith)
-    (then c.before.before.before.before.before.before.put.ensures c.before.before.put2.ensures)
+    (then c.before.before.before.before.before.before.put-next.ensures c.before.before.put.ensures)
 
-pub put-no-place-spec : {M : Type 1} → statement M
-put-no-place-spec = tie.close (tie.spec put-requires put-requires-2 same_length returns)
+pub put_no_place_spec : {M : Type 1} → statement M
+put_no_place_spec = tie.close (tie.spec put-requires put-requires-2 same_length returns)

@@ -6,19 +6,19 @@ use Rattle.report.proofs.Laws.{then, same, lined}
 use Rattle.report.proofs.put_place.Statement.{statement}
 use Rattle.report.proofs.put_place.Tie as tie
 
-number-requires : tie.Need-number-requires
+number-requires : tie.Need-number-next-requires
 number-requires c κs = search rules
 
 put-requires : tie.Need-put-requires
 put-requires c κs = search rules
 
-same_length : tie.Need-same-length
+same_length : tie.Need-shape_of-out
 same_length c = search rules
 
 returns : tie.Need-returns
 returns c =
     let called = c.before.before.before.before.before.before in
-    same (lined (decimal called.before.before.before.args.place) []) (omega arith) (then called.number.ensures c.before.before.put.ensures)
+    same (lined (decimal called.before.before.before.args.place) []) (omega arith) (then called.number-next.ensures c.before.before.put.ensures)
 
-pub put-place-spec : {M : Type 1} → statement M
-put-place-spec = tie.close (tie.spec number-requires put-requires same_length returns)
+pub put_place_spec : {M : Type 1} → statement M
+put_place_spec = tie.close (tie.spec number-requires put-requires same_length returns)

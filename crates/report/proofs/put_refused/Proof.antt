@@ -9,22 +9,22 @@ use Rattle.report.proofs.Laws.{then, same, lined}
 use Rattle.report.proofs.put_refused.Statement.{statement}
 use Rattle.report.proofs.put_refused.Tie as tie
 
-put-requires : tie.Need-put-requires
+put-requires : tie.Need-put-a-requires
 put-requires c κs = search rules
 
 wide-requires : tie.Need-wide-requires
 wide-requires c κs = search rules
 
-field-requires : tie.Need-field-requires
+field-requires : tie.Need-field-b-requires
 field-requires c κs = search rules
 
-refusal-field-requires : tie.Need-refusal-field-requires
+refusal-field-requires : tie.Need-refusal_field-c-requires
 refusal-field-requires c κs = search rules
 
-put-requires-2 : tie.Need-put-requires-2
+put-requires-2 : tie.Need-put-requires
 put-requires-2 c κs = search rules
 
-same_length : tie.Need-same-length
+same_length : tie.Need-shape_of-out
 same_length c = search rules
 
 returns : tie.Need-returns
@@ -39,12 +39,12 @@ returns c =
     same (ap (λ (k : ℕ). (33 ∷ []) ++ ((32 ∷ decimal k) ++ ((32 ∷ decimal (number_of a.refusal)) ++ (10 ∷ []))))
     wide.wide.ensures
     ∙ lined (33 ∷ []) (decimal a.byte ∷ decimal (number_of a.refusal) ∷ [])) (omega arith)
-    (then mark.put.ensures
-    (then byte.field.ensures
-    (then number.refusal-field.ensures ended.put2.ensures)))
+    (then mark.put-a.ensures
+    (then byte.field-b.ensures
+    (then number.refusal_field-c.ensures ended.put.ensures)))
 
-pub put-refused-spec : {M : Type 1} → statement M
-put-refused-spec =
+pub put_refused_spec : {M : Type 1} → statement M
+put_refused_spec =
     tie.close
     (tie.spec
     put-requires

@@ -10,27 +10,27 @@ use Rattle.report.proofs.put_refused_log.Tie as tie
 slice-aggregate-text : tie.Need-slice-aggregate-text
 slice-aggregate-text c = search rules
 
-text-requires : tie.Need-text-requires
+text-requires : tie.Need-text-a-requires
 text-requires c κs = search rules
 
-refusal-field-requires : tie.Need-refusal-field-requires
+refusal-field-requires : tie.Need-refusal_field-b-requires
 refusal-field-requires c κs = search rules
 
 put-requires : tie.Need-put-requires
 put-requires c κs = search rules
 
-same_length : tie.Need-same-length
+same_length : tie.Need-shape_of-out
 same_length c = search rules
 
 returns : tie.Need-returns
 returns c =
     let a = c.before.before.before.before.before.before.before.before.before.before.before.before.before.before.args in
     same (lined (114 ∷ 101 ∷ 102 ∷ 117 ∷ 115 ∷ 101 ∷ 100 ∷ []) (decimal (number_of a.refusal) ∷ [])) (omega arith)
-    (then c.before.before.before.before.before.before.before.before.before.before.text.ensures
-    (then c.before.before.before.before.before.before.refusal-field.ensures c.before.before.put.ensures))
+    (then c.before.before.before.before.before.before.before.before.before.before.text-a.ensures
+    (then c.before.before.before.before.before.before.refusal_field-b.ensures c.before.before.put.ensures))
 
-pub put-refused-log-spec : {M : Type 1} → statement M
-put-refused-log-spec =
+pub put_refused_log_spec : {M : Type 1} → statement M
+put_refused_log_spec =
     tie.close
     (tie.spec
     slice-aggregate-text

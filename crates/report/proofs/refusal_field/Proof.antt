@@ -17,13 +17,13 @@ wide-requires c κs = search rules
 field-requires : tie.Need-field-requires
 field-requires c κs = search rules
 
-same_length : tie.Need-same-length
+same_length : tie.Need-shape_of-out
 same_length c = search rules
 
 returns : tie.Need-returns
 returns c = same (ap (λ (k : ℕ). 32 ∷ decimal k) (c.before.before.before.wide.ensures ∙ c.before.before.before.before.number.ensures))
     (omega arith) c.before.before.field.ensures
 
-pub refusal-field-spec : {M : Type 1} → statement M
-refusal-field-spec =
+pub refusal_field_spec : {M : Type 1} → statement M
+refusal_field_spec =
     tie.close (tie.spec number-requires wide-requires field-requires same_length returns)

@@ -7,47 +7,47 @@ use Rattle.report.proofs.symbols_field.Tie as tie
 dash-requires : tie.Need-dash-requires
 dash-requires c κs = search rules
 
-same_length : tie.Need-same-length
+same_length : tie.Need-shape_of-out-then-released-eq0
 same_length c = search rules
 
-returns : tie.Need-returns
+returns : tie.Need-returns-then-released-eq0
 returns c = same (symbols_none c.before.before.before.before.before.before.before.args.released.now
-    c.before.before.before.before.if1.true) (omega arith) c.before.before.dash.ensures
+    c.before.before.before.before.if-released-eq0.true) (omega arith) c.before.before.dash.ensures
 
-shared-slice-read-wide : tie.Need-shared-slice-read-wide
+shared-slice-read-wide : tie.Need-bounds-released-0
 shared-slice-read-wide c = search rules
 
 wide-requires : tie.Need-wide-requires
 wide-requires c κs = search rules
 
-field-requires : tie.Need-field-requires
+field-requires : tie.Need-field-next-requires
 field-requires c κs = search rules
 
-sub-more-symbols : tie.Need-overflow-sub-more-symbols
+sub-more-symbols : tie.Need-slice_bounds-more_symbols-count
 sub-more-symbols c = search rules
 
-part-more-symbols-start : tie.Need-slice-bounds-more-symbols-start
+part-more-symbols-start : tie.Need-slice_bounds-more_symbols-start
 part-more-symbols-start c = search rules
 
-part-more-symbols-end : tie.Need-slice-bounds-more-symbols-end
+part-more-symbols-end : tie.Need-slice_bounds-more_symbols-end
 part-more-symbols-end c = search rules
 
-more-symbols-requires : tie.Need-more-symbols-requires
+more-symbols-requires : tie.Need-more_symbols-requires
 more-symbols-requires c κs = search rules
 
-same-length-2 : tie.Need-same-length-2
+same-length-2 : tie.Need-shape_of-out
 same-length-2 c = search rules
 
-returns-2 : tie.Need-returns-2
+returns-2 : tie.Need-returns
 returns-2 c =
     let l = c.before.before.before.before.before.before.before.before.before.before.before.before.before.before.args.released.now in
-    let some = c.before.before.before.before.before.before.before.before.before.before.before.if1.false in
+    let some = c.before.before.before.before.before.before.before.before.before.before.before.if-released-eq0.false in
     let first = c.before.before.before.before.before.before.before.before.wide in
     same (symbols_some l first.result some first.ensures) (omega (arith, part_shorter l some))
-    (then c.before.before.before.before.before.before.before.field.ensures c.before.before.more-symbols.ensures)
+    (then c.before.before.before.before.before.before.before.field-next.ensures c.before.before.more-symbols.ensures)
 
-pub symbols-field-spec : {M : Type 1} → statement M
-symbols-field-spec =
+pub symbols_field_spec : {M : Type 1} → statement M
+symbols_field_spec =
     tie.close
     (tie.spec
     dash-requires

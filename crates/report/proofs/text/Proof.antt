@@ -8,43 +8,43 @@ use Rattle.report.proofs.Laws.{then, none, same, take_one}
 use Rattle.report.proofs.text.Statement.{statement}
 use Rattle.report.proofs.text.Tie as tie
 
-abbrev invariant-loop : tie.invariant-loop
+abbrev invariant-loop : tie.invariant-loop-i
 invariant-loop out₀ at s i₀ next₀ out i next = (i ≤ length s) × Wrote i out₀ at (take i s) out next
 
-abbrev decreases-loop : tie.decreases-loop
+abbrev decreases-loop : tie.decreases-loop-i
 decreases-loop out₀ at s i₀ next₀ out i next = length s - i
 
-loop-holds : tie.Need-loop-init invariant-loop decreases-loop
+loop-holds : tie.Need-loop-i-init invariant-loop decreases-loop
 loop-holds c = (omega arith, none)
 
-shared-slice-read-put : tie.Need-shared-slice-read-put invariant-loop decreases-loop
+shared-slice-read-put : tie.Need-bounds-s-i invariant-loop decreases-loop
 shared-slice-read-put c = omega arith
 
-put-requires : tie.Need-put-requires invariant-loop decreases-loop
+put-requires : tie.Need-put-next-requires invariant-loop decreases-loop
 put-requires c κs = omega arith
 
-add-i : tie.Need-overflow-add-i invariant-loop decreases-loop
+add-i : tie.Need-overflow_add-i invariant-loop decreases-loop
 add-i c = omega arith
 
-loop-less : tie.Need-loop-smaller invariant-loop decreases-loop
+loop-less : tie.Need-loop-i-smaller invariant-loop decreases-loop
 loop-less c = omega arith
 
-loop-again : tie.Need-loop-preserved invariant-loop decreases-loop
+loop-again : tie.Need-loop-i-preserved invariant-loop decreases-loop
 loop-again c =
     let at-loop = c.before.before.before.before.before.before in (
       omega arith,
-      same (take_one at-loop.before.before.before.args.s.now at-loop.loop.i (omega arith)) (omega arith)
-          (then at-loop.loop.invariant.1 c.before.before.put.ensures),
+      same (take_one at-loop.before.before.before.args.s.now at-loop.loop-i.i (omega arith)) (omega arith)
+          (then at-loop.loop-i.invariant.1 c.before.before.put-next.ensures),
     )
 
-same_length : tie.Need-same-length invariant-loop decreases-loop
+same_length : tie.Need-shape_of-out invariant-loop decreases-loop
 same_length c = search rules
 
 returns : tie.Need-returns invariant-loop decreases-loop
-returns c = same (take_all c.before.loop.i c.before.before.before.before.args.s.now (omega arith)) (omega arith) c.before.loop.invariant.1
+returns c = same (take_all c.before.loop-i.i c.before.before.before.before.args.s.now (omega arith)) (omega arith) c.before.loop-i.invariant.1
 
-pub text-spec : {M : Type 1} → statement M
-text-spec =
+pub text_spec : {M : Type 1} → statement M
+text_spec =
     tie.close
     (tie.spec
     invariant-loop

@@ -9,13 +9,13 @@ use Rattle.report.proofs.Laws.{same}
 use Rattle.report.proofs.verdict_field.Statement.{statement}
 use Rattle.report.proofs.verdict_field.Tie as tie
 
-enum_told : tie.Need-enum-told
+enum_told : tie.Need-enum_told-1
 enum_told c = search rules
 
 dash-requires : tie.Need-dash-requires
 dash-requires c κs = search rules
 
-enum-known-verdict : tie.Need-enum-known-verdict
+enum-known-verdict : tie.Need-enum_known-verdict
 enum-known-verdict c = search rules
 
 wide-requires : tie.Need-wide-requires
@@ -24,24 +24,24 @@ wide-requires c κs = search rules
 field-requires : tie.Need-field-requires
 field-requires c κs = search rules
 
-same_length : tie.Need-same-length
+same_length : tie.Need-shape_of-out-in-NoLeak
 same_length c = search rules
 
-returns : tie.Need-returns
-returns c = same (sym (ap (λ (v : Verdict). 32 ∷ steps v) c.before.before.before.before.enum_told.given.1)) (omega arith)
+returns : tie.Need-returns-in-NoLeak
+returns c = same (sym (ap (λ (v : Verdict). 32 ∷ steps v) c.before.before.before.before.enum_told-1.given.1)) (omega arith)
     c.before.before.dash.ensures
 
-same-length-2 : tie.Need-same-length-2
+same-length-2 : tie.Need-shape_of-out-in-Leak
 same-length-2 c = search rules
 
-returns-2 : tie.Need-returns-2
+returns-2 : tie.Need-returns-in-Leak
 returns-2 c =
     same (ap (λ (k : ℕ). 32 ∷ decimal k) c.before.before.before.wide.ensures
-    ∙ sym (ap (λ (v : Verdict). 32 ∷ steps v) c.before.before.before.before.before.before.verdict.given.1)) (omega arith)
+    ∙ sym (ap (λ (v : Verdict). 32 ∷ steps v) c.before.before.before.before.before.before.verdict-1.given.1)) (omega arith)
     c.before.before.field.ensures
 
-pub verdict-field-spec : {M : Type 1} → statement M
-verdict-field-spec =
+pub verdict_field_spec : {M : Type 1} → statement M
+verdict_field_spec =
     tie.close
     (tie.spec
     enum_told

@@ -5,10 +5,10 @@ use Rattle.stateset.proofs.Bits.{in_lt}
 use Rattle.stateset.proofs.bound.Statement.{statement}
 use Rattle.stateset.proofs.bound.Tie as tie
 
-cast-result : tie.Need-overflow-cast-result
+cast-result : tie.Need-overflow_cast-result
 cast-result c = omega (arith, leading_le 64 c.args.set)
 
-sub-result : tie.Need-overflow-sub-result
+sub-result : tie.Need-overflow_sub-result
 sub-result c = omega (arith, leading_le 64 c.args.set)
 
 returns : tie.Need-returns
@@ -19,5 +19,5 @@ returns c = (
       omega (arith, m.1, in_lt m.0 q c.args.set m.2 i),
 )
 
-pub bound-spec : {M : Type 1} → statement M
-bound-spec = tie.close (tie.spec cast-result sub-result returns)
+pub bound_spec : {M : Type 1} → statement M
+bound_spec = tie.close (tie.spec cast-result sub-result returns)

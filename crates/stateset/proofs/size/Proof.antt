@@ -5,11 +5,11 @@ use Rattle.stateset.proofs.Counting.{ones_counts}
 use Rattle.stateset.proofs.size.Statement.{statement}
 use Rattle.stateset.proofs.size.Tie as tie
 
-cast-result : tie.Need-overflow-cast-result
+cast-result : tie.Need-overflow_cast-result
 cast-result c = omega (arith, ones-le 64 c.args.set c.ranges.set.fits)
 
 returns : tie.Need-returns
 returns c = ones_counts 64 c.args.set c.ranges.set.fits
 
-pub size-spec : {M : Type 1} → statement M
-size-spec = tie.close (tie.spec cast-result returns)
+pub size_spec : {M : Type 1} → statement M
+size_spec = tie.close (tie.spec cast-result returns)

@@ -4,21 +4,21 @@ use borrow.Author.Rules.{rules}
 use Rattle.verifier.proofs.choose_answer.Statement.{statement}
 use Rattle.verifier.proofs.choose_answer.Tie as tie
 
-enum-known-answer : tie.Need-enum-known-answer
+enum-known-answer : tie.Need-enum_known-answer
 enum-known-answer c = search rules
 
-enum-known-answer-2 : tie.Need-enum-known-answer-2
+enum-known-answer-2 : tie.Need-enum_known-answer-in-Accepted-1
 enum-known-answer-2 c = search rules
 
-choose-each-requires : tie.Need-choose-each-requires
+choose-each-requires : tie.Need-choose_each-verdicts-requires
 choose-each-requires c κs = search rules
 
-returns : tie.Need-returns
-returns c = rw c.before.answer.given.1 refl
+returns : tie.Need-returns-in-Refused
+returns c = rw c.before.answer-1.given.1 refl
 
-returns-2 : tie.Need-returns-2
-returns-2 c = rw (c.before.before.answer2.given.1, c.choose-each.ensures) refl
+returns-2 : tie.Need-returns-in-Accepted
+returns-2 c = rw (c.before.before.answer-in-Accepted-1.given.1, c.choose_each-verdicts.ensures) refl
 
-pub choose-answer-spec : {M : Type 1} → statement M
-choose-answer-spec =
+pub choose_answer_spec : {M : Type 1} → statement M
+choose_answer_spec =
     tie.close (tie.spec enum-known-answer enum-known-answer-2 choose-each-requires returns returns-2)

@@ -17,9 +17,9 @@ choose-requires-4 : tie.Need-choose-requires-4
 choose-requires-4 c κs = search rules
 
 returns : tie.Need-returns
-returns c = rw (c.choose4.ensures, c.before.choose3.ensures, c.before.before.choose2.ensures, c.before.before.before.choose.ensures) refl
+returns c = rw (c.choose-4.ensures, c.before.choose-3.ensures, c.before.before.choose-2.ensures, c.before.before.before.choose.ensures) refl
 
-pub choose-each-spec : {M : Type 1} → statement M
-choose-each-spec =
+pub choose_each_spec : {M : Type 1} → statement M
+choose_each_spec =
     tie.close
     (tie.spec choose-requires choose-requires-2 choose-requires-3 choose-requires-4 returns)

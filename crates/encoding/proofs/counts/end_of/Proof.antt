@@ -5,21 +5,21 @@ use borrow.Author.Rules.{rules}
 use Rattle.encoding.proofs.counts.end_of.Statement.{statement}
 use Rattle.encoding.proofs.counts.end_of.Tie as tie
 
-enum-known-answer : tie.Need-enum-known-answer
+enum-known-answer : tie.Need-enum_known-answer
 enum-known-answer c = search rules
 
-enum-known-answer-2 : tie.Need-enum-known-answer-2
+enum-known-answer-2 : tie.Need-enum_known-answer-in-Value-1
 enum-known-answer-2 c = search rules
 
-front-end-requires : tie.Need-front-end-requires
-front-end-requires c κs = subst FrontAnswerSmall c.before.answer2.given.1 c.before.before.before.requires
+front-end-requires : tie.Need-front_end-requires
+front-end-requires c κs = subst FrontAnswerSmall c.before.answer-in-Value-1.given.1 c.before.before.before.requires
 
-returns : tie.Need-returns
+returns : tie.Need-returns-in-Refused
 returns c = search rules
 
-returns-2 : tie.Need-returns-2
-returns-2 c = c.front-end.ensures ∙ rw c.before.before.answer2.given.1
+returns-2 : tie.Need-returns-in-Value
+returns-2 c = c.front-end.ensures ∙ rw c.before.before.answer-in-Value-1.given.1
 
-pub end-of-spec : {M : Type 1} → statement M
-end-of-spec =
+pub end_of_spec : {M : Type 1} → statement M
+end_of_spec =
     tie.close (tie.spec enum-known-answer enum-known-answer-2 front-end-requires returns returns-2)

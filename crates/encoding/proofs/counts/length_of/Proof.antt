@@ -6,24 +6,24 @@ use borrow.Author.Rules.{rules}
 use Rattle.encoding.proofs.counts.length_of.Statement.{statement}
 use Rattle.encoding.proofs.counts.length_of.Tie as tie
 
-enum-known-answer : tie.Need-enum-known-answer
+enum-known-answer : tie.Need-enum_known-answer
 enum-known-answer c = search rules
 
-enum-known-answer-2 : tie.Need-enum-known-answer-2
+enum-known-answer-2 : tie.Need-enum_known-answer-in-Value-1
 enum-known-answer-2 c = search rules
 
-mul-result : tie.Need-overflow-mul-result
+mul-result : tie.Need-overflow_mul-result
 mul-result c =
     let k = c.before.before.before in
-    let s = subst FrontAnswerSmall k.answer2.given.1 k.before.before.requires in
-    omega (arith, s.fixed)
+    let s = subst FrontAnswerSmall k.answer-in-Value-1.given.1 k.before.before.requires in
+    omega (arith, s.fixed-1)
 
-returns : tie.Need-returns
+returns : tie.Need-returns-in-Refused
 returns c = search rules
 
-returns-2 : tie.Need-returns-2
-returns-2 c = rw c.before.before.before.answer2.given.1
+returns-2 : tie.Need-returns-in-Value
+returns-2 c = rw c.before.before.before.answer-in-Value-1.given.1
 
-pub length-of-spec : {M : Type 1} → statement M
-length-of-spec =
+pub length_of_spec : {M : Type 1} → statement M
+length_of_spec =
     tie.close (tie.spec enum-known-answer enum-known-answer-2 mul-result returns returns-2)

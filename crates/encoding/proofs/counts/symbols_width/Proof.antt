@@ -5,14 +5,14 @@ use borrow.Author.Rules.{rules}
 use Rattle.encoding.proofs.counts.symbols_width.Statement.{statement}
 use Rattle.encoding.proofs.counts.symbols_width.Tie as tie
 
-symbol-count-requires : tie.Need-symbol-count-requires
+symbol-count-requires : tie.Need-symbol_count-requires
 symbol-count-requires c κs = search rules
 
-mul-result : tie.Need-overflow-mul-result
+mul-result : tie.Need-overflow_mul-result
 mul-result c = omega (arith, c.symbol-count.ensures, symbols_few _ c.before.requires.fixed)
 
 returns : tie.Need-returns
 returns c = search rules
 
-pub symbols-width-spec : {M : Type 1} → statement M
-symbols-width-spec = tie.close (tie.spec symbol-count-requires mul-result returns)
+pub symbols_width_spec : {M : Type 1} → statement M
+symbols_width_spec = tie.close (tie.spec symbol-count-requires mul-result returns)

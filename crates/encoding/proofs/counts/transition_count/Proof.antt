@@ -6,5 +6,5 @@ use Rattle.encoding.proofs.counts.transition_count.Tie as tie
 returns : tie.Need-returns
 returns c = refl
 
-pub transition-count-spec : {M : Type 1} → statement M
-transition-count-spec = tie.close (tie.spec returns)
+pub transition_count_spec : {M : Type 1} → statement M
+transition_count_spec = tie.close (tie.spec returns)

@@ -6,61 +6,61 @@ use borrow.Author.Rules.{rules}
 use Rattle.encoding.proofs.ending.checked_from.Statement.{statement}
 use Rattle.encoding.proofs.ending.checked_from.Tie as tie
 
-enum-known-answer : tie.Need-enum-known-answer
+enum-known-answer : tie.Need-enum_known-answer
 enum-known-answer c = search rules
 
-enum-known-answer-2 : tie.Need-enum-known-answer-2
+enum-known-answer-2 : tie.Need-enum_known-answer-in-Value-1
 enum-known-answer-2 c = search rules
 
-enum-known-listed : tie.Need-enum-known-listed
+enum-known-listed : tie.Need-enum_known-listed
 enum-known-listed c = search rules
 
-enum_told : tie.Need-enum-told
+enum_told : tie.Need-enum_told-1
 enum_told c = search rules
 
-enum-known-ended : tie.Need-enum-known-ended
+enum-known-ended : tie.Need-enum_known-ended
 enum-known-ended c = search rules
 
-enum-told-2 : tie.Need-enum-told-2
+enum-told-2 : tie.Need-enum_told-in-Valid-ended
 enum-told-2 c = search rules
 
-returns : tie.Need-returns
+returns : tie.Need-returns-in-Refused
 unfolding encoding
-returns c = λ bits h1 h2 h3. rw (told (preamble_means _) h1 c.before.answer.given.1)
+returns c = λ bits h1 h2 h3. rw (told (preamble_means _) h1 c.before.answer-1.given.1)
 
-returns-2 : tie.Need-returns-2
+returns-2 : tie.Need-returns-in-Refused-listed
 unfolding encoding
 returns-2 c =
     let k = c.before.before.before.before in
     λ bits h1 h2 h3.
-    rw (told (preamble_means _) h1 k.answer2.given.1, told (checked_means _ _) (rw k.answer2.given.1 at h2) c.before.listed.given.1)
+    rw (told (preamble_means _) h1 k.answer-in-Value-1.given.1, told (checked_means _ _) (rw k.answer-in-Value-1.given.1 at h2) c.before.listed-1.given.1)
 
-returns-3 : tie.Need-returns-3
+returns-3 : tie.Need-returns-in-Refused-ended
 unfolding encoding
 returns-3 c =
     let k4 = c.before.before.before in
     let k = k4.before.before.before in
     λ bits h1 h2 h3. rw (
-      told (preamble_means _) h1 k.answer2.given.1,
-      told (checked_means _ _) (rw k.answer2.given.1 at h2) k4.enum_told.given.1,
+      told (preamble_means _) h1 k.answer-in-Value-1.given.1,
+      told (checked_means _ _) (rw k.answer-in-Value-1.given.1 at h2) k4.enum_told-1.given.1,
       told
-          (checked_means _ _) (rw k.answer2.given.1 at h3) c.before.ended.given.1,
+          (checked_means _ _) (rw k.answer-in-Value-1.given.1 at h3) c.before.ended-1.given.1,
     )
 
-returns-4 : tie.Need-returns-4
+returns-4 : tie.Need-returns-in-Valid-ended
 unfolding encoding
 returns-4 c =
     let k4 = c.before.before in
     let k = k4.before.before.before in
     λ bits h1 h2 h3. rw (
-      told (preamble_means _) h1 k.answer2.given.1,
-      told (checked_means _ _) (rw k.answer2.given.1 at h2) k4.enum_told.given.1,
+      told (preamble_means _) h1 k.answer-in-Value-1.given.1,
+      told (checked_means _ _) (rw k.answer-in-Value-1.given.1 at h2) k4.enum_told-1.given.1,
       told
-          (checked_means _ _) (rw k.answer2.given.1 at h3) c.enum-told2.given.1,
+          (checked_means _ _) (rw k.answer-in-Value-1.given.1 at h3) c.enum_told-in-Valid-ended-1.given.1,
     )
 
-pub checked-from-spec : {M : Type 1} → statement M
-checked-from-spec =
+pub checked_from_spec : {M : Type 1} → statement M
+checked_from_spec =
     tie.close
     (tie.spec
     enum-known-answer

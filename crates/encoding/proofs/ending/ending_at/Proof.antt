@@ -25,45 +25,45 @@ padded : (bytes : List ℕ) (at v : ℕ) → length bytes * 8 - at < 8 → v ≡
 unfolding ending
 padded bytes at v few is nothing = rw (length_bits bytes, lt-ltb (length bytes * 8 - at) 8 few, ← is, eq-eqb v 0 nothing)
 
-add-if1 : tie.Need-overflow-add-if1
+add-if1 : tie.Need-overflow_add-at
 add-if1 c = search rules
 
-returns : tie.Need-returns
+returns : tie.Need-returns-then-at-bytes
 unfolding ending
 returns c =
     let a = c.before.before.args in
     rw (length_bits a.bytes.now, le-ltb (length a.bytes.now * 8 - a.at) 8 (omega arith))
 
-mul-if2 : tie.Need-overflow-mul-if2
+mul-if2 : tie.Need-overflow_mul-bytes
 mul-if2 c = search rules
 
-returns-2 : tie.Need-returns-2
+returns-2 : tie.Need-returns-then-bytes-at
 returns-2 c =
     let a = c.before.before.before.args in
     let none : length a.bytes.now * 8 - a.at ≡ 0 = omega arith in
     padded a.bytes.now a.at 0 (omega arith) (rw (none, number_none (bits_of a.bytes.now) a.at)) refl
 
-mul-rest : tie.Need-overflow-mul-rest
+mul-rest : tie.Need-overflow_mul-rest
 mul-rest c = search rules
 
-sub-rest : tie.Need-overflow-sub-rest
+sub-rest : tie.Need-overflow_sub-rest
 sub-rest c = search rules
 
-number-at-requires : tie.Need-number-at-requires
+number-at-requires : tie.Need-number_at-requires
 number-at-requires c κs = omega (arith, length_bits c.before.before.before.args.bytes.now)
 
-returns-3 : tie.Need-returns-3
+returns-3 : tie.Need-returns-then-number_at-ne0
 returns-3 c =
     let a = c.before.before.before.before.before.args in
-    loose a.bytes.now a.at c.before.number_at.result (omega arith) c.before.number_at.ensures c.if3.true
+    loose a.bytes.now a.at c.before.number_at.result (omega arith) c.before.number_at.ensures c.if-number_at-ne0.true
 
-returns-4 : tie.Need-returns-4
+returns-4 : tie.Need-returns
 returns-4 c =
     let a = c.before.before.before.before.before.args in
-    padded a.bytes.now a.at c.before.number_at.result (omega arith) c.before.number_at.ensures c.if3.false
+    padded a.bytes.now a.at c.before.number_at.result (omega arith) c.before.number_at.ensures c.if-number_at-ne0.false
 
-pub ending-at-spec : {M : Type 1} → statement M
-ending-at-spec =
+pub ending_at_spec : {M : Type 1} → statement M
+ending_at_spec =
     tie.close
     (tie.spec
     add-if1

@@ -7,34 +7,34 @@ use Rattle.encoding.proofs.header.header_at.Statement.{statement}
 use Rattle.encoding.proofs.header.header_at.Tie as tie
 
 -- the place where it starts, from where all is read
-abbrev start : tie.After-struct-known3 → tie.Start
+abbrev start : tie.After-struct_known-3-1 → tie.Start
 start c = c.before.before.before.before.before.before.before
 
-symbol-count-requires : tie.Need-symbol-count-requires
+symbol-count-requires : tie.Need-symbol_count-n-requires
 symbol-count-requires c κs = search rules
 
-all-symbols-requires : tie.Need-all-symbols-requires
+all-symbols-requires : tie.Need-all_symbols-symbols-requires
 all-symbols-requires c κs =
     let s = c.before.before.before in
-    let x = s.requires.1.fixed in
+    let x = s.requires.1.fixed-1 in
     let few = symbols_few _ x in
-    let n = c.symbol-count.ensures in
+    let n = c.symbol_count-n.ensures in
     let at = s.requires.0 in
     (omega (arith, x.topstate, x.topevent), omega arith, omega (arith, s.requires.2))
 
-cast-t7 : tie.Need-overflow-cast-t7
+cast-t7 : tie.Need-overflow_cast-result
 cast-t7 c = search rules
 
-cast-t8 : tie.Need-overflow-cast-t8
+cast-t8 : tie.Need-overflow_cast-result-2
 cast-t8 c = search rules
 
-cast-t9 : tie.Need-overflow-cast-t9
+cast-t9 : tie.Need-overflow_cast-result-3
 cast-t9 c = omega (arith, observable_fits (start c).args.front (start c).requires.1)
 
 returns : tie.Need-returns
-returns c = header_made _ (start c).args.front _ _ _ (start c).requires.0 c.before.before.before.before.symbol-count.ensures
-    c.before.before.before.all-symbols.ensures
+returns c = header_made _ (start c).args.front _ _ _ (start c).requires.0 c.before.before.before.before.symbol_count-n.ensures
+    c.before.before.before.all_symbols-symbols.ensures
 
-pub header-at-spec : {M : Type 1} → statement M
-header-at-spec =
+pub header_at_spec : {M : Type 1} → statement M
+header_at_spec =
     tie.close (tie.spec symbol-count-requires all-symbols-requires cast-t7 cast-t8 cast-t9 returns)

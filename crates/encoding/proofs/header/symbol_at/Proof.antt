@@ -18,56 +18,56 @@ abbrev given : tie.Start → List ℕ
 given s = symbols_at (bits_of s.args.bytes.now) s.args.at s.args.n
 
 -- an observable event's symbol is its symbol
-seen : (c : tie.Else1) → symbol_for c.before.before.before.args.observable (given c.before.before.before) c.before.before.before.args.e
+seen : (c : tie.Else-not-member) → symbol_for c.before.before.before.args.observable (given c.before.before.before) c.before.before.before.args.e
     ≡ given_symbol (given c.before.before.before) c.before.before.before.args.e
 seen c =
     let s = c.before.before.before in
-    symbol_observable s.args.observable (given s) s.args.e (holds c.before.member.result (not-false _ c.if1.false) c.before.member.ensures)
+    symbol_observable s.args.observable (given s) s.args.e (holds c.before.member.result (not-false _ c.if-not-member.false) c.before.member.ensures)
 
 member-requires : tie.Need-member-requires
 member-requires c κs = search rules
 
-returns : tie.Need-returns
+returns : tie.Need-returns-then-not-member
 returns c =
     let s = c.before.before.before in
     sym (symbol_unobservable s.args.observable (given s) s.args.e
-    (fails c.before.member.result (not-true _ c.if1.true) c.before.member.ensures))
+    (fails c.before.member.result (not-true _ c.if-not-member.true) c.before.member.ensures))
 
-cast-result : tie.Need-overflow-cast-result
+cast-result : tie.Need-overflow_cast-result
 cast-result c = search rules
 
-returns-2 : tie.Need-returns-2
+returns-2 : tie.Need-returns-then-n-eq0
 returns-2 c =
     let a = c.before.before.before.before.args in
-    sym (seen c.before ∙ symbol_own (bits_of a.bytes.now) a.at a.n a.e c.if2.true)
+    sym (seen c.before ∙ symbol_own (bits_of a.bytes.now) a.at a.n a.e c.if-n-eq0.true)
 
-returns-3 : tie.Need-returns-3
+returns-3 : tie.Need-returns-then-n-e
 returns-3 c =
     let a = c.before.before.before.before.before.args in
-    sym (seen c.before.before ∙ symbol_behind (bits_of a.bytes.now) a.at a.n a.e c.before.if2.false c.if3.true)
+    sym (seen c.before.before ∙ symbol_behind (bits_of a.bytes.now) a.at a.n a.e c.before.if-n-eq0.false c.if-n-e.true)
 
-mul-number-at : tie.Need-overflow-mul-number-at
+mul-number-at : tie.Need-overflow_mul-e
 mul-number-at c = search rules
 
-add-number-at : tie.Need-overflow-add-number-at
+add-number-at : tie.Need-overflow_add-at
 add-number-at c = search rules
 
-number-at-requires : tie.Need-number-at-requires
+number-at-requires : tie.Need-number_at-requires
 number-at-requires c κs = search rules
 
-cast-result-2 : tie.Need-overflow-cast-result-2
+cast-result-2 : tie.Need-overflow_cast-result-2
 cast-result-2 c =
     let a = c.before.before.before.before.before.before in
-    omega (arith, c.number_at.ensures, number_lt a.args.bytes.now (a.args.at + a.args.e * 5) 5 (omega (arith, a.requires, c.before.if3.false)))
+    omega (arith, c.number_at.ensures, number_lt a.args.bytes.now (a.args.at + a.args.e * 5) 5 (omega (arith, a.requires, c.before.if-n-e.false)))
 
-returns-4 : tie.Need-returns-4
+returns-4 : tie.Need-returns
 returns-4 c =
     let a = c.before.before.before.before.before.before.args in
-    sym (seen c.before.before.before ∙ symbol_listed (bits_of a.bytes.now) a.at a.n a.e (omega (arith, c.before.if3.false)) ∙ sym
+    sym (seen c.before.before.before ∙ symbol_listed (bits_of a.bytes.now) a.at a.n a.e (omega (arith, c.before.if-n-e.false)) ∙ sym
     c.number_at.ensures)
 
-pub symbol-at-spec : {M : Type 1} → statement M
-symbol-at-spec =
+pub symbol_at_spec : {M : Type 1} → statement M
+symbol_at_spec =
     tie.close
     (tie.spec
     member-requires

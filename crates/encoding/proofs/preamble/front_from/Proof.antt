@@ -8,63 +8,63 @@ use Rattle.encoding.proofs.preamble.front_from.Statement.{statement}
 use Rattle.encoding.proofs.preamble.front_from.Tie as tie
 
 -- the place where the fixed fields were read, from where the secret states were
-abbrev up : tie.After-known-told3 → tie.After-answer2
+abbrev up : tie.In-Value-secret → tie.In-Value-2
 up c = c.before.before.before.before
 
-enum-known-answer : tie.Need-enum-known-answer
+enum-known-answer : tie.Need-enum_known-answer
 enum-known-answer c = search rules
 
-enum-known-answer-2 : tie.Need-enum-known-answer-2
+enum-known-answer-2 : tie.Need-enum_known-answer-in-Value-1
 enum-known-answer-2 c = search rules
 
-enum-known-secret : tie.Need-enum-known-secret
+enum-known-secret : tie.Need-enum_known-secret
 enum-known-secret c = search rules
 
-enum_told : tie.Need-enum-told
+enum_told : tie.Need-enum_told-1
 enum_told c = search rules
 
-returns : tie.Need-returns
+returns : tie.Need-returns-in_default
 unfolding front
 returns c =
     let k = c.before.before.before in
-    λ bits h1 h2 h3. rw (told fixed_means h1 k.answer2.given.1, told (flags_means _) (rw k.answer2.given.1 at h2) c.enum_told.given.1)
+    λ bits h1 h2 h3. rw (told fixed_means h1 k.answer-in-Value-1.given.1, told (flags_means _) (rw k.answer-in-Value-1.given.1 at h2) c.enum_told-1.given.1)
 
-enum-known-observable : tie.Need-enum-known-observable
+enum-known-observable : tie.Need-enum_known-observable
 enum-known-observable c = search rules
 
-enum-told-2 : tie.Need-enum-told-2
+enum-told-2 : tie.Need-enum_told-in_default-observable
 enum-told-2 c = search rules
 
-returns-2 : tie.Need-returns-2
+returns-2 : tie.Need-returns-in_default-observable
 unfolding front
 returns-2 c =
     let k3 = c.before.before in
     let k = up k3 in
     λ bits h1 h2 h3. rw (
-      told fixed_means h1 k.answer2.given.1,
-      told (flags_means _) (rw k.answer2.given.1 at h2) k3.before.secret.given.1,
+      told fixed_means h1 k.answer-in-Value-1.given.1,
+      told (flags_means _) (rw k.answer-in-Value-1.given.1 at h2) k3.before.secret-1.given.1,
       told (flags_means _)
-          (rw k.answer2.given.1 at h3) c.enum-told2.given.1,
+          (rw k.answer-in-Value-1.given.1 at h3) c.enum_told-in_default-observable-1.given.1,
     )
 
-returns-3 : tie.Need-returns-3
+returns-3 : tie.Need-returns-in-Refused
 unfolding front
-returns-3 c = λ bits h1 h2 h3. rw (told fixed_means h1 c.before.answer.given.1)
+returns-3 c = λ bits h1 h2 h3. rw (told fixed_means h1 c.before.answer-1.given.1)
 
-returns-4 : tie.Need-returns-4
+returns-4 : tie.Need-returns-in-Value-observable
 unfolding front
 returns-4 c =
     let k3 = c.before.before.before in
     let k = up k3 in
     λ bits h1 h2 h3. rw (
-      told fixed_means h1 k.answer2.given.1,
-      told (flags_means _) (rw k.answer2.given.1 at h2) k3.before.secret.given.1,
+      told fixed_means h1 k.answer-in-Value-1.given.1,
+      told (flags_means _) (rw k.answer-in-Value-1.given.1 at h2) k3.before.secret-1.given.1,
       told (flags_means _)
-          (rw k.answer2.given.1 at h3) c.before.observable.given.1,
+          (rw k.answer-in-Value-1.given.1 at h3) c.before.observable-1.given.1,
     )
 
-pub front-from-spec : {M : Type 1} → statement M
-front-from-spec =
+pub front_from_spec : {M : Type 1} → statement M
+front_from_spec =
     tie.close
     (tie.spec
     enum-known-answer

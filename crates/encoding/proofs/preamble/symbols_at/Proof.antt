@@ -8,25 +8,25 @@ use borrow.Author.Rules.{rules}
 use Rattle.encoding.proofs.preamble.symbols_at.Statement.{statement}
 use Rattle.encoding.proofs.preamble.symbols_at.Tie as tie
 
-mul-if1 : tie.Need-overflow-mul-if1
+mul-if1 : tie.Need-overflow_mul-n
 mul-if1 c = search rules
 
-add-if1 : tie.Need-overflow-add-if1
+add-if1 : tie.Need-overflow_add-at
 add-if1 c = search rules
 
-add-if1-2 : tie.Need-overflow-add-if1-2
+add-if1-2 : tie.Need-overflow_add-at-2
 add-if1-2 c = search rules
 
-returns : tie.Need-returns
+returns : tie.Need-returns-then-bytes-at
 returns c =
     let s = c.before in
     let a = s.args in
-    sym (symbols_cut (bits_of a.bytes.now) a.at a.n s.requires.2 (omega (arith, length_bits a.bytes.now, c.if1.true)))
+    sym (symbols_cut (bits_of a.bytes.now) a.at a.n s.requires.2 (omega (arith, length_bits a.bytes.now, c.if-bytes-at.true)))
 
-returns-2 : tie.Need-returns-2
+returns-2 : tie.Need-returns
 returns-2 c =
     let a = c.before.args in
-    sym (symbols_read (bits_of a.bytes.now) a.at a.n (omega (arith, length_bits a.bytes.now, c.if1.false)))
+    sym (symbols_read (bits_of a.bytes.now) a.at a.n (omega (arith, length_bits a.bytes.now, c.if-bytes-at.false)))
 
-pub symbols-at-spec : {M : Type 1} → statement M
-symbols-at-spec = tie.close (tie.spec mul-if1 add-if1 add-if1-2 returns returns-2)
+pub symbols_at_spec : {M : Type 1} → statement M
+symbols_at_spec = tie.close (tie.spec mul-if1 add-if1 add-if1-2 returns returns-2)

@@ -12,62 +12,62 @@ use Rattle.encoding.proofs.transitions.repeat_at.Statement.{statement}
 use Rattle.encoding.proofs.transitions.repeat_at.Tie as tie
 
 -- where both answers are that nothing was refused
-abbrev start : tie.After-enum-told2 → tie.Start
+abbrev start : tie.In-Valid-one → tie.Start
 start c = c.before.before.before.before.before
 
-enum-known-earlier : tie.Need-enum-known-earlier
+enum-known-earlier : tie.Need-enum_known-earlier
 enum-known-earlier c = search rules
 
-enum_told : tie.Need-enum-told
+enum_told : tie.Need-enum_told-1
 enum_told c = search rules
 
-enum-known-one : tie.Need-enum-known-one
+enum-known-one : tie.Need-enum_known-one
 enum-known-one c = search rules
 
-enum-told-2 : tie.Need-enum-told-2
+enum-told-2 : tie.Need-enum_told-in-Valid-one
 enum-told-2 c = search rules
 
 repeated-requires : tie.Need-repeated-requires
 repeated-requires c κs =
     let s = start c in
     let a = s.args in
-    let there = subst (λ (x : Checked). Reaches x (a.at + a.n * 17 + 17) (bits_of a.bytes.now)) c.enum-told2.given.1 s.pre.2 in
+    let there = subst (λ (x : Checked). Reaches x (a.at + a.n * 17 + 17) (bits_of a.bytes.now)) c.enum_told-in-Valid-one-1.given.1 s.pre.2 in
     (s.pre.0, s.pre.1, there)
 
-returns : tie.Need-returns
+returns : tie.Need-returns-then-repeated
 returns c =
     let k = c.before.before in
     let a = (start k).args in
     λ s e h1 h2. rw (add-one a.n)
     (sym
-    (transitions_repeated s e (bits_of a.bytes.now) a.at a.n (told (checked_means _ _) h1 k.before.before.enum_told.given.1)
-    (told (checked_means _ _) h2 k.enum-told2.given.1) (sym c.before.repeated.ensures ∙ c.if1.true)))
+    (transitions_repeated s e (bits_of a.bytes.now) a.at a.n (told (checked_means _ _) h1 k.before.before.enum_told-1.given.1)
+    (told (checked_means _ _) h2 k.enum_told-in-Valid-one-1.given.1) (sym c.before.repeated.ensures ∙ c.if-repeated.true)))
 
-returns-2 : tie.Need-returns-2
+returns-2 : tie.Need-returns-in-Refused
 returns-2 c =
     let a = c.before.before.before.before.args in
     λ s e h1 h2. rw (add-one a.n)
-    (sym (transitions_before s e (bits_of a.bytes.now) a.at a.n (told (checked_means _ _) h1 c.before.earlier.given.1)))
+    (sym (transitions_before s e (bits_of a.bytes.now) a.at a.n (told (checked_means _ _) h1 c.before.earlier-1.given.1)))
 
-returns-3 : tie.Need-returns-3
+returns-3 : tie.Need-returns-in-Refused-one
 returns-3 c =
     let k = c.before.before.before in
     let a = k.before.before.before.args in
     λ s e h1 h2. rw (add-one a.n)
-    (sym (transitions_refused s e (bits_of a.bytes.now) a.at a.n (told (checked_means _ _) h1 k.enum_told.given.1)
-    (told (checked_means _ _) h2 c.before.one.given.1)))
+    (sym (transitions_refused s e (bits_of a.bytes.now) a.at a.n (told (checked_means _ _) h1 k.enum_told-1.given.1)
+    (told (checked_means _ _) h2 c.before.one-1.given.1)))
 
-returns-4 : tie.Need-returns-4
+returns-4 : tie.Need-returns-else-repeated
 returns-4 c =
     let k = c.before.before in
     let a = (start k).args in
     λ s e h1 h2. rw (add-one a.n)
     (sym
-    (transitions_more s e (bits_of a.bytes.now) a.at a.n (told (checked_means _ _) h1 k.before.before.enum_told.given.1)
-    (told (checked_means _ _) h2 k.enum-told2.given.1) (sym c.before.repeated.ensures ∙ c.if1.false)))
+    (transitions_more s e (bits_of a.bytes.now) a.at a.n (told (checked_means _ _) h1 k.before.before.enum_told-1.given.1)
+    (told (checked_means _ _) h2 k.enum_told-in-Valid-one-1.given.1) (sym c.before.repeated.ensures ∙ c.if-repeated.false)))
 
-pub repeat-at-spec : {M : Type 1} → statement M
-repeat-at-spec =
+pub repeat_at_spec : {M : Type 1} → statement M
+repeat_at_spec =
     tie.close
     (tie.spec
     enum-known-earlier

@@ -12,73 +12,73 @@ use Rattle.encoding.proofs.Listed.{listed_none, listed_more, listed_stays, same_
 use Rattle.encoding.proofs.transitions.repeated.Statement.{statement}
 use Rattle.encoding.proofs.transitions.repeated.Tie as tie
 
-abbrev invariant-loop : tie.invariant-loop
+abbrev invariant-loop : tie.invariant-loop-i
 invariant-loop bytes at n last i₀ i = (i ≤ n) × (listed (transition_at (bits_of bytes) (at + n * 17)) (transitions_at (bits_of bytes) at i) ≡ false)
 
-abbrev decreases-loop : tie.decreases-loop
+abbrev decreases-loop : tie.decreases-loop-i
 decreases-loop bytes at n last i₀ i = n - i
 
-mul-number-at : tie.Need-overflow-mul-number-at invariant-loop decreases-loop
+mul-number-at : tie.Need-overflow_mul-n invariant-loop decreases-loop
 mul-number-at c = omega arith
 
-add-number-at : tie.Need-overflow-add-number-at invariant-loop decreases-loop
+add-number-at : tie.Need-overflow_add-at invariant-loop decreases-loop
 add-number-at c = omega arith
 
-number-at-requires : tie.Need-number-at-requires invariant-loop decreases-loop
+number-at-requires : tie.Need-number_at-last-requires invariant-loop decreases-loop
 number-at-requires c κs = omega arith
 
-loop-holds : tie.Need-loop-init invariant-loop decreases-loop
+loop-holds : tie.Need-loop-i-init invariant-loop decreases-loop
 loop-holds c = (omega arith, listed_none _ _ _)
 
-mul-number-at-2 : tie.Need-overflow-mul-number-at-2 invariant-loop decreases-loop
+mul-number-at-2 : tie.Need-overflow_mul-i invariant-loop decreases-loop
 mul-number-at-2 c = omega arith
 
-add-number-at-2 : tie.Need-overflow-add-number-at-2 invariant-loop decreases-loop
+add-number-at-2 : tie.Need-overflow_add-at-in-loop-i invariant-loop decreases-loop
 add-number-at-2 c = omega arith
 
-number-at-requires-2 : tie.Need-number-at-requires-2 invariant-loop decreases-loop
+number-at-requires-2 : tie.Need-number_at-requires invariant-loop decreases-loop
 number-at-requires-2 c κs = omega arith
 
 -- the two numbers compare as the two transitions do
-compared : (c : tie.After-number-at2 invariant-loop decreases-loop) → let a = c.before.before.before.before.before.args in
+compared : (c : tie.After-number_at invariant-loop decreases-loop) → let a = c.before.before.before.before.before.args in
     let bits = bits_of a.bytes.now in
-    eqb c.number-at2.result c.before.before.before.number_at.result
-    ≡ same_transition (transition_at bits (a.at + a.n * 17)) (transition_at bits (a.at + c.before.before.loop.i * 17))
+    eqb c.number_at.result c.before.before.before.number_at-last.result
+    ≡ same_transition (transition_at bits (a.at + a.n * 17)) (transition_at bits (a.at + c.before.before.loop-i.i * 17))
 compared c =
     let a = c.before.before.before.before.before.args in
-    rw (c.number-at2.ensures, c.before.before.before.number_at.ensures)
-    (same_bits a.bytes.now (a.at + c.before.before.loop.i * 17) (a.at + a.n * 17) (omega arith) (omega arith))
+    rw (c.number_at.ensures, c.before.before.before.number_at-last.ensures)
+    (same_bits a.bytes.now (a.at + c.before.before.loop-i.i * 17) (a.at + a.n * 17) (omega arith) (omega arith))
 
-returns : tie.Need-returns invariant-loop decreases-loop
+returns : tie.Need-returns-then-number_at-last invariant-loop decreases-loop
 returns c =
     let a = c.before.before.before.before.before.before.args in
-    let l = c.before.before.before.loop in
+    let l = c.before.before.before.loop-i in
     sym
-    (listed_stays _ (bits_of a.bytes.now) a.at l.i (sym (compared c.before) ∙ eq-eqb _ _ c.if1.true) a.n (omega arith))
+    (listed_stays _ (bits_of a.bytes.now) a.at l.i (sym (compared c.before) ∙ eq-eqb _ _ c.if-number_at-last.true) a.n (omega arith))
 
-add-i : tie.Need-overflow-add-i invariant-loop decreases-loop
+add-i : tie.Need-overflow_add-i invariant-loop decreases-loop
 add-i c = omega arith
 
-loop-less : tie.Need-loop-smaller invariant-loop decreases-loop
+loop-less : tie.Need-loop-i-smaller invariant-loop decreases-loop
 loop-less c = omega arith
 
-loop-again : tie.Need-loop-preserved invariant-loop decreases-loop
+loop-again : tie.Need-loop-i-preserved invariant-loop decreases-loop
 loop-again c =
     let a = c.before.before.before.before.before.before.args in
-    let l = c.before.before.before.loop in
-    let other = sym (compared c.before) ∙ ne_eqb _ _ c.if1.false in
+    let l = c.before.before.before.loop-i in
+    let other = sym (compared c.before) ∙ ne_eqb _ _ c.if-number_at-last.false in
     (omega arith, rw (add-one l.i, listed_more _ (bits_of a.bytes.now) a.at l.i, l.invariant.1, other))
 
-returns-2 : tie.Need-returns-2 invariant-loop decreases-loop
+returns-2 : tie.Need-returns invariant-loop decreases-loop
 returns-2 c =
     let a = c.before.before.before.before.args in
-    let l = c.before.loop in
+    let l = c.before.loop-i in
     let bits = bits_of a.bytes.now in
     let e : l.i ≡ a.n = omega arith in
     sym (subst (λ (m : ℕ). listed (transition_at bits (a.at + a.n * 17)) (transitions_at bits a.at m) ≡ false) e l.invariant.1)
 
-pub repeated-spec : {M : Type 1} → statement M
-repeated-spec =
+pub repeated_spec : {M : Type 1} → statement M
+repeated_spec =
     tie.close
     (tie.spec
     invariant-loop

@@ -4,17 +4,17 @@ use borrow.Author.Rules.{rules}
 use Rattle.estimates.proofs.look_back.backward_rows.Statement.{statement}
 use Rattle.estimates.proofs.look_back.backward_rows.Tie as tie
 
-returns : tie.Need-returns
-returns c = λ some. absurd (omega (arith, some, c.if1.true))
+returns : tie.Need-returns-then-last-eq0
+returns c = λ some. absurd (omega (arith, some, c.if-last-eq0.true))
 
-silent-back-requires : tie.Need-silent-back-requires
+silent-back-requires : tie.Need-silent_back-requires
 silent-back-requires c κs = search rules
 
-same_length : tie.Need-same-length
+same_length : tie.Need-shape_of-back
 same_length c = search rules
 
-returns-2 : tie.Need-returns-2
+returns-2 : tie.Need-returns
 returns-2 c = λ some. c.before.before.silent-back.ensures
 
-pub backward-rows-spec : {M : Type 1} → statement M
-backward-rows-spec = tie.close (tie.spec returns silent-back-requires same_length returns-2)
+pub backward_rows_spec : {M : Type 1} → statement M
+backward_rows_spec = tie.close (tie.spec returns silent-back-requires same_length returns-2)

@@ -42,7 +42,7 @@ steps-holds c = (λ p symbols entries n trace d few m. below_start Weak p (secre
 -- One step: the states of m(l) are visited, and the first that is not secret ends the visit
 
 states-holds : tie.Need-states-init invariant-states decreases-states invariant-steps decreases-steps
-states-holds c = pass_start _ _ (c.shared-slice-known.given c.before.steps.l).fits
+states-holds c = pass_start _ _ (c.shared_slice_known-1.given c.before.steps.l).fits
 
 -- the state that a turn of the inner loop visits
 pick : (c : tie.In-states invariant-states decreases-states invariant-steps decreases-steps)
@@ -53,18 +53,18 @@ pick c = taken c.before.states.todo (omega arith) c.before.states.invariant.smal
 states-again : tie.Need-states-preserved invariant-states decreases-states invariant-steps decreases-steps
 states-again c =
     let q = count_trailing_zeros 64 c.before.before.states.todo in
-    pass_turn _ _ _ q _ (pick c.before) (digit_in q c.before.before.before.before.before.args.secret c.if1.false)
+    pass_turn _ _ _ q _ (pick c.before) (digit_in q c.before.before.before.before.before.args.secret c.if-secret-q-eq0.false)
     c.before.before.states.invariant
 
 -- the step whose states were visited, and where the call began
-abbrev turn : tie.Else2 invariant-states decreases-states invariant-steps decreases-steps → tie.At-steps invariant-states decreases-states invariant-steps decreases-steps
+abbrev turn : tie.Else-todo-eq0 invariant-states decreases-states invariant-steps decreases-steps → tie.At-steps invariant-states decreases-states invariant-steps decreases-steps
 turn c = c.before.before.before.before
 
 abbrev begin : tie.At-steps invariant-states decreases-states invariant-steps decreases-steps → tie.Start invariant-states decreases-states invariant-steps decreases-steps
 begin u = u.before
 
 -- the state at which the visit ended is not secret, and a run through it excuses the system
-clear : (c : tie.Else2 invariant-states decreases-states invariant-steps decreases-steps)
+clear : (c : tie.Else-todo-eq0 invariant-states decreases-states invariant-steps decreases-steps)
     → ForPast (begin (turn c)).args.past.now (begin (turn c)).args.last
     (λ p trace. ClearAt p (begin (turn c)).args.secret trace (length trace - (turn c).steps.l))
 clear c p symbols entries n trace d few m =
@@ -81,7 +81,7 @@ clear c p symbols entries n trace d few m =
     c.before.states-test.branch
 
 -- so that, with what was known below l, no step below l + 1 is a leak
-below_next : (c : tie.Else2 invariant-states decreases-states invariant-steps decreases-steps)
+below_next : (c : tie.Else-todo-eq0 invariant-states decreases-states invariant-steps decreases-steps)
     → ForPast (begin (turn c)).args.past.now (begin (turn c)).args.last
     (λ p trace. NoLeakBelow Weak p (secret_of (begin (turn c)).args.secret (begin (turn c)).args.last) trace ((turn c).steps.l + 1))
 below_next c p symbols entries n trace d few m =
@@ -94,7 +94,7 @@ steps-again c = (below_next c.before, omega (arith, c.before.before.before.befor
 
 -- First exit: leak l, the least because no step below it is one
 
-returns : tie.Need-returns invariant-states decreases-states invariant-steps decreases-steps
+returns : tie.Need-returns-then-todo-eq0 invariant-states decreases-states invariant-steps decreases-steps
 returns c = λ p symbols entries n d few.
     let a = c.before.before.before.before.before.args in
     let u = c.before.before.before.before.steps in
@@ -104,12 +104,12 @@ returns c = λ p symbols entries n d few.
           let m = remembers_part whole a.last few in
           below_leak Weak _ (secret_of a.secret a.last) trace _ u.invariant.1 m.reached (u.invariant.0 p _ _ n trace d few m)
           (decided_sure _ _ trace _ _ (past_by _ _ a.secret u.l u.invariant.1 p _ _ n trace d few m)
-          (λ q i. pass_end _ _ _ c.if2.true c.before.before.states.invariant q i));
+          (λ q i. pass_end _ _ _ c.if-todo-eq0.true c.before.before.states.invariant q i));
     }
 
 -- Second exit: step l is the last one, K or n, and no leak
 
-returns-2 : tie.Need-returns-2 invariant-states decreases-states invariant-steps decreases-steps
+returns-2 : tie.Need-returns-then-l-last invariant-states decreases-states invariant-steps decreases-steps
 returns-2 c = λ p symbols entries n d few.
     let a = (begin (turn c.before)).args in
     record {
@@ -121,35 +121,35 @@ returns-2 c = λ p symbols entries n d few.
 
 -- What else is asked: numbers that fit, indices, and that the loops end
 
-cast-todo : tie.Need-overflow-cast-todo invariant-states decreases-states invariant-steps decreases-steps
+cast-todo : tie.Need-overflow_cast-todo invariant-states decreases-states invariant-steps decreases-steps
 cast-todo c = search rules
 
-mul-todo : tie.Need-overflow-mul-todo invariant-states decreases-states invariant-steps decreases-steps
+mul-todo : tie.Need-offset_bounds-past-l invariant-states decreases-states invariant-steps decreases-steps
 mul-todo c = omega (arith, c.steps.invariant.1, c.before.requires.1)
 
-shared-slice-read-todo : tie.Need-shared-slice-read-todo invariant-states decreases-states invariant-steps decreases-steps
+shared-slice-read-todo : tie.Need-bounds-past-l invariant-states decreases-states invariant-steps decreases-steps
 shared-slice-read-todo c = omega (arith, c.before.steps.invariant.1, c.before.before.requires.0, c.before.before.requires.1)
 
-cast-if1 : tie.Need-overflow-cast-if1 invariant-states decreases-states invariant-steps decreases-steps
+cast-if1 : tie.Need-overflow_cast-q invariant-states decreases-states invariant-steps decreases-steps
 cast-if1 c = omega (arith, (pick c).small)
 
-shr-if1 : tie.Need-overflow-shr-if1 invariant-states decreases-states invariant-steps decreases-steps
+shr-if1 : tie.Need-overflow_shr-secret invariant-states decreases-states invariant-steps decreases-steps
 shr-if1 c = omega (arith, (pick c).small)
 
-sub-todo : tie.Need-overflow-sub-todo invariant-states decreases-states invariant-steps decreases-steps
+sub-todo : tie.Need-overflow_sub-todo invariant-states decreases-states invariant-steps decreases-steps
 sub-todo c = omega arith
 
 states-less : tie.Need-states-smaller invariant-states decreases-states invariant-steps decreases-steps
 states-less c = (pick c.before).less
 
-add-l : tie.Need-overflow-add-l invariant-states decreases-states invariant-steps decreases-steps
+add-l : tie.Need-overflow_add-l invariant-states decreases-states invariant-steps decreases-steps
 add-l c = omega (arith, c.before.before.before.before.before.steps.invariant.1, c.before.before.before.before.before.before.requires.1)
 
 steps-less : tie.Need-steps-smaller invariant-states decreases-states invariant-steps decreases-steps
 steps-less c = omega (arith, c.before.before.before.before.before.steps.invariant.1)
 
-pub first-secret-spec : {M : Type 1} → statement M
-first-secret-spec =
+pub first_secret_spec : {M : Type 1} → statement M
+first_secret_spec =
     tie.close
     (tie.spec
     invariant-states

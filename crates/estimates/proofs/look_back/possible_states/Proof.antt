@@ -7,11 +7,11 @@ use borrow.Author.Rules.{rules}
 use Rattle.estimates.proofs.look_back.possible_states.Statement.{statement}
 use Rattle.estimates.proofs.look_back.possible_states.Tie as tie
 
-returns : tie.Need-returns
+returns : tie.Need-returns-then-some-secret-ne0
 returns c = λ p trace start k sub E.
     let s = c.before.before in
     let a = s.args in
-    let x = meet (bit_and a.entry a.then) (complement a.secret) (omega arith) c.if1.true in
+    let x = meet (bit_and a.entry a.then) (complement a.secret) (omega arith) c.if-some-secret-ne0.true in
     record {
       sound = λ q i.
           let m = in_and q a.entry a.then i in
@@ -20,10 +20,10 @@ returns c = λ p trace start k sub E.
       whole = λ all. absurd (in_not 64 x.0 a.secret s.ranges.secret.fits x.2 (all x.0 x.1));
     }
 
-unobservable-reach-requires : tie.Need-unobservable-reach-requires
+unobservable-reach-requires : tie.Need-unobservable_reach-requires
 unobservable-reach-requires c κs = search rules
 
-returns-2 : tie.Need-returns-2
+returns-2 : tie.Need-returns
 returns-2 c = λ p trace start k sub E.
     let s = c.before.before.before in
     let A = c.unobservable-reach.ensures.1 p trace start k sub E in
@@ -32,5 +32,5 @@ returns-2 c = λ p trace start k sub E.
       whole = λ all q x. all q (and_in q c.unobservable-reach.result s.args.then (A.whole q x.0) x.1);
     }
 
-pub possible-states-spec : {M : Type 1} → statement M
-possible-states-spec = tie.close (tie.spec returns unobservable-reach-requires returns-2)
+pub possible_states_spec : {M : Type 1} → statement M
+possible_states_spec = tie.close (tie.spec returns unobservable-reach-requires returns-2)

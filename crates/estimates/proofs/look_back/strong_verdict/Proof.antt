@@ -53,7 +53,7 @@ begin s = s.before.before.before.before.before.before.before
 -- an automaton for which holds what was prepared for this call
 abbrev Good : tie.At-steps invariant-steps decreases-steps → Automaton → Type 0
 Good u p =
-    Looks p (begin u).args.table.now (begin u).args.sets.now (begin u).args.remembered.entries (begin u).args.silent.now (begin u).args.back.now
+    Looks p (begin u).args.table.now (begin u).args.sets.now (begin u).args.remembered.entries-1 (begin u).args.silent.now (begin u).args.back.now
     (begin u).args.states (begin u).args.remembered.count
 
 -- the secret that is looked for, as far as is remembered
@@ -65,28 +65,28 @@ abbrev Each : tie.At-steps invariant-steps decreases-steps → (Automaton → Li
 Each u =
     ForTraces (begin u).args.table.now (begin u).args.sets.now (begin u).args.silent.now (begin u).args.back.now (begin u).args.states
     (begin u).args.remembered.count
-    (begin u).args.remembered.symbols (begin u).args.remembered.entries
+    (begin u).args.remembered.symbols-1 (begin u).args.remembered.entries-1
 
 secret_small : (s : tie.At-steps invariant-steps decreases-steps) → (begin s).args.secret < 2 ^ 64
 secret_small s = (begin s).ranges.secret.fits
 
 -- a state right after the symbol l steps back from which a run avoids the secret
-clear : (c : tie.Else1 invariant-steps decreases-steps)
+clear : (c : tie.Else-entries-at-eq0 invariant-steps decreases-steps)
     → Each c.before (λ p trace. ClearFrom p (begin c.before).args.secret trace (length trace - c.before.steps.l))
 clear c p trace g m =
     let s = c.before.steps in
     strong_clear _ _ trace _ s.l (begin c.before).args.states _ _ (secret_small c.before) s.invariant.2 (m.entries_are s.l s.invariant.2)
-    (s.invariant.1 p trace g m) s.invariant.4 c.if1.false
+    (s.invariant.1 p trace g m) s.invariant.4 c.if-entries-at-eq0.false
 
 -- so that, with what was known below l, no step below l + 1 is a leak
-below_next : (c : tie.Else1 invariant-steps decreases-steps)
+below_next : (c : tie.Else-entries-at-eq0 invariant-steps decreases-steps)
     → Each c.before (λ p trace. NoLeakBelow Strong p (sought c.before) trace (c.before.steps.l + 1))
 below_next c p trace g m = below_step Strong p (sought c.before) trace _ (c.before.steps.invariant.0 p trace g m) (clear c p trace g m)
 
 -- the events that show the symbol before
-showing : (c : tie.After-events-with invariant-steps decreases-steps) (p : Automaton) → Good c.before.before.before p
-    → Showing p (get_or (begin c.before.before.before).args.remembered.symbols c.before.before.before.steps.l 0) c.events-with.result
-showing c p g = c.events-with.ensures p g.symbols_small g.sets_are
+showing : (c : tie.After-events_with-shown invariant-steps decreases-steps) (p : Automaton) → Good c.before.before.before p
+    → Showing p (get_or (begin c.before.before.before).args.remembered.symbols-1 c.before.before.before.steps.l 0) c.events_with-shown.result
+showing c p g = c.events_with-shown.ensures p g.symbols_small g.sets_are
 
 -- and the loop takes up step l + 1
 steps-again : tie.Need-steps-preserved invariant-steps decreases-steps
@@ -95,7 +95,7 @@ steps-again c =
     let s = c.before.before.before.before.steps in (
       below_next c.before.before.before,
       λ p trace g m. follows_step p _ trace _ _ _ _ _ m (omega arith)
-          (c.backward-reach.ensures p _ _ _ g.table_is (showing c.before p g) (g.back_are (omega arith))
+          (c.backward_reach-then.ensures p _ _ _ g.table_is (showing c.before p g) (g.back_are (omega arith))
           (λ q i. (in_and q a.args.states (complement a.args.secret) i).0) (s.invariant.1 p trace g m)),
       omega arith,
       s.invariant.3,
@@ -104,7 +104,7 @@ steps-again c =
 
 -- First exit: leak l, the least because no step below it is one
 
-returns : tie.Need-returns invariant-steps decreases-steps
+returns : tie.Need-returns-then-entries-at-eq0 invariant-steps decreases-steps
 returns c =
     let a = begin c.before in
     let s = c.before.steps in
@@ -115,12 +115,12 @@ returns c =
           below_leak Strong _ (sought c.before) trace _ s.invariant.2 m.reached (s.invariant.0 _ trace g m)
           (strong_sure _ _ trace _ s.l a.args.states _ _ (secret_small c.before) s.invariant.2 (m.entries_are s.l s.invariant.2)
           (s.invariant.1 _ trace g m)
-          (remembers_inside _ trace _ _ _ _ _ s.invariant.3 g.near m) g.start c.if1.true);
+          (remembers_inside _ trace _ _ _ _ _ s.invariant.3 g.near m) g.start c.if-entries-at-eq0.true);
     }
 
 -- Second exit: step l is the last one, K or n, and no leak
 
-returns-2 : tie.Need-returns-2 invariant-steps decreases-steps
+returns-2 : tie.Need-returns-then-l-last invariant-steps decreases-steps
 returns-2 c =
     let g = (begin c.before.before).pre.looks in
     record {
@@ -130,34 +130,34 @@ returns-2 c =
 
 -- What else is asked: numbers that fit, indices, what is called, and that the loop ends
 
-cast-at : tie.Need-overflow-cast-at invariant-steps decreases-steps
+cast-at : tie.Need-overflow_cast-at invariant-steps decreases-steps
 cast-at c = search rules
 
-mul-if1 : tie.Need-overflow-mul-if1 invariant-steps decreases-steps
+mul-if1 : tie.Need-offset_bounds-entries-at invariant-steps decreases-steps
 mul-if1 c = omega arith
 
-array-read-if1 : tie.Need-array-read-if1 invariant-steps decreases-steps
+array-read-if1 : tie.Need-bounds-entries-at invariant-steps decreases-steps
 array-read-if1 c = omega arith
 
-array-read-events-with : tie.Need-array-read-events-with invariant-steps decreases-steps
+array-read-events-with : tie.Need-bounds-symbols-at invariant-steps decreases-steps
 array-read-events-with c = omega arith
 
-events-with-requires : tie.Need-events-with-requires invariant-steps decreases-steps
+events-with-requires : tie.Need-events_with-shown-requires invariant-steps decreases-steps
 events-with-requires c κs = (begin c.before.before).pre.looks.sets_are.size
 
-backward-reach-requires : tie.Need-backward-reach-requires invariant-steps decreases-steps
+backward-reach-requires : tie.Need-backward_reach-then-requires invariant-steps decreases-steps
 backward-reach-requires c κs =
     let a = begin c.before.before.before in
     (a.pre.words, (a.pre.looks.back_are (omega arith)).size, λ e i. ((showing c _ a.pre.looks).sound e i).0)
 
-add-l : tie.Need-overflow-add-l invariant-steps decreases-steps
+add-l : tie.Need-overflow_add-l invariant-steps decreases-steps
 add-l c = omega arith
 
 steps-less : tie.Need-steps-smaller invariant-steps decreases-steps
 steps-less c = omega arith
 
-pub strong-verdict-spec : {M : Type 1} → statement M
-strong-verdict-spec =
+pub strong_verdict_spec : {M : Type 1} → statement M
+strong_verdict_spec =
     tie.close
     (tie.spec
     invariant-steps

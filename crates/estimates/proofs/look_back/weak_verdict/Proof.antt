@@ -78,7 +78,7 @@ begin u = u.before.before.before.before.before.before.before
 -- an automaton for which holds what was prepared for this call
 abbrev Good : tie.At-steps invariant-states decreases-states invariant-steps decreases-steps → Automaton → Type 0
 Good u p =
-    Looks p (begin u).args.table.now (begin u).args.sets.now (begin u).args.remembered.entries (begin u).args.silent.now (begin u).args.back.now
+    Looks p (begin u).args.table.now (begin u).args.sets.now (begin u).args.remembered.entries-1 (begin u).args.silent.now (begin u).args.back.now
     (begin u).args.states (begin u).args.remembered.count
 
 -- the secret that is looked for, as far as is remembered
@@ -90,7 +90,7 @@ abbrev Each : tie.At-steps invariant-states decreases-states invariant-steps dec
 Each u =
     ForTracesWith (begin u).args.table.now (begin u).args.sets.now (begin u).args.silent.now (begin u).args.back.now (begin u).args.states
     (begin u).args.estimate
-    (begin u).args.remembered.count (begin u).args.remembered.symbols (begin u).args.remembered.entries
+    (begin u).args.remembered.count (begin u).args.remembered.symbols-1 (begin u).args.remembered.entries-1
 
 -- the state that a turn of the inner loop visits
 pick : (c : tie.In-states invariant-states decreases-states invariant-steps decreases-steps)
@@ -104,10 +104,10 @@ states-holds c = pass_start _ _ c.steps.invariant.5
 states-again : tie.Need-states-preserved invariant-states decreases-states invariant-steps decreases-steps
 states-again c =
     let q = count_trailing_zeros 64 c.before.before.states.todo in
-    pass_turn _ _ _ q _ (pick c.before) (digit_in q (begin c.before.before.before).args.secret c.if1.false) c.before.before.states.invariant
+    pass_turn _ _ _ q _ (pick c.before) (digit_in q (begin c.before.before.before).args.secret c.if-secret-q-eq0.false) c.before.before.states.invariant
 
 -- "m(l) ∉ 2^S": the state at which the visit ended is not secret, and a run through it excuses the system
-clear : (c : tie.Else2 invariant-states decreases-states invariant-steps decreases-steps)
+clear : (c : tie.Else-todo-eq0 invariant-states decreases-states invariant-steps decreases-steps)
     → Each c.before.before.before (λ p trace. ClearAt p (begin c.before.before.before).args.secret trace
     (length trace - c.before.before.before.steps.l))
 clear c p trace g m r =
@@ -122,25 +122,25 @@ clear c p trace g m r =
     c.before.states-test.branch
 
 -- so that, with what was known below l, no step below l + 1 is a leak
-below_next : (c : tie.Else2 invariant-states decreases-states invariant-steps decreases-steps)
+below_next : (c : tie.Else-todo-eq0 invariant-states decreases-states invariant-steps decreases-steps)
     → Each c.before.before.before (λ p trace. NoLeakBelow Weak p (sought c.before.before.before) trace (c.before.before.before.steps.l + 1))
 below_next c p trace g m r = below_step Weak p (sought c.before.before.before) trace _ (c.before.before.before.steps.invariant.0 p trace g m r)
     (clear c p trace g m r)
 
 -- the events that show the symbol before
-showing : (c : tie.After-events-with invariant-states decreases-states invariant-steps decreases-steps) (p : Automaton) → Good c.before.before.before.before.before p
-    → Showing p (get_or (begin c.before.before.before.before.before).args.remembered.symbols c.before.before.before.before.before.steps.l 0)
-    c.events-with.result
-showing c p g = c.events-with.ensures p g.symbols_small g.sets_are
+showing : (c : tie.After-events_with-shown invariant-states decreases-states invariant-steps decreases-steps) (p : Automaton) → Good c.before.before.before.before.before p
+    → Showing p (get_or (begin c.before.before.before.before.before).args.remembered.symbols-1 c.before.before.before.before.before.steps.l 0)
+    c.events_with-shown.result
+showing c p g = c.events_with-shown.ensures p g.symbols_small g.sets_are
 
 -- the states that the last l + 1 events can follow
-follows_next : (c : tie.After-backward-reach invariant-states decreases-states invariant-steps decreases-steps)
+follows_next : (c : tie.After-backward_reach-then invariant-states decreases-states invariant-steps decreases-steps)
     → Each c.before.before.before.before.before.before (λ p trace.
     Follows p (begin c.before.before.before.before.before.before).args.states trace
-    (c.before.before.before.before.before.before.steps.l + 1) c.backward-reach.result)
+    (c.before.before.before.before.before.before.steps.l + 1) c.backward_reach-then.result)
 follows_next c p trace g m r =
     let s = c.before.before.before.before.before.before.steps in
-    follows_step p _ trace _ _ _ _ _ m (omega arith) (c.backward-reach.ensures p _ _ _ g.table_is (showing c.before p g) (g.back_are (omega arith))
+    follows_step p _ trace _ _ _ _ _ m (omega arith) (c.backward_reach-then.ensures p _ _ _ g.table_is (showing c.before p g) (g.back_are (omega arith))
     (λ q i. i) (s.invariant.1 p trace g m r))
 
 -- and the loop takes up step l + 1, with a part of m(l + 1) that decides
@@ -155,7 +155,7 @@ steps-again c =
           delayed_by p _ trace (s.l + 1) _ _
           (delayed_is p trace _ (s.l + 1) _ _ g.start next (remembers_inside p trace _ _ _ _ _ s.invariant.4 g.near m)
           (follows_next c.before p trace g m r))
-          (c.possible-states.ensures p _ g.start g.near.closed (λ q i. g.near.inside (s.l + 1) q (omega (arith, s.invariant.4)) i)
+          (c.possible_states-possible.ensures p _ g.start g.near.closed (λ q i. g.near.inside (s.l + 1) q (omega (arith, s.invariant.4)) i)
           (m.entries_are (s.l + 1) next)),
       next,
       s.invariant.4,
@@ -164,7 +164,7 @@ steps-again c =
 
 -- First exit, "leak_l where l = min{..}": m(l) ∈ 2^S, every state that was visited is secret; and l is the least because no step below it is a leak
 
-returns : tie.Need-returns invariant-states decreases-states invariant-steps decreases-steps
+returns : tie.Need-returns-then-todo-eq0 invariant-states decreases-states invariant-steps decreases-steps
 returns c =
     let u = c.before.before.before in
     let s = u.steps in
@@ -174,13 +174,13 @@ returns c =
       bounded = s.invariant.3;
       exact = λ trace m.
           below_leak Weak _ (sought u) trace _ s.invariant.3 m.reached (s.invariant.0 _ trace g m r)
-          (decided_sure _ _ trace _ _ (s.invariant.2 _ trace g m r) (λ q i. pass_end _ _ _ c.if2.true c.before.before.states.invariant q i));
+          (decided_sure _ _ trace _ _ (s.invariant.2 _ trace g m r) (λ q i. pass_end _ _ _ c.if-todo-eq0.true c.before.before.states.invariant q i));
     }
 
 -- Second exit, "noleak if ∀ k ∈ [0, K] : m(k) ∉ 2^S": step l is the last one, K or n (and m(k) for k past n is m(n)), and no leak, so that no step below
 -- l + 1 is one
 
-returns-2 : tie.Need-returns-2 invariant-states decreases-states invariant-steps decreases-steps
+returns-2 : tie.Need-returns-then-l-last invariant-states decreases-states invariant-steps decreases-steps
 returns-2 c =
     let u = c.before.before.before.before in
     record {
@@ -190,54 +190,54 @@ returns-2 c =
 
 -- What else is asked: numbers that fit, indices, what is called, and that the loops end
 
-cast-if1 : tie.Need-overflow-cast-if1 invariant-states decreases-states invariant-steps decreases-steps
+cast-if1 : tie.Need-overflow_cast-q invariant-states decreases-states invariant-steps decreases-steps
 cast-if1 c = omega (arith, (pick c).small)
 
-shr-if1 : tie.Need-overflow-shr-if1 invariant-states decreases-states invariant-steps decreases-steps
+shr-if1 : tie.Need-overflow_shr-secret invariant-states decreases-states invariant-steps decreases-steps
 shr-if1 c = omega (arith, (pick c).small)
 
-sub-todo : tie.Need-overflow-sub-todo invariant-states decreases-states invariant-steps decreases-steps
+sub-todo : tie.Need-overflow_sub-todo invariant-states decreases-states invariant-steps decreases-steps
 sub-todo c = omega arith
 
 states-less : tie.Need-states-smaller invariant-states decreases-states invariant-steps decreases-steps
 states-less c = (pick c.before).less
 
-cast-events-with : tie.Need-overflow-cast-events-with invariant-states decreases-states invariant-steps decreases-steps
+cast-events-with : tie.Need-overflow_cast-l invariant-states decreases-states invariant-steps decreases-steps
 cast-events-with c = search rules
 
-array-read-events-with : tie.Need-array-read-events-with invariant-states decreases-states invariant-steps decreases-steps
+array-read-events-with : tie.Need-bounds-symbols-l invariant-states decreases-states invariant-steps decreases-steps
 array-read-events-with c = omega arith
 
-events-with-requires : tie.Need-events-with-requires invariant-states decreases-states invariant-steps decreases-steps
+events-with-requires : tie.Need-events_with-shown-requires invariant-states decreases-states invariant-steps decreases-steps
 events-with-requires c κs = (begin c.before.before.before.before).pre.0.looks.sets_are.size
 
-backward-reach-requires : tie.Need-backward-reach-requires invariant-states decreases-states invariant-steps decreases-steps
+backward-reach-requires : tie.Need-backward_reach-then-requires invariant-states decreases-states invariant-steps decreases-steps
 backward-reach-requires c κs =
     let a = begin c.before.before.before.before.before in
     (a.pre.0.words, (a.pre.0.looks.back_are (omega arith)).size, λ e i. ((showing c _ a.pre.0.looks).sound e i).0)
 
-add-l : tie.Need-overflow-add-l invariant-states decreases-states invariant-steps decreases-steps
+add-l : tie.Need-overflow_add-l invariant-states decreases-states invariant-steps decreases-steps
 add-l c = omega arith
 
-cast-possible-states : tie.Need-overflow-cast-possible-states invariant-states decreases-states invariant-steps decreases-steps
+cast-possible-states : tie.Need-overflow_cast-l-in-steps invariant-states decreases-states invariant-steps decreases-steps
 cast-possible-states c = omega arith
 
-mul-possible-states : tie.Need-overflow-mul-possible-states invariant-states decreases-states invariant-steps decreases-steps
+mul-possible-states : tie.Need-offset_bounds-entries-l invariant-states decreases-states invariant-steps decreases-steps
 mul-possible-states c = omega arith
 
 array_read_possible_states :
-    tie.Need-array-read-possible-states invariant-states decreases-states invariant-steps decreases-steps
+    tie.Need-bounds-entries-l invariant-states decreases-states invariant-steps decreases-steps
 array_read_possible_states c = omega arith
 
 possible_states_requires :
-    tie.Need-possible-states-requires invariant-states decreases-states invariant-steps decreases-steps
+    tie.Need-possible_states-possible-requires invariant-states decreases-states invariant-steps decreases-steps
 possible_states_requires c κs = (begin c.before.before.before.before.before.before).pre.0.looks.near.closed.size
 
 steps-less : tie.Need-steps-smaller invariant-states decreases-states invariant-steps decreases-steps
 steps-less c = omega arith
 
-pub weak-verdict-spec : {M : Type 1} → statement M
-weak-verdict-spec =
+pub weak_verdict_spec : {M : Type 1} → statement M
+weak_verdict_spec =
     tie.close
     (tie.spec
     invariant-states

@@ -11,58 +11,58 @@ use Rattle.leaks.proofs.Searching.{Along, along_start, along_ready, along_next, 
 use Rattle.leaks.proofs.Search.advance.Statement.{statement}
 use Rattle.leaks.proofs.Search.advance.Tie as tie
 
-abbrev invariant-loop : tie.invariant-loop
+abbrev invariant-loop : tie.invariant-loop-i
 invariant-loop table header bytes now₀ i₀ now i = Along table header now₀ bytes now i
 
-abbrev decreases-loop : tie.decreases-loop
+abbrev decreases-loop : tie.decreases-loop-i
 decreases-loop table header bytes now₀ i₀ now i = length bytes - i
 
 within-requires : tie.Need-within-requires invariant-loop decreases-loop
 within-requires c κs = search rules
 
-returns : tie.Need-returns invariant-loop decreases-loop
-returns c = Advancing.malformed (fails c.before.within.result (not-true _ c.if1.true) c.before.within.ensures)
+returns : tie.Need-returns-then-not-within invariant-loop decreases-loop
+returns c = Advancing.malformed (fails c.before.within.result (not-true _ c.if-not-within.true) c.before.within.ensures)
 
-loop-holds : tie.Need-loop-init invariant-loop decreases-loop
+loop-holds : tie.Need-loop-i-init invariant-loop decreases-loop
 loop-holds c =
-    along_start _ _ _ _ (holds c.before.within.result (not-false _ c.if1.false) c.before.within.ensures)
+    along_start _ _ _ _ (holds c.before.within.result (not-false _ c.if-not-within.false) c.before.within.ensures)
 
-shared-slice-read-step : tie.Need-shared-slice-read-step invariant-loop decreases-loop
+shared-slice-read-step : tie.Need-bounds-bytes-i invariant-loop decreases-loop
 shared-slice-read-step c = omega arith
 
-step-requires : tie.Need-step-requires invariant-loop decreases-loop
+step-requires : tie.Need-step-now-requires invariant-loop decreases-loop
 step-requires c κs =
-    let l = c.before.before.before.loop in (
-      along_ready _ _ _ _ l.now l.i l.invariant c.before.before.loop-test.true c.before.if2.false,
-      c.before.if2.false,
+    let l = c.before.before.before.loop-i in (
+      along_ready _ _ _ _ l.now l.i l.invariant c.before.before.loop-i-test.true c.before.if-now.false,
+      c.before.if-now.false,
     )
 
-add-i : tie.Need-overflow-add-i invariant-loop decreases-loop
+add-i : tie.Need-overflow_add-i invariant-loop decreases-loop
 add-i c = omega (arith, c.before.before.before.before.before.before.before.before.before.well_formed)
 
-loop-less : tie.Need-loop-smaller invariant-loop decreases-loop
+loop-less : tie.Need-loop-i-smaller invariant-loop decreases-loop
 loop-less c = omega arith
 
-loop-again : tie.Need-loop-preserved invariant-loop decreases-loop
+loop-again : tie.Need-loop-i-preserved invariant-loop decreases-loop
 loop-again c =
-    let l = c.before.before.before.before.loop in
-    along_next _ _ _ _ l.now l.i c.step.result l.invariant c.before.before.before.loop-test.true c.step.ensures
+    let l = c.before.before.before.before.loop-i in
+    along_next _ _ _ _ l.now l.i c.step-now.result l.invariant c.before.before.before.loop-i-test.true c.step-now.ensures
 
-answer-requires : tie.Need-answer-requires invariant-loop decreases-loop
+answer-requires : tie.Need-answer-answer-requires invariant-loop decreases-loop
 answer-requires c κs = search rules
 
-returns-2 : tie.Need-returns-2 invariant-loop decreases-loop
+returns-2 : tie.Need-returns invariant-loop decreases-loop
 returns-2 c =
     let a = c.before.before.before.before.before.before.before.args in
-    let l = c.before.before.loop in
-    rw c.answer.ensures
+    let l = c.before.before.loop-i in
+    rw c.answer-answer.ensures
     (⊎_elim
     (λ w. along_end a.table.now a.header a.self a.bytes.now l.now l.i l.invariant (inl (omega arith)))
     (λ w. along_end a.table.now a.header a.self a.bytes.now l.now l.i l.invariant (inr w.1.taken))
-    c.before.loop-test.branch)
+    c.before.loop-i-test.branch)
 
-pub advance-spec : {M : Type 1} → statement M
-advance-spec =
+pub advance_spec : {M : Type 1} → statement M
+advance_spec =
     tie.close
     (tie.spec
     invariant-loop

@@ -5,11 +5,11 @@ use Rattle.leaks.specs.Searches.{found_said}
 use Rattle.leaks.proofs.Search.answer.Statement.{statement}
 use Rattle.leaks.proofs.Search.answer.Tie as tie
 
-returns : tie.Need-returns
-returns c = ap (λ (b : Bool). found_said b c.before.args.self.accepted) (sym c.if1.true)
+returns : tie.Need-returns-then-self
+returns c = ap (λ (b : Bool). found_said b c.before.args.self.accepted) (sym c.if-self.true)
 
-returns-2 : tie.Need-returns-2
-returns-2 c = ap (λ (b : Bool). found_said b c.before.args.self.accepted) (sym c.if1.false)
+returns-2 : tie.Need-returns
+returns-2 c = ap (λ (b : Bool). found_said b c.before.args.self.accepted) (sym c.if-self.false)
 
-pub answer-spec : {M : Type 1} → statement M
-answer-spec = tie.close (tie.spec returns returns-2)
+pub answer_spec : {M : Type 1} → statement M
+answer_spec = tie.close (tie.spec returns returns-2)

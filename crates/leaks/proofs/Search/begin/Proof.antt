@@ -8,30 +8,30 @@ use Rattle.leaks.proofs.Outcomes.{begin_refused, begin_begun}
 use Rattle.leaks.proofs.Search.begin.Statement.{statement}
 use Rattle.leaks.proofs.Search.begin.Tie as tie
 
-fresh-requires : tie.Need-fresh-requires
+fresh-requires : tie.Need-fresh-reply-requires
 fresh-requires c κs = search rules
 
-enum-known-answer : tie.Need-enum-known-answer
+enum-known-answer : tie.Need-enum_known-answer
 enum-known-answer c = search rules
 
-enum_told : tie.Need-enum-told
+enum_told : tie.Need-enum_told-1
 enum_told c = search rules
 
-returns : tie.Need-returns
+returns : tie.Need-returns-in-Refused
 returns c =
-    let called = c.before.before.before.before.fresh in
+    let called = c.before.before.before.before.fresh-reply in
     let a = c.before.before.before.before.before.before.args in
     begin_refused a.notion a.table.now a.header a.further _ _
-    (subst (λ (x : Answer). Opening a.table.now a.header a.further (verifier.said a.further x) called.result.estimator)
-    c.before.answer.given.1 called.ensures.0)
+    (subst (λ (x : Answer). Opening a.table.now a.header a.further (verifier.said a.further x) called.result.estimator-1)
+    c.before.answer-1.given.1 called.ensures.0)
 
-returns-2 : tie.Need-returns-2
+returns-2 : tie.Need-returns-in-Accepted
 returns-2 c =
-    let called = c.before.before.before.fresh in
+    let called = c.before.before.before.fresh-reply in
     let a = c.before.before.before.before.before.args in
-    begin_begun a.notion a.table.now a.header a.further _ called.result.estimator
-    (subst (λ (x : Answer). Opening a.table.now a.header a.further (verifier.said a.further x) called.result.estimator)
-    c.enum_told.given.1 called.ensures.0)
+    begin_begun a.notion a.table.now a.header a.further _ called.result.estimator-1
+    (subst (λ (x : Answer). Opening a.table.now a.header a.further (verifier.said a.further x) called.result.estimator-1)
+    c.enum_told-1.given.1 called.ensures.0)
 
-pub begin-spec : {M : Type 1} → statement M
-begin-spec = tie.close (tie.spec fresh-requires enum-known-answer enum_told returns returns-2)
+pub begin_spec : {M : Type 1} → statement M
+begin_spec = tie.close (tie.spec fresh-requires enum-known-answer enum_told returns returns-2)

@@ -9,16 +9,16 @@ use Rattle.report.proofs.witnesses.put_accepted_end.Tie as tie
 slice-aggregate-text : tie.Need-slice-aggregate-text
 slice-aggregate-text c = search rules
 
-text-requires : tie.Need-text-requires
+text-requires : tie.Need-text-a-requires
 text-requires c κs = search rules
 
-field-requires : tie.Need-field-requires
+field-requires : tie.Need-field-b-requires
 field-requires c κs = search rules
 
 put-requires : tie.Need-put-requires
 put-requires c κs = search rules
 
-same_length : tie.Need-same-length
+same_length : tie.Need-shape_of-out
 same_length c = search rules
 
 returns : tie.Need-returns
@@ -28,9 +28,9 @@ returns c =
     let word = accepted.before.before.before.before in
     let a = word.before.before.before.before.args in
     same (lined (101 ∷ 110 ∷ 100 ∷ []) (decimal a.accepted ∷ [])) (omega arith)
-    (then word.text.ensures (then accepted.field.ensures ended.put.ensures))
+    (then word.text-a.ensures (then accepted.field-b.ensures ended.put.ensures))
 
-pub put-accepted-end-spec : {M : Type 1} → statement M
-put-accepted-end-spec =
+pub put_accepted_end_spec : {M : Type 1} → statement M
+put_accepted_end_spec =
     tie.close
     (tie.spec slice-aggregate-text text-requires field-requires put-requires same_length returns)

@@ -8,7 +8,7 @@ use Rattle.report.proofs.Pairing.{no_witness_lined}
 use Rattle.report.proofs.witnesses.put_no_witness.Statement.{statement}
 use Rattle.report.proofs.witnesses.put_no_witness.Tie as tie
 
-put-step-requires : tie.Need-put-step-requires
+put-step-requires : tie.Need-put_step-next-requires
 put-step-requires c κs = search rules
 
 slice-aggregate-text : tie.Need-slice-aggregate-text
@@ -17,7 +17,7 @@ slice-aggregate-text c = search rules
 text-requires : tie.Need-text-requires
 text-requires c κs = search rules
 
-same_length : tie.Need-same-length
+same_length : tie.Need-shape_of-out
 same_length c = search rules
 
 returns : tie.Need-returns
@@ -25,8 +25,8 @@ returns c =
     let stepped = c.before.before.before.before.before.before.before in
     let a = stepped.before.before.before.args in
     same (no_witness_lined (word a.notion) (decimal a.k) (110 ∷ 111 ∷ []) (97 ∷ 108 ∷ 105 ∷ 98 ∷ 105 ∷ [])) (omega arith)
-    (then stepped.put_step.ensures c.before.before.text.ensures)
+    (then stepped.put_step-next.ensures c.before.before.text.ensures)
 
-pub put-no-witness-spec : {M : Type 1} → statement M
-put-no-witness-spec =
+pub put_no_witness_spec : {M : Type 1} → statement M
+put_no_witness_spec =
     tie.close (tie.spec put-step-requires slice-aggregate-text text-requires same_length returns)

@@ -8,25 +8,25 @@ use Rattle.report.proofs.witnesses.put_pair.Tie as tie
 wide-requires : tie.Need-wide-requires
 wide-requires c κs = search rules
 
-field-requires : tie.Need-field-requires
+field-requires : tie.Need-field-next-requires
 field-requires c κs = search rules
 
 wide-requires-2 : tie.Need-wide-requires-2
 wide-requires-2 c κs = search rules
 
-field-requires-2 : tie.Need-field-requires-2
+field-requires-2 : tie.Need-field-requires
 field-requires-2 c κs = search rules
 
-same_length : tie.Need-same-length
+same_length : tie.Need-shape_of-out
 same_length c = search rules
 
 returns : tie.Need-returns
 returns c =
     let reached = c.before.before in
     let event = reached.before.before.before.before.before in
-    same (pair_same event.before.wide.ensures reached.before.wide2.ensures) (omega arith) (then event.field.ensures reached.field2.ensures)
+    same (pair_same event.before.wide.ensures reached.before.wide-2.ensures) (omega arith) (then event.field-next.ensures reached.field.ensures)
 
-pub put-pair-spec : {M : Type 1} → statement M
-put-pair-spec =
+pub put_pair_spec : {M : Type 1} → statement M
+put_pair_spec =
     tie.close
     (tie.spec wide-requires field-requires wide-requires-2 field-requires-2 same_length returns)

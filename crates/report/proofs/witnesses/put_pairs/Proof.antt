@@ -10,58 +10,58 @@ use Rattle.report.proofs.Pairing.{pairs_one, pairs_all}
 use Rattle.report.proofs.witnesses.put_pairs.Statement.{statement}
 use Rattle.report.proofs.witnesses.put_pairs.Tie as tie
 
-abbrev invariant-loop : tie.invariant-loop
+abbrev invariant-loop : tie.invariant-loop-i
 invariant-loop out₀ at pairs n i₀ next₀ out i next =
     (2 * n ≤ length pairs) × (length pairs ≤ 2 * n + 1) × (i ≤ n) × Wrote (22 * i) out₀ at (led 32 (pair_fields (take (2 * i) pairs))) out next
 
-abbrev decreases-loop : tie.decreases-loop
+abbrev decreases-loop : tie.decreases-loop-i
 decreases-loop out₀ at pairs n i₀ next₀ out i next = n - i
 
-loop-holds : tie.Need-loop-init invariant-loop decreases-loop
+loop-holds : tie.Need-loop-i-init invariant-loop decreases-loop
 loop-holds c = (omega arith, omega arith, omega arith, none)
 
-mul-first : tie.Need-overflow-mul-first invariant-loop decreases-loop
+mul-first : tie.Need-overflow_mul-first invariant-loop decreases-loop
 mul-first c = omega arith
 
-shared-slice-read-put-pair : tie.Need-shared-slice-read-put-pair invariant-loop decreases-loop
+shared-slice-read-put-pair : tie.Need-bounds-pairs-first invariant-loop decreases-loop
 shared-slice-read-put-pair c = omega arith
 
-add-put-pair : tie.Need-overflow-add-put-pair invariant-loop decreases-loop
+add-put-pair : tie.Need-overflow_add-first invariant-loop decreases-loop
 add-put-pair c = omega arith
 
-shared-slice-read-put-pair-2 : tie.Need-shared-slice-read-put-pair-2 invariant-loop decreases-loop
+shared-slice-read-put-pair-2 : tie.Need-bounds-pairs-first-in-loop-i invariant-loop decreases-loop
 shared-slice-read-put-pair-2 c = omega arith
 
-put-pair-requires : tie.Need-put-pair-requires invariant-loop decreases-loop
+put-pair-requires : tie.Need-put_pair-next-requires invariant-loop decreases-loop
 put-pair-requires c κs = omega arith
 
-add-i : tie.Need-overflow-add-i invariant-loop decreases-loop
+add-i : tie.Need-overflow_add-i invariant-loop decreases-loop
 add-i c = omega arith
 
-loop-less : tie.Need-loop-smaller invariant-loop decreases-loop
+loop-less : tie.Need-loop-i-smaller invariant-loop decreases-loop
 loop-less c = omega arith
 
-loop-again : tie.Need-loop-preserved invariant-loop decreases-loop
+loop-again : tie.Need-loop-i-preserved invariant-loop decreases-loop
 loop-again c =
     let at-loop = c.before.before.before.before.before.before.before in
     let l = at-loop.before.before.before.args.pairs.now in
-    let i = at-loop.loop.i in (
+    let i = at-loop.loop-i.i in (
       omega arith,
       omega arith,
       omega arith,
-      same (pairs_one l i (omega arith)) (omega arith) (then at-loop.loop.invariant.3 c.before.before.put-pair.ensures),
+      same (pairs_one l i (omega arith)) (omega arith) (then at-loop.loop-i.invariant.3 c.before.before.put_pair-next.ensures),
     )
 
-same_length : tie.Need-same-length invariant-loop decreases-loop
+same_length : tie.Need-shape_of-out invariant-loop decreases-loop
 same_length c = search rules
 
 returns : tie.Need-returns invariant-loop decreases-loop
 returns c =
     let l = c.before.before.before.before.args.pairs.now in
-    same (pairs_all l c.before.loop.i (omega arith) (omega arith)) (omega arith) c.before.loop.invariant.3
+    same (pairs_all l c.before.loop-i.i (omega arith) (omega arith)) (omega arith) c.before.loop-i.invariant.3
 
-pub put-pairs-spec : {M : Type 1} → statement M
-put-pairs-spec =
+pub put_pairs_spec : {M : Type 1} → statement M
+put_pairs_spec =
     tie.close
     (tie.spec
     invariant-loop

@@ -5,7 +5,7 @@ use Rattle.report.proofs.Pairing.{step_same}
 use Rattle.report.proofs.witnesses.put_step.Statement.{statement}
 use Rattle.report.proofs.witnesses.put_step.Tie as tie
 
-put-word-requires : tie.Need-put-word-requires
+put-word-requires : tie.Need-put_word-next-requires
 put-word-requires c κs = search rules
 
 wide-requires : tie.Need-wide-requires
@@ -14,7 +14,7 @@ wide-requires c κs = search rules
 field-requires : tie.Need-field-requires
 field-requires c κs = search rules
 
-same_length : tie.Need-same-length
+same_length : tie.Need-shape_of-out
 same_length c = search rules
 
 returns : tie.Need-returns
@@ -22,8 +22,8 @@ returns c =
     let step = c.before.before in
     let word = step.before.before.before.before.before in
     same (step_same word.before.before.before.args.notion step.before.wide.ensures) (omega arith)
-    (then word.put_word.ensures step.field.ensures)
+    (then word.put_word-next.ensures step.field.ensures)
 
-pub put-step-spec : {M : Type 1} → statement M
-put-step-spec =
+pub put_step_spec : {M : Type 1} → statement M
+put_step_spec =
     tie.close (tie.spec put-word-requires wide-requires field-requires same_length returns)

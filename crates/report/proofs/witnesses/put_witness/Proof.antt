@@ -7,22 +7,22 @@ use Rattle.report.proofs.Pairing.{witness_lined}
 use Rattle.report.proofs.witnesses.put_witness.Statement.{statement}
 use Rattle.report.proofs.witnesses.put_witness.Tie as tie
 
-put-step-requires : tie.Need-put-step-requires
+put-step-requires : tie.Need-put_step-a-requires
 put-step-requires c κs = search rules
 
 wide-requires : tie.Need-wide-requires
 wide-requires c κs = search rules
 
-field-requires : tie.Need-field-requires
+field-requires : tie.Need-field-b-requires
 field-requires c κs = search rules
 
-put-pairs-requires : tie.Need-put-pairs-requires
+put-pairs-requires : tie.Need-put_pairs-c-requires
 put-pairs-requires c κs = search rules
 
 put-requires : tie.Need-put-requires
 put-requires c κs = search rules
 
-same_length : tie.Need-same-length
+same_length : tie.Need-shape_of-out
 same_length c = search rules
 
 returns : tie.Need-returns
@@ -34,9 +34,9 @@ returns c =
     let stepped = wide.before.before.before.before in
     let a = stepped.before.before.before.before.args in
     same (witness_lined (word a.notion) (decimal a.k) wide.wide.ensures (pair_fields a.pairs.now)) (omega arith)
-    (then stepped.put_step.ensures (then started.field.ensures (then paired.put-pairs.ensures ended.put.ensures)))
+    (then stepped.put_step-a.ensures (then started.field-b.ensures (then paired.put_pairs-c.ensures ended.put.ensures)))
 
-pub put-witness-spec : {M : Type 1} → statement M
-put-witness-spec =
+pub put_witness_spec : {M : Type 1} → statement M
+put_witness_spec =
     tie.close
     (tie.spec put-step-requires wide-requires field-requires put-pairs-requires put-requires same_length returns)

@@ -6,7 +6,7 @@ use Rattle.report.proofs.Laws.{same}
 use Rattle.report.proofs.witnesses.put_word.Statement.{statement}
 use Rattle.report.proofs.witnesses.put_word.Tie as tie
 
-enum_told : tie.Need-enum-told
+enum_told : tie.Need-enum_told-1
 enum_told c = search rules
 
 slice-aggregate-text : tie.Need-slice-aggregate-text
@@ -15,29 +15,29 @@ slice-aggregate-text c = search rules
 text-requires : tie.Need-text-requires
 text-requires c κs = search rules
 
-enum-told-2 : tie.Need-enum-told-2
+enum-told-2 : tie.Need-enum_told-in-Strong
 enum-told-2 c = search rules
 
 slice-aggregate-text-2 : tie.Need-slice-aggregate-text-2
 slice-aggregate-text-2 c = search rules
 
-text-requires-2 : tie.Need-text-requires-2
+text-requires-2 : tie.Need-text-requires-in-Strong
 text-requires-2 c κs = search rules
 
-same_length : tie.Need-same-length
+same_length : tie.Need-shape_of-out-in-Weak
 same_length c = search rules
 
-returns : tie.Need-returns
-returns c = same (sym (ap word c.before.before.before.before.before.enum_told.given.1)) (omega arith) c.before.before.text.ensures
+returns : tie.Need-returns-in-Weak
+returns c = same (sym (ap word c.before.before.before.before.before.enum_told-1.given.1)) (omega arith) c.before.before.text.ensures
 
-same-length-2 : tie.Need-same-length-2
+same-length-2 : tie.Need-shape_of-out-in-Strong
 same-length-2 c = search rules
 
-returns-2 : tie.Need-returns-2
-returns-2 c = same (sym (ap word c.before.before.before.before.before.enum-told2.given.1)) (omega arith) c.before.before.text2.ensures
+returns-2 : tie.Need-returns-in-Strong
+returns-2 c = same (sym (ap word c.before.before.before.before.before.enum_told-in-Strong-1.given.1)) (omega arith) c.before.before.text-in-Strong.ensures
 
-pub put-word-spec : {M : Type 1} → statement M
-put-word-spec =
+pub put_word_spec : {M : Type 1} → statement M
+put_word_spec =
     tie.close
     (tie.spec
     enum_told

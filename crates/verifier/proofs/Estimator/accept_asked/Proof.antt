@@ -20,84 +20,84 @@ use Rattle.verifier.proofs.Estimator.accept_asked.Statement.{statement}
 use Rattle.verifier.proofs.Estimator.accept_asked.Tie as tie
 
 -- the ways back to where the call began, from the first test, from where the events are known that show the symbol, and from the second test
-abbrev tested : tie.Else1 → tie.Start
+abbrev tested : tie.Else-not-well_formed → tie.Start
 tested c = c.before.before.before
 
-abbrev begin : tie.After-events-with → tie.Start
+abbrev begin : tie.After-events_with-shown → tie.Start
 begin c = c.before.before.before.before.before.before.before.before
 
-abbrev first : tie.Else2 → tie.Else1
+abbrev first : tie.Else-shown-eq0 → tie.Else-not-well_formed
 first e = e.before.before.before.before.before.before
 
 -- the tests that were passed
-ok : (c : tie.Else1) → WellFormed (tested c).args.table.now (tested c).args.header × InLimits (tested c).args.header (tested c).args.t1
-ok c = holds c.before.well-formed-2.result (not-false _ c.if1.false) c.before.well-formed-2.ensures
+ok : (c : tie.Else-not-well_formed) → WellFormed (tested c).args.table.now (tested c).args.header × InLimits (tested c).args.header (tested c).args.t1
+ok c = holds c.before.well-formed-2.result (not-false _ c.if-not-well_formed.false) c.before.well-formed-2.ensures
 
 -- the events that show the symbol
-showing : (c : tie.After-events-with)
-    → Showing (automaton_of (begin c).args.table.now (begin c).args.header) (begin c).args.symbol c.events-with.result
+showing : (c : tie.After-events_with-shown)
+    → Showing (automaton_of (begin c).args.table.now (begin c).args.header) (begin c).args.symbol c.events_with-shown.result
 showing c =
-    c.events-with.ensures _ (ok c.before.before.before.before.before).0.symbols_small
+    c.events_with-shown.ensures _ (ok c.before.before.before.before.before).0.symbols_small
     (c.before.before.before.by-symbol.ensures (begin c).args.table.now)
 
-observed : (c : tie.Else2) → Observable (begin c.before).args.header (begin c.before).args.symbol
+observed : (c : tie.Else-shown-eq0) → Observable (begin c.before).args.header (begin c.before).args.symbol
 observed c =
     let a = (begin c.before).args in
-    some_observable a.table.now a.header _ _ (showing c.before) (omega arith) c.if2.false
+    some_observable a.table.now a.header _ _ (showing c.before) (omega arith) c.if-shown-eq0.false
 
-well-formed-requires : tie.Need-well-formed-requires
+well-formed-requires : tie.Need-well_formed-requires
 well-formed-requires c κs = search rules
 
 refused-requires : tie.Need-refused-requires
 refused-requires c κs = search rules
 
-returns : tie.Need-returns
+returns : tie.Need-returns-then-not-well_formed
 returns c =
     let r = c.refused.ensures in
     let s = c.before.before in
     refused_asked _ _ _ _ _ refusal.Malformed _ r.0 r.1
-    (Accepting.malformed (fails s.well-formed-2.result (not-true _ c.before.if1.true) s.well-formed-2.ensures))
+    (Accepting.malformed (fails s.well-formed-2.result (not-true _ c.before.if-not-well_formed.true) s.well-formed-2.ensures))
 
-slice-aggregate-by-symbol : tie.Need-slice-aggregate-by-symbol
+slice-aggregate-by-symbol : tie.Need-slice_bounds-by_symbol-end
 slice-aggregate-by-symbol c = search rules
 
-by-symbol-requires : tie.Need-by-symbol-requires
+by-symbol-requires : tie.Need-by_symbol-requires
 by-symbol-requires c κs = ((ok c.before).0.symbols_small, search rules)
 
-slice-aggregate-events-with : tie.Need-slice-aggregate-events-with
+slice-aggregate-events-with : tie.Need-slice_bounds-events_with-end
 slice-aggregate-events-with c = search rules
 
-events-with-requires : tie.Need-events-with-requires
+events-with-requires : tie.Need-events_with-shown-requires
 events-with-requires c κs = (c.before.before.by-symbol.ensures []).size
 
-refused-requires-2 : tie.Need-refused-requires-2
+refused-requires-2 : tie.Need-refused-requires-then-shown-eq0
 refused-requires-2 c κs = search rules
 
-returns-2 : tie.Need-returns-2
+returns-2 : tie.Need-returns-then-shown-eq0
 returns-2 c =
-    let r = c.refused2.ensures in
+    let r = c.refused-then-shown-eq0.ensures in
     let v = c.before.before in
     let o = ok v.before.before.before.before.before in
     let a = (begin v).args in
     refused_asked _ _ _ _ _ refusal.NotObservable _ r.0 r.1
-    (not_observable o.0 o.1 (none_observable a.table.now a.header _ _ (showing v) c.before.if2.true))
+    (not_observable o.0 o.1 (none_observable a.table.now a.header _ _ (showing v) c.before.if-shown-eq0.true))
 
-entered-requires : tie.Need-entered-requires
+entered-requires : tie.Need-entered-from-requires
 entered-requires c κs = search rules
 
-slice-aggregate-silent-rows : tie.Need-slice-aggregate-silent-rows
+slice-aggregate-silent-rows : tie.Need-slice_bounds-silent_rows-end
 slice-aggregate-silent-rows c = search rules
 
-silent-rows-requires : tie.Need-silent-rows-requires
+silent-rows-requires : tie.Need-silent_rows-near-requires
 silent-rows-requires c κs = ((ok c.before.before.before.before.before.before.before.before.before).0.words, known_none _ _)
 
-element-copy-out-newest : tie.Need-element-copy-out-newest
+element-copy-out-newest : tie.Need-bounds-self-0
 element-copy-out-newest c = search rules
 
-slice-aggregate-next-estimate : tie.Need-slice-aggregate-next-estimate
+slice-aggregate-next-estimate : tie.Need-slice_bounds-next_estimate-end
 slice-aggregate-next-estimate c = search rules
 
-next-estimate-requires : tie.Need-next-estimate-requires
+next-estimate-requires : tie.Need-next_estimate-next-requires
 next-estimate-requires c κs =
     let g = c.before.before.before in
     let f = g.before.before in
@@ -106,54 +106,54 @@ next-estimate-requires c κs =
       o.0.words,
       o.0.start,
       λ x i. ((showing e.before).sound x i).0,
-      gained_part _ _ _ _ _ (λ q i. f.entered.ensures 0 q (omega arith) i) g.silent-rows.ensures,
+      gained_part _ _ _ _ _ (λ q i. f.entered-from.ensures 0 q (omega arith) i) g.silent_rows-near.ensures,
     )
 
-enum-known-next : tie.Need-enum-known-next
+enum-known-next : tie.Need-enum_known-next
 enum-known-next c = search rules
 
-enum_told : tie.Need-enum-told
+enum_told : tie.Need-enum_told-1
 enum_told c = search rules
 
-refused-requires-3 : tie.Need-refused-requires-3
+refused-requires-3 : tie.Need-refused-requires-in_default
 refused-requires-3 c κs = search rules
 
-returns-3 : tie.Need-returns-3
+returns-3 : tie.Need-returns-in_default
 returns-3 c =
-    let r = c.refused3.ensures in
+    let r = c.refused-in_default.ensures in
     let e = c.before.before.before.before.before.before.before.before.before.before.before.before in
     let o = ok (first e) in
     refused_asked _ _ _ _ _ refusal.Incompatible _ r.0 r.1
     (incompatible o.0 o.1 (observed e)
-    (λ trace g. none_left (c.before.before.before.before.next-estimate.ensures _ (showing e.before)) c.before.enum_told.given.1 trace
+    (λ trace g. none_left (c.before.before.before.before.next_estimate-next.ensures _ (showing e.before)) c.before.enum_told-1.given.1 trace
     (grown_entry _ _ trace _ g)))
 
-look-back-requires : tie.Need-look-back-requires
+look-back-requires : tie.Need-look_back-k-requires
 look-back-requires c κs = search rules
 
-push-requires : tie.Need-push-requires
+push-requires : tie.Need-push-after-requires
 push-requires c κs =
     let e = c.before.before.before.before.before.before.before.before.before.before.before.before.before.before in
     let o = ok (first e) in
     let a = (begin e.before).args in
-    let K = c.look-back.ensures in (
-      omega (arith, K, look_back_small a.header a.t1.further o.0.back o.1.allowed),
+    let K = c.look_back-k.ensures in (
+      omega (arith, K, look_back_small a.header a.t1.further-1 o.0.back-1 o.1.allowed),
       observable_small a.table.now _ _ o.0 (observed e),
       subst (λ (n : ℕ). Limits n a.t1) (sym K) o.1,
     )
 
-slice-aggregate-assess : tie.Need-slice-aggregate-assess
+slice-aggregate-assess : tie.Need-slice_bounds-assess-end
 slice-aggregate-assess c =
     let e = c.before.before.before.before.before.before.before.before.before.before.before.before.before.before.before.before in
     sym (e.before.before.before.before.by-symbol.ensures []).size
 
-slice-aggregate-assess-2 : tie.Need-slice-aggregate-assess-2
+slice-aggregate-assess-2 : tie.Need-slice_bounds-assess-end-2
 slice-aggregate-assess-2 c = search rules
 
-slice-aggregate-assess-3 : tie.Need-slice-aggregate-assess-3
+slice-aggregate-assess-3 : tie.Need-slice_bounds-assess-end-3
 slice-aggregate-assess-3 c = search rules
 
-assess-requires : tie.Need-assess-requires
+assess-requires : tie.Need-assess-judgement-requires
 assess-requires c κs =
     let pushed = c.before.before.before in
     let k = pushed.before.before.before in
@@ -161,38 +161,38 @@ assess-requires c κs =
     let e = f.before.before in
     let o = ok (first e) in
     let a = (begin e.before).args in
-    let x = some_left (k.before.before.before.before.next-estimate.ensures _ (showing e.before)) k.before.next.given.1 in
+    let x = some_left (k.before.before.before.before.next_estimate-next.ensures _ (showing e.before)) k.before.next-1.given.1 in
     let near = k.before.before.before.before.before.before.before.before in
-    let after = pushed.push.ensures in (
+    let after = pushed.push-after.ensures in (
       record {
         well_formed = o.0;
-        limits = limits_as a.header a.t1 _ _ pushed.before.look-back.ensures after.0 after.1;
+        limits = limits_as a.header a.t1 _ _ pushed.before.look_back-k.ensures after.0 after.1;
         sets_are = e.before.before.before.before.by-symbol.ensures _;
         near = record {
           closed = x.estimated.closed;
-          inside = after.3 _ x.estimated.new (λ l q h i. x.estimated.old q (near.silent-rows.ensures.more q (f.entered.ensures l q h i)));
+          inside = after.3 _ x.estimated.new (λ l q h i. x.estimated.old q (near.silent_rows-near.ensures.more q (f.entered-from.ensures l q h i)));
         };
         reach = reach_as after.2 x.estimated.reach;
       },
       search rules,
     )
 
-returns-4 : tie.Need-returns-4
+returns-4 : tie.Need-returns
 returns-4 c =
     let pushed = c.before.before.before.before.before in
     let k = pushed.before.before.before in
     let e = k.before.before.before.before.before.before.before.before.before.before.before.before in
     let a = (begin e.before).args in
     let o = ok (first e) in
-    let x = some_left (k.before.before.before.before.next-estimate.ensures _ (showing e.before)) k.before.next.given.1 in
-    let after = pushed.push.ensures in
-    let moved : Moved a.table.now a.header a.t1 a.symbol c.before.assess.result.size pushed.push.result =
-    moved_by _ _ _ _ _ _ _ _ _ _ o.0 o.1 (observed e) x c.before.assess.ensures.1 pushed.before.look-back.ensures after.0 after.1
+    let x = some_left (k.before.before.before.before.next_estimate-next.ensures _ (showing e.before)) k.before.next-1.given.1 in
+    let after = pushed.push-after.ensures in
+    let moved : Moved a.table.now a.header a.t1 a.symbol c.before.assess-judgement.result.size pushed.push-after.result =
+    moved_by _ _ _ _ _ _ _ _ _ _ o.0 o.1 (observed e) x c.before.assess-judgement.ensures.1 pushed.before.look_back-k.ensures after.0 after.1
     (λ trace g E y. after.4 _ trace g E y) in
-    judged_by _ _ _ _ _ c.before.assess.result _ moved c.before.assess.ensures.0
+    judged_by _ _ _ _ _ c.before.assess-judgement.result _ moved c.before.assess-judgement.ensures.0
 
-pub accept-asked-spec : {M : Type 1} → statement M
-accept-asked-spec =
+pub accept_asked_spec : {M : Type 1} → statement M
+accept_asked_spec =
     tie.close
     (tie.spec
     well-formed-requires

@@ -7,17 +7,17 @@ use Rattle.verifier.proofs.Estimator.accept_by.Tie as tie
 ask-requires : tie.Need-ask-requires
 ask-requires c κs = search rules
 
-accept-asked-requires : tie.Need-accept-asked-requires
+accept-asked-requires : tie.Need-accept_asked-reply-requires
 accept-asked-requires c κs = search rules
 
-choose-answer-requires : tie.Need-choose-answer-requires
+choose-answer-requires : tie.Need-choose_answer-answer_by-requires
 choose-answer-requires c κs = search rules
 
 returns : tie.Need-returns
 returns c =
     let called = c.before.before in
-    rw c.choose-answer.ensures (asked_one _ _ _ _ _ _ called.accept-asked.result.answer called.accept-asked.result.estimator
-    called.before.ask.ensures called.accept-asked.ensures)
+    rw c.choose_answer-answer_by.ensures (asked_one _ _ _ _ _ _ called.accept_asked-reply.result.answer called.accept_asked-reply.result.estimator-1
+    called.before.ask.ensures called.accept_asked-reply.ensures)
 
-pub accept-by-spec : {M : Type 1} → statement M
-accept-by-spec = tie.close (tie.spec ask-requires accept-asked-requires choose-answer-requires returns)
+pub accept_by_spec : {M : Type 1} → statement M
+accept_by_spec = tie.close (tie.spec ask-requires accept-asked-requires choose-answer-requires returns)

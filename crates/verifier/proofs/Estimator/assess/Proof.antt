@@ -6,10 +6,10 @@ use Rattle.opacity.proofs.Numbering.{look_back_small}
 use Rattle.verifier.proofs.Estimator.assess.Statement.{statement}
 use Rattle.verifier.proofs.Estimator.assess.Tie as tie
 
-backward-rows-requires : tie.Need-backward-rows-requires
+backward-rows-requires : tie.Need-backward_rows-requires
 backward-rows-requires c κs = let x = c.before.before.before.before.before.requires in (x.0.near.closed.size, x.1)
 
-judge-all-requires : tie.Need-judge-all-requires
+judge-all-requires : tie.Need-judge_all-verdicts-requires
 judge-all-requires c κs =
     let u = c.before.before.before.before.before.before.before.before.before in
     let x = u.requires.0 in (
@@ -17,7 +17,7 @@ judge-all-requires c κs =
         limits = x.limits;
         prepared = record {
           words = x.well_formed.words;
-          few = omega (arith, x.limits.few, look_back_small u.args.header u.args.self.further x.well_formed.back x.limits.allowed);
+          few = omega (arith, x.limits.few, look_back_small u.args.header u.args.self.further x.well_formed.back-1 x.limits.allowed);
           looks = record {
             table_is = refl;
             start = x.well_formed.start;
@@ -31,11 +31,11 @@ judge-all-requires c κs =
       x.reach,
     )
 
-same_length : tie.Need-same-length
+same_length : tie.Need-shape_of-back
 same_length c = search rules
 
 returns : tie.Need-returns
-returns c = (c.judge-all.ensures, refl)
+returns c = (c.judge_all-verdicts.ensures, refl)
 
-pub assess-spec : {M : Type 1} → statement M
-assess-spec = tie.close (tie.spec backward-rows-requires judge-all-requires same_length returns)
+pub assess_spec : {M : Type 1} → statement M
+assess_spec = tie.close (tie.spec backward-rows-requires judge-all-requires same_length returns)

@@ -9,15 +9,15 @@ use Rattle.opacity.proofs.Numbering.{how_many, how_many_most}
 use Rattle.verifier.proofs.Estimator.judge_at.Statement.{statement}
 use Rattle.verifier.proofs.Estimator.judge_at.Tie as tie
 
-returns : tie.Need-returns
+returns : tie.Need-returns-then-self-i
 returns c =
     let s = c.before.before.before.before in
     record {
-      given = λ g. absurd (omega (arith, c.if1.true, how_many_most s.args.header s.args.self.further));
+      given = λ g. absurd (omega (arith, c.if-self-i.true, how_many_most s.args.header s.args.self.further-1));
       other = λ o. refl;
     }
 
-secret-at-requires : tie.Need-secret-at-requires
+secret-at-requires : tie.Need-secret_at-secret-requires
 secret-at-requires c κs = search rules
 
 judge-requires : tie.Need-judge-requires
@@ -27,18 +27,18 @@ judge-requires c κs =
       s.requires.2,
       s.requires.3,
       subst (λ (x : Secret). StrongGiven s.args.table.now s.args.header s.args.self s.args.asked x s.args.found)
-          (sym c.secret-at.ensures)
-          (s.requires.4 (omega (arith, c.before.before.if1.false))),
+          (sym c.secret_at-secret.ensures)
+          (s.requires.4 (omega (arith, c.before.before.if-self-i.false))),
     )
 
-returns-2 : tie.Need-returns-2
+returns-2 : tie.Need-returns
 returns-2 c =
     let s = c.before.before.before.before.before.before.before in
     record {
-      given = λ g. judged_of s.args.table.now s.args.header s.args.self _ _ s.args.asked c.judge.result c.before.secret-at.ensures
+      given = λ g. judged_of s.args.table.now s.args.header s.args.self _ _ s.args.asked c.judge.result c.before.secret_at-secret.ensures
           c.judge.ensures;
-      other = λ o. absurd (omega (arith, o, c.before.before.before.if1.false, how_many s.args.header s.args.self.further s.requires.1));
+      other = λ o. absurd (omega (arith, o, c.before.before.before.if-self-i.false, how_many s.args.header s.args.self.further-1 s.requires.1));
     }
 
-pub judge-at-spec : {M : Type 1} → statement M
-judge-at-spec = tie.close (tie.spec returns secret-at-requires judge-requires returns-2)
+pub judge_at_spec : {M : Type 1} → statement M
+judge_at_spec = tie.close (tie.spec returns secret-at-requires judge-requires returns-2)

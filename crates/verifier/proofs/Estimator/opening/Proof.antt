@@ -6,28 +6,28 @@ use Rattle.verifier.proofs.Judging.{opened_of}
 use Rattle.verifier.proofs.Estimator.opening.Statement.{statement}
 use Rattle.verifier.proofs.Estimator.opening.Tie as tie
 
-element-copy-out-entry : tie.Need-element-copy-out-entry
+element-copy-out-entry : tie.Need-bounds-self-0
 element-copy-out-entry c = search rules
 
-slice-aggregate-estimate-from : tie.Need-slice-aggregate-estimate-from
+slice-aggregate-estimate-from : tie.Need-slice_bounds-estimate_from-end
 slice-aggregate-estimate-from c = search rules
 
-estimate-from-requires : tie.Need-estimate-from-requires
+estimate-from-requires : tie.Need-estimate_from-estimate-requires
 estimate-from-requires c κs = let o = c.before.before.before.requires.0 in (o.words, o.start, known_none _ _)
 
-slice-aggregate-by-symbol : tie.Need-slice-aggregate-by-symbol
+slice-aggregate-by-symbol : tie.Need-slice_bounds-by_symbol-end
 slice-aggregate-by-symbol c = search rules
 
-by-symbol-requires : tie.Need-by-symbol-requires
+by-symbol-requires : tie.Need-by_symbol-requires
 by-symbol-requires c κs = (c.before.before.before.before.before.before.requires.0.symbols_small, search rules)
 
-slice-aggregate-assess : tie.Need-slice-aggregate-assess
+slice-aggregate-assess : tie.Need-slice_bounds-assess-end
 slice-aggregate-assess c = search rules
 
-slice-aggregate-assess-2 : tie.Need-slice-aggregate-assess-2
+slice-aggregate-assess-2 : tie.Need-slice_bounds-assess-end-2
 slice-aggregate-assess-2 c = search rules
 
-slice-aggregate-assess-3 : tie.Need-slice-aggregate-assess-3
+slice-aggregate-assess-3 : tie.Need-slice_bounds-assess-end-3
 slice-aggregate-assess-3 c = search rules
 
 assess-requires : tie.Need-assess-requires
@@ -40,8 +40,8 @@ assess-requires c κs =
         well_formed = so;
         limits = grown_limits _ _ _ _ g so.symbols_small;
         sets_are = c.before.before.before.before.by-symbol.ensures _;
-        near = record { closed = s.estimate-from.ensures.closed; inside = initial_inside _ _ _ _ g s.estimate-from.ensures.new };
-        reach = s.estimate-from.ensures.reach;
+        near = record { closed = s.estimate_from-estimate.ensures.closed; inside = initial_inside _ _ _ _ g s.estimate_from-estimate.ensures.new };
+        reach = s.estimate_from-estimate.ensures.reach;
       },
       search rules,
     )
@@ -49,10 +49,10 @@ assess-requires c κs =
 returns : tie.Need-returns
 returns c =
     let s = c.before.before.before.before.before.before.before.before.before in
-    opened_of _ _ _ _ _ _ _ _ s.before.before.before.before.requires.1 s.estimate-from.ensures c.before.assess.ensures
+    opened_of _ _ _ _ _ _ _ _ s.before.before.before.before.requires.1 s.estimate_from-estimate.ensures c.before.assess.ensures
 
-pub opening-spec : {M : Type 1} → statement M
-opening-spec =
+pub opening_spec : {M : Type 1} → statement M
+opening_spec =
     tie.close
     (tie.spec
     element-copy-out-entry

@@ -8,32 +8,32 @@ use Rattle.verifier.proofs.Judging.{not_both, judged_both, found_last}
 use Rattle.verifier.proofs.each_secret.judge.Statement.{statement}
 use Rattle.verifier.proofs.each_secret.judge.Tie as tie
 
-smaller-requires : tie.Need-smaller-requires
+smaller-requires : tie.Need-smaller-last-requires
 smaller-requires c κs = search rules
 
-first-secret-requires : tie.Need-first-secret-requires
+first-secret-requires : tie.Need-first_secret-weak-requires
 first-secret-requires c κs =
     let x = c.before.before.before.before.requires in
-    (x.1, omega (arith, c.before.smaller.ensures, x.0))
+    (x.1, omega (arith, c.before.smaller-last.ensures, x.0))
 
-up-to-requires : tie.Need-up-to-requires
+up-to-requires : tie.Need-up_to-strong-requires
 up-to-requires c κs = search rules
 
 returns : tie.Need-returns
 returns c =
-    let n = c.before.before.smaller.ensures in
+    let n = c.before.before.smaller-last.ensures in
     let a = c.before.before.before.before.before.args in
     let x = c.before.before.before.before.before.requires in
     judged_both _ a.header a.estimator a.secret a.asked _ _
     (record {
       found = λ asks. ⊎_elim (λ w. rw w.2 (found_last n (w.1.ensures _ _ _ _ (x.2 asks) (omega (arith, n)))))
-          (λ w. absurd (not_both _ asks w.0.left)) c.before.if1.branch;
-      silent = λ not. ⊎_elim (λ w. absurd (not w.0.taken)) (λ w. w.1) c.before.if1.branch;
+          (λ w. absurd (not_both _ asks w.0.left)) c.before.if-asked.branch;
+      silent = λ not. ⊎_elim (λ w. absurd (not w.0.taken)) (λ w. w.1) c.before.if-asked.branch;
     })
     (record {
       found = λ asks. found_last n (c.up_to_lem.ensures.1 Strong _ _ _ _ _ (omega (arith, n)) (x.3.found asks));
       silent = λ not. c.up_to_lem.ensures.0 (x.3.silent not);
     })
 
-pub judge-spec : {M : Type 1} → statement M
-judge-spec = tie.close (tie.spec smaller-requires first-secret-requires up-to-requires returns)
+pub judge_spec : {M : Type 1} → statement M
+judge_spec = tie.close (tie.spec smaller-requires first-secret-requires up-to-requires returns)

@@ -15,43 +15,43 @@ use Rattle.verifier.proofs.each_secret.judge_alone.Tie as tie
 all : (s : tie.Start) → s.args.estimator.count ≡ min s.args.header.k s.args.estimator.count
 all s = omega (arith, s.requires.0.limits.few, back_none s.args.header s.args.estimator.further s.requires.2)
 
-remembered-of-requires : tie.Need-remembered-of-requires
+remembered-of-requires : tie.Need-remembered_of-remembered-requires
 remembered-of-requires c κs = search rules
 
-weak-verdict-requires : tie.Need-weak-verdict-requires
+weak-verdict-requires : tie.Need-weak_verdict-weak-requires
 weak-verdict-requires c κs =
     let x = c.before.before.before.before.before.before.requires in
-    rw c.before.remembered-of.ensures (x.0.prepared, x.1)
+    rw c.before.remembered_of-remembered.ensures (x.0.prepared, x.1)
 
-strong-verdict-requires : tie.Need-strong-verdict-requires
-strong-verdict-requires c κs = rw c.before.before.remembered-of.ensures c.before.before.before.before.before.before.before.requires.0.prepared
+strong-verdict-requires : tie.Need-strong_verdict-strong-requires
+strong-verdict-requires c κs = rw c.before.before.remembered_of-remembered.ensures c.before.before.before.before.before.before.before.requires.0.prepared
 
-returns : tie.Need-returns
+returns : tie.Need-returns-then-asked-2
 returns c =
     let r = c.before.before.before in
     let s = r.before.before.before.before.before in
     judged_both _ s.args.header s.args.estimator (own s.args.header) s.args.asked _ _
     (record {
-      found = λ asks. ⊎_elim (λ w. rw w.2 (found_last (all s) (found_of s.args.estimator r.remembered-of.ensures w.1.ensures)))
-          (λ w. absurd (not_both _ asks w.0.left)) c.before.before.if1.branch;
-      silent = λ not. ⊎_elim (λ w. absurd (not w.0.taken)) (λ w. w.1) c.before.before.if1.branch;
+      found = λ asks. ⊎_elim (λ w. rw w.2 (found_last (all s) (found_of s.args.estimator r.remembered_of-remembered.ensures w.1.ensures)))
+          (λ w. absurd (not_both _ asks w.0.left)) c.before.before.if-asked.branch;
+      silent = λ not. ⊎_elim (λ w. absurd (not w.0.taken)) (λ w. w.1) c.before.before.if-asked.branch;
     })
     (record {
-      found = λ asks. found_last (all s) (found_of s.args.estimator r.remembered-of.ensures c.strong-verdict.ensures);
-      silent = λ not. absurd (not c.before.if2.true);
+      found = λ asks. found_last (all s) (found_of s.args.estimator r.remembered_of-remembered.ensures c.strong_verdict-strong.ensures);
+      silent = λ not. absurd (not c.before.if-asked-2.true);
     })
 
-returns-2 : tie.Need-returns-2
+returns-2 : tie.Need-returns-else-asked-2
 returns-2 c =
     let r = c.before.before in
     let s = r.before.before.before.before.before in
     judged_both _ s.args.header s.args.estimator (own s.args.header) s.args.asked _ _
     (record {
-      found = λ asks. ⊎_elim (λ w. rw w.2 (found_last (all s) (found_of s.args.estimator r.remembered-of.ensures w.1.ensures)))
-          (λ w. absurd (not_both _ asks w.0.left)) c.before.if1.branch;
-      silent = λ not. ⊎_elim (λ w. absurd (not w.0.taken)) (λ w. w.1) c.before.if1.branch;
+      found = λ asks. ⊎_elim (λ w. rw w.2 (found_last (all s) (found_of s.args.estimator r.remembered_of-remembered.ensures w.1.ensures)))
+          (λ w. absurd (not_both _ asks w.0.left)) c.before.if-asked.branch;
+      silent = λ not. ⊎_elim (λ w. absurd (not w.0.taken)) (λ w. w.1) c.before.if-asked.branch;
     })
-    (record { found = λ asks. absurd (not_both _ asks c.if2.false); silent = λ not. refl })
+    (record { found = λ asks. absurd (not_both _ asks c.if-asked-2.false); silent = λ not. refl })
 
-pub judge-alone-spec : {M : Type 1} → statement M
-judge-alone-spec = tie.close (tie.spec remembered-of-requires weak-verdict-requires strong-verdict-requires returns returns-2)
+pub judge_alone_spec : {M : Type 1} → statement M
+judge_alone_spec = tie.close (tie.spec remembered-of-requires weak-verdict-requires strong-verdict-requires returns returns-2)

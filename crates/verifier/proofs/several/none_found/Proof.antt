@@ -7,5 +7,5 @@ use Rattle.verifier.proofs.several.none_found.Tie as tie
 returns : tie.Need-returns
 returns c = four _ refl refl refl refl
 
-pub none-found-spec : {M : Type 1} → statement M
-none-found-spec = tie.close (tie.spec returns)
+pub none_found_spec : {M : Type 1} → statement M
+none_found_spec = tie.close (tie.spec returns)

@@ -9,20 +9,20 @@ use Rattle.opacity.specs.declared.Secret.{Secret}
 use Rattle.verifier.proofs.several.outside_secret.Statement.{statement}
 use Rattle.verifier.proofs.several.outside_secret.Tie as tie
 
-returns : tie.Need-returns
-returns c = (λ past. refl, λ given. absurd (omega (arith, c.if1.true)))
+returns : tie.Need-returns-then-further-i
+returns c = (λ past. refl, λ given. absurd (omega (arith, c.if-further-i.true)))
 
-secret-at-requires : tie.Need-secret-at-requires
+secret-at-requires : tie.Need-secret_at-secret-requires
 secret-at-requires c κs = search rules
 
-returns-2 : tie.Need-returns-2
+returns-2 : tie.Need-returns
 returns-2 c = (
-  λ past. absurd (omega (arith, c.before.before.if1.false)),
+  λ past. absurd (omega (arith, c.before.before.if-further-i.false)),
   λ given. (
-    subst (λ (x : Secret). x.states < 2 ^ 64) c.before.secret-at.ensures (search rules),
-    ap (λ (x : Secret). bit_and c.before.before.before.before.args.states (complement x.states)) c.before.secret-at.ensures,
+    subst (λ (x : Secret). x.states < 2 ^ 64) c.before.secret_at-secret.ensures (search rules),
+    ap (λ (x : Secret). bit_and c.before.before.before.before.args.states (complement x.states)) c.before.secret_at-secret.ensures,
   ),
 )
 
-pub outside-secret-spec : {M : Type 1} → statement M
-outside-secret-spec = tie.close (tie.spec returns secret-at-requires returns-2)
+pub outside_secret_spec : {M : Type 1} → statement M
+outside_secret_spec = tie.close (tie.spec returns secret-at-requires returns-2)

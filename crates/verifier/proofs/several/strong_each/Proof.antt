@@ -13,50 +13,50 @@ use Rattle.relation.proofs.FourSets.{four}
 use Rattle.verifier.proofs.several.strong_each.Statement.{statement}
 use Rattle.verifier.proofs.several.strong_each.Tie as tie
 
-none-found-requires : tie.Need-none-found-requires
+none-found-requires : tie.Need-none_found-requires
 none-found-requires c κs = search rules
 
-returns : tie.Need-returns
+returns : tie.Need-returns-then-not-asked
 returns c i h given =
-    record { found = λ asks. absurd (not_both _ asks (not-true _ c.before.if1.true)); silent = λ not. c.none_found.ensures i h }
+    record { found = λ asks. absurd (not_both _ asks (not-true _ c.before.if-not-asked.true)); silent = λ not. c.none_found.ensures i h }
 
-outside-secret-requires : tie.Need-outside-secret-requires
+outside-secret-requires : tie.Need-outside_secret-requires
 outside-secret-requires c κs = search rules
 
-outside-secret-requires-2 : tie.Need-outside-secret-requires-2
+outside-secret-requires-2 : tie.Need-outside_secret-requires-2
 outside-secret-requires-2 c κs = search rules
 
-outside-secret-requires-3 : tie.Need-outside-secret-requires-3
+outside-secret-requires-3 : tie.Need-outside_secret-requires-3
 outside-secret-requires-3 c κs = search rules
 
-outside-secret-requires-4 : tie.Need-outside-secret-requires-4
+outside-secret-requires-4 : tie.Need-outside_secret-requires-4
 outside-secret-requires-4 c κs = search rules
 
-strong-verdicts-requires : tie.Need-strong-verdicts-requires
+strong-verdicts-requires : tie.Need-strong_verdicts-requires
 strong-verdicts-requires c κs = search rules
 
-returns-2 : tie.Need-returns-2
+returns-2 : tie.Need-returns
 returns-2 c i h given =
     let s = c.before.before.before.before.before.before.before.before.before.before.before.before in
-    let cs = secrets_of s.args.header s.args.estimator.further in
+    let cs = secrets_of s.args.header s.args.estimator.further-1 in
     let clear : StateSets =
     record {
       own = c.before.before.before.before.outside-secret.result;
-      first = c.before.before.before.outside-secret2.result;
-      second = c.before.before.outside-secret3.result;
-      third = c.before.outside-secret4.result;
+      first = c.before.before.before.outside_secret-2.result;
+      second = c.before.before.outside_secret-3.result;
+      third = c.before.outside_secret-4.result;
     } in
-    let x = four (λ j. j ≤ s.args.estimator.further.count → ((secret_at cs j).states < 2 ^ 64)
+    let x = four (λ j. j ≤ s.args.estimator.further-1.count → ((secret_at cs j).states < 2 ^ 64)
     × (set_at clear j ≡ bit_and s.args.states (complement (secret_at cs j).states)))
-    c.before.before.before.before.outside-secret.ensures.1 c.before.before.before.outside-secret2.ensures.1
-    c.before.before.outside-secret3.ensures.1 c.before.outside-secret4.ensures.1 i h given in
+    c.before.before.before.before.outside-secret.ensures.1 c.before.before.before.outside_secret-2.ensures.1
+    c.before.before.outside_secret-3.ensures.1 c.before.outside_secret-4.ensures.1 i h given in
     record {
       found = λ asks. c.strong-verdicts.ensures i (secret_at cs i).states h x.0 x.1;
-      silent = λ not. absurd (not (not-false _ c.before.before.before.before.before.before.if1.false));
+      silent = λ not. absurd (not (not-false _ c.before.before.before.before.before.before.if-not-asked.false));
     }
 
-pub strong-each-spec : {M : Type 1} → statement M
-strong-each-spec =
+pub strong_each_spec : {M : Type 1} → statement M
+strong_each_spec =
     tie.close
     (tie.spec
     none-found-requires

@@ -38,7 +38,7 @@ invariant-steps table sets silent back states clear symbols entries last then₀
 abbrev decreases-steps : tie.decreases-steps
 decreases-steps table sets silent back states clear symbols entries last then₀ found₀ l₀ then found l = last - l
 
-none-found-requires : tie.Need-none-found-requires invariant-steps decreases-steps
+none-found-requires : tie.Need-none_found-found-requires invariant-steps decreases-steps
 none-found-requires c κs = search rules
 
 steps-holds : tie.Need-steps-init invariant-steps decreases-steps
@@ -47,12 +47,12 @@ steps-holds c =
       λ i secret h small e. (
         omega (arith, e, and_le_r a.args.states (complement secret)),
         λ p trace g m. (
-          subst (λ (v : Verdict). Searched Strong p (secret_of secret a.args.estimator.count) trace 0 v) (sym (c.none_found.ensures i h))
+          subst (λ (v : Verdict). Searched Strong p (secret_of secret a.args.estimator.count) trace 0 v) (sym (c.none_found-found.ensures i h))
               (below_start Strong p (secret_of secret a.args.estimator.count) trace),
           subst (λ (x : ℕ). Follows p (bit_and a.args.states (complement secret)) trace 0 x) (sym e) (follows_start p _ trace),
         ),
       ),
-      λ i h. subst (λ (v : Verdict). Bounded a.args.estimator.count (steps_of v)) (sym (c.none_found.ensures i h)) tt,
+      λ i h. subst (λ (v : Verdict). Bounded a.args.estimator.count (steps_of v)) (sym (c.none_found-found.ensures i h)) tt,
       omega arith,
       a.requires.few,
     )
@@ -62,22 +62,22 @@ steps-holds c =
 abbrev begin : tie.At-steps invariant-steps decreases-steps → tie.Start invariant-steps decreases-steps
 begin s = s.before.before.before.before.before.before.before.before
 
-cast-at : tie.Need-overflow-cast-at invariant-steps decreases-steps
+cast-at : tie.Need-overflow_cast-at invariant-steps decreases-steps
 cast-at c = search rules
 
-mul-entry : tie.Need-overflow-mul-entry invariant-steps decreases-steps
+mul-entry : tie.Need-offset_bounds-entries-at invariant-steps decreases-steps
 mul-entry c = omega arith
 
-array-read-entry : tie.Need-array-read-entry invariant-steps decreases-steps
+array-read-entry : tie.Need-bounds-entries-at invariant-steps decreases-steps
 array-read-entry c = omega arith
 
-with-steps-requires : tie.Need-with-steps-requires invariant-steps decreases-steps
+with-steps-requires : tie.Need-with_steps-found-requires invariant-steps decreases-steps
 with-steps-requires c κs = search rules
 
 -- an automaton for which holds what was prepared for this call
 abbrev Good : tie.At-steps invariant-steps decreases-steps → Automaton → Type 0
 Good u p =
-    Looks p (begin u).args.table.now (begin u).args.sets.now (begin u).args.estimator.entries (begin u).args.silent.now (begin u).args.back.now
+    Looks p (begin u).args.table.now (begin u).args.sets.now (begin u).args.estimator.entries-1 (begin u).args.silent.now (begin u).args.back.now
     (begin u).args.states (begin u).args.estimator.count
 
 -- what holds for each of these and each trace that is remembered
@@ -85,28 +85,28 @@ abbrev Each : tie.At-steps invariant-steps decreases-steps → (Automaton → Li
 Each u =
     ForTraces (begin u).args.table.now (begin u).args.sets.now (begin u).args.silent.now (begin u).args.back.now (begin u).args.states
     (begin u).args.estimator.count
-    (begin u).args.estimator.symbols (begin u).args.estimator.entries
+    (begin u).args.estimator.symbols-1 (begin u).args.estimator.entries-1
 
 -- step l is tested for the secret at an arbitrary place
-tested : (c : tie.After-with-steps invariant-steps decreases-steps) (i secret : ℕ) → i < 4 → secret < 2 ^ 64
+tested : (c : tie.After-with_steps-found invariant-steps decreases-steps) (i secret : ℕ) → i < 4 → secret < 2 ^ 64
     → set_at (begin c.before).args.clear i ≡ bit_and (begin c.before).args.states (complement secret) → Each c.before (λ p trace.
-    Searched Strong p (secret_of secret (begin c.before).args.estimator.count) trace (c.before.steps.l + 1) (verdict_at c.with-steps.result i))
+    Searched Strong p (secret_of secret (begin c.before).args.estimator.count) trace (c.before.steps.l + 1) (verdict_at c.with_steps-found.result i))
 tested c i secret h small e p trace g m =
     let s = c.before.steps in
     let a = (begin c.before).args in
     let x = (s.invariant.0 i secret h small e).1 p trace g m in
     let E = m.entries_are s.l s.invariant.2 in
-    searched_step Strong p (secret_of secret a.estimator.count) trace s.l _ _ _ _ (c.with-steps.ensures i h) s.invariant.2 m.reached
+    searched_step Strong p (secret_of secret a.estimator.count) trace s.l _ _ _ _ (c.with_steps-found.ensures i h) s.invariant.2 m.reached
     (strong_sure p secret trace _ s.l a.states _ _ small s.invariant.2 E x.1 (remembers_inside _ trace _ _ _ _ _ s.invariant.3 g.near m) g.start)
     (strong_clear p secret trace _ s.l a.states _ _ small s.invariant.2 E x.1 (s.invariant.0 i secret h small e).0) x.0
 
-bounded : (c : tie.After-with-steps invariant-steps decreases-steps) (i : ℕ) → i < 4 → Bounded (begin c.before).args.estimator.count
-    (steps_of (verdict_at c.with-steps.result i))
-bounded c i h = searched_bounded (c.with-steps.ensures i h) c.before.steps.invariant.2 (c.before.steps.invariant.1 i h)
+bounded : (c : tie.After-with_steps-found invariant-steps decreases-steps) (i : ℕ) → i < 4 → Bounded (begin c.before).args.estimator.count
+    (steps_of (verdict_at c.with_steps-found.result i))
+bounded c i h = searched_bounded (c.with_steps-found.ensures i h) c.before.steps.invariant.2 (c.before.steps.invariant.1 i h)
 
 -- Exit: step l is the last one
 
-returns : tie.Need-returns invariant-steps decreases-steps
+returns : tie.Need-returns-then-l-last invariant-steps decreases-steps
 returns c i secret h small e =
     let a = begin c.before.before in
     record {
@@ -114,26 +114,26 @@ returns c i secret h small e =
       exact = λ trace m.
           searched_end Strong (automaton_of a.args.table.now a.args.header) (secret_of secret a.args.estimator.count) trace
           c.before.before.steps.l
-          (verdict_at c.before.with-steps.result i) (omega arith) (tested c.before i secret h small e _ trace a.pre.looks m);
+          (verdict_at c.before.with_steps-found.result i) (omega arith) (tested c.before i secret h small e _ trace a.pre.looks m);
     }
 
 -- the events that show the symbol before
-showing : (c : tie.After-events-with invariant-steps decreases-steps) (p : Automaton) → Good c.before.before.before p
-    → Showing p (get_or (begin c.before.before.before).args.estimator.symbols c.before.before.before.steps.l 0) c.events-with.result
-showing c p g = c.events-with.ensures p g.symbols_small g.sets_are
+showing : (c : tie.After-events_with-shown invariant-steps decreases-steps) (p : Automaton) → Good c.before.before.before p
+    → Showing p (get_or (begin c.before.before.before).args.estimator.symbols-1 c.before.before.before.steps.l 0) c.events_with-shown.result
+showing c p g = c.events_with-shown.ensures p g.symbols_small g.sets_are
 
-array-read-events-with : tie.Need-array-read-events-with invariant-steps decreases-steps
+array-read-events-with : tie.Need-bounds-symbols-at invariant-steps decreases-steps
 array-read-events-with c = omega arith
 
-events-with-requires : tie.Need-events-with-requires invariant-steps decreases-steps
+events-with-requires : tie.Need-events_with-shown-requires invariant-steps decreases-steps
 events-with-requires c κs = (begin c.before.before).pre.looks.sets_are.size
 
-backward-reaches-requires : tie.Need-backward-reaches-requires invariant-steps decreases-steps
+backward-reaches-requires : tie.Need-backward_reaches-then-requires invariant-steps decreases-steps
 backward-reaches-requires c κs =
     let a = begin c.before.before.before in
     (a.pre.words, (a.pre.looks.back_are (omega arith)).size, λ e i. ((showing c _ a.pre.looks).sound e i).0)
 
-add-l : tie.Need-overflow-add-l invariant-steps decreases-steps
+add-l : tie.Need-overflow_add-l invariant-steps decreases-steps
 add-l c = omega arith
 
 steps-less : tie.Need-steps-smaller invariant-steps decreases-steps
@@ -144,13 +144,13 @@ steps-again c =
     let a = (begin c.before.before.before.before).args in
     let s = c.before.before.before.before.steps in (
       λ i secret h small e. (
-        four (λ j. set_at c.backward-reaches.result j < 2 ^ 64) (search rules) (search rules) (search rules) (search rules) i h,
+        four (λ j. set_at c.backward_reaches-then.result j < 2 ^ 64) (search rules) (search rules) (search rules) (search rules) i h,
         λ p trace g m. (
           tested c.before.before.before i secret h small e p trace g m,
           follows_step p _ trace _ _ _ _ _ m (omega arith)
-              (subst (λ (x : ℕ). Is (set_at c.backward-reaches.result i)
-              (Leaves p x (get_or a.estimator.symbols s.l 0 ∷ drop (length trace - s.l) trace))) e
-              (c.backward-reaches.ensures i p _ _ h g.table_is (showing c.before p g) (g.back_are (omega arith))
+              (subst (λ (x : ℕ). Is (set_at c.backward_reaches-then.result i)
+              (Leaves p x (get_or a.estimator.symbols-1 s.l 0 ∷ drop (length trace - s.l) trace))) e
+              (c.backward_reaches-then.ensures i p _ _ h g.table_is (showing c.before p g) (g.back_are (omega arith))
               (λ q j. (in_and q a.states (complement secret) (subst (λ (x : ℕ). In q x) e j)).0)
               (subst (λ (x : ℕ). Is (set_at s.then i) (Leaves p x (drop (length trace - s.l) trace))) (sym e)
               ((s.invariant.0 i secret h small e).1 p trace g m).1))),
@@ -161,8 +161,8 @@ steps-again c =
       s.invariant.3,
     )
 
-pub strong-verdicts-spec : {M : Type 1} → statement M
-strong-verdicts-spec =
+pub strong_verdicts_spec : {M : Type 1} → statement M
+strong_verdicts_spec =
     tie.close
     (tie.spec invariant-steps decreases-steps none-found-requires steps-holds cast-at mul-entry array-read-entry with-steps-requires returns array-read-events-with
     events-with-requires backward-reaches-requires add-l

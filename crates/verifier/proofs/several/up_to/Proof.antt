@@ -43,34 +43,34 @@ leak_not l e = subst IsLeak e tt
     IsLeak NoLeak = ⊥
     IsLeak (Leak m) = Unit {0}
 
-enum_told : tie.Need-enum-told
+enum_told : tie.Need-enum_told-1
 enum_told c = search rules
 
-enum-known-found : tie.Need-enum-known-found
+enum-known-found : tie.Need-enum_known-found
 enum-known-found c = search rules
 
-returns : tie.Need-returns
+returns : tie.Need-returns-then-last-l
 returns c = (
   λ e. refl,
   λ notion p secret n symbols entries few f.
-      cut_past notion p secret n _ symbols entries few _ (omega (arith, c.if1.true))
-      (subst (λ (v : Verdict). Found notion p (secret_of secret n) n symbols entries v) c.before.before.found.given.1 f),
+      cut_past notion p secret n _ symbols entries few _ (omega (arith, c.if-last-l.true))
+      (subst (λ (v : Verdict). Found notion p (secret_of secret n) n symbols entries v) c.before.before.found-1.given.1 f),
 )
 
-returns-2 : tie.Need-returns-2
+returns-2 : tie.Need-returns-in-NoLeak
 returns-2 c = (
   λ e. refl,
   λ notion p secret n symbols entries few f. cut_none notion p secret n _ symbols entries few
-      (subst (λ (v : Verdict). Found notion p (secret_of secret n) n symbols entries v) c.enum_told.given.1 f),
+      (subst (λ (v : Verdict). Found notion p (secret_of secret n) n symbols entries v) c.enum_told-1.given.1 f),
 )
 
-returns-3 : tie.Need-returns-3
+returns-3 : tie.Need-returns-else-last-l
 returns-3 c = (
-  λ e. absurd (leak_not _ (sym c.before.before.found.given.1 ∙ e)),
+  λ e. absurd (leak_not _ (sym c.before.before.found-1.given.1 ∙ e)),
   λ notion p secret n symbols entries few f.
-      cut_leak notion p secret n _ symbols entries few _ (omega (arith, c.if1.false))
-      (subst (λ (v : Verdict). Found notion p (secret_of secret n) n symbols entries v) c.before.before.found.given.1 f),
+      cut_leak notion p secret n _ symbols entries few _ (omega (arith, c.if-last-l.false))
+      (subst (λ (v : Verdict). Found notion p (secret_of secret n) n symbols entries v) c.before.before.found-1.given.1 f),
 )
 
-pub up-to-spec : {M : Type 1} → statement M
-up-to-spec = tie.close (tie.spec enum_told enum-known-found returns returns-2 returns-3)
+pub up_to_spec : {M : Type 1} → statement M
+up_to_spec = tie.close (tie.spec enum_told enum-known-found returns returns-2 returns-3)

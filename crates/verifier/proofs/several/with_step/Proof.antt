@@ -4,20 +4,20 @@ use Rattle.verifier.specs.Inner.{stays, leaks, clears}
 use Rattle.verifier.proofs.several.with_step.Statement.{statement}
 use Rattle.verifier.proofs.several.with_step.Tie as tie
 
-enum-known-found : tie.Need-enum-known-found
+enum-known-found : tie.Need-enum_known-found
 enum-known-found c = search rules
 
-enum_told : tie.Need-enum-told
+enum_told : tie.Need-enum_told-1
 enum_told c = search rules
 
-returns : tie.Need-returns
-returns c = rw c.before.enum_told.given.1 (leaks c.if1.true)
+returns : tie.Need-returns-then-entry-then-eq0
+returns c = rw c.before.enum_told-1.given.1 (leaks c.if-entry-then-eq0.true)
 
-returns-2 : tie.Need-returns-2
-returns-2 c = rw c.before.found.given.1 stays
+returns-2 : tie.Need-returns-in-Leak
+returns-2 c = rw c.before.found-1.given.1 stays
 
-returns-3 : tie.Need-returns-3
-returns-3 c = rw c.before.enum_told.given.1 (clears c.if1.false)
+returns-3 : tie.Need-returns-else-entry-then-eq0
+returns-3 c = rw c.before.enum_told-1.given.1 (clears c.if-entry-then-eq0.false)
 
-pub with-step-spec : {M : Type 1} → statement M
-with-step-spec = tie.close (tie.spec enum-known-found enum_told returns returns-2 returns-3)
+pub with_step_spec : {M : Type 1} → statement M
+with_step_spec = tie.close (tie.spec enum-known-found enum_told returns returns-2 returns-3)

@@ -16,117 +16,117 @@ use Rattle.witness.proofs.Scanning.{read_no_transition, read_outside, read_wrong
 use Rattle.witness.proofs.checker.is_run.Statement.{statement}
 use Rattle.witness.proofs.checker.is_run.Tie as tie
 
-abbrev invariant-loop : tie.invariant-loop
+abbrev invariant-loop : tie.invariant-loop-at
 invariant-loop table observable symbols last k allowed start pairs q₀ left₀ at₀ q left at = (at ≤ length pairs) × (left ≤ k)
     × ((initial : ℕ) → Reading (automaton_with table initial observable symbols) allowed (recent k last) start pairs (recent left last) q (drop at pairs))
 
-abbrev decreases-loop : tie.decreases-loop
+abbrev decreases-loop : tie.decreases-loop-at
 decreases-loop table observable symbols last k allowed start pairs q₀ left₀ at₀ q left at = length pairs - at
 
 -- the bytes at the place, where two are left
-pair : (c : tie.Else1 invariant-loop decreases-loop)
-    → ◌≡◌ {A = List ℕ} (drop c.before.before.loop.at c.before.before.before.before.before.args.pairs.now)
-    (get_or c.before.before.before.before.before.args.pairs.now c.before.before.loop.at 0
-    ∷ get_or c.before.before.before.before.before.args.pairs.now (c.before.before.loop.at + 1) 0
-    ∷ drop (c.before.before.loop.at + 2) c.before.before.before.before.before.args.pairs.now)
+pair : (c : tie.Else-pairs-at-lt2 invariant-loop decreases-loop)
+    → ◌≡◌ {A = List ℕ} (drop c.before.before.loop-at.at c.before.before.before.before.before.args.pairs.now)
+    (get_or c.before.before.before.before.before.args.pairs.now c.before.before.loop-at.at 0
+    ∷ get_or c.before.before.before.before.before.args.pairs.now (c.before.before.loop-at.at + 1) 0
+    ∷ drop (c.before.before.loop-at.at + 2) c.before.before.before.before.before.args.pairs.now)
 pair c =
-    let l = c.before.before.loop in
-    pair-at c.before.before.before.before.before.args.pairs.now l.at (omega (arith, c.if1.false, c.before.loop-test.true))
+    let l = c.before.before.loop-at in
+    pair-at c.before.before.before.before.before.args.pairs.now l.at (omega (arith, c.if-pairs-at-lt2.false, c.before.loop-at-test.true))
 
-loop-holds : tie.Need-loop-init invariant-loop decreases-loop
+loop-holds : tie.Need-loop-at-init invariant-loop decreases-loop
 loop-holds c = (omega arith, omega arith, λ initial. read_start _ _ _ _ _)
 
-sub-if1 : tie.Need-overflow-sub-if1 invariant-loop decreases-loop
-sub-if1 c = c.before.loop.invariant.0
+sub-if1 : tie.Need-overflow_sub-pairs invariant-loop decreases-loop
+sub-if1 c = c.before.loop-at.invariant.0
 
-returns : tie.Need-returns invariant-loop decreases-loop
+returns : tie.Need-returns-then-pairs-at-lt2 invariant-loop decreases-loop
 returns c = λ initial.
-    let l = c.before.before.loop in
+    let l = c.before.before.loop-at in
     let pairs = c.before.before.before.before.before.args.pairs.now in
-    read_odd _ _ _ _ _ _ _ _ (l.invariant.2 initial) (omega (arith, c.if1.true, c.before.loop-test.true, length-drop l.at pairs))
+    read_odd _ _ _ _ _ _ _ _ (l.invariant.2 initial) (omega (arith, c.if-pairs-at-lt2.true, c.before.loop-at-test.true, length-drop l.at pairs))
 
-shared-slice-read-event : tie.Need-shared-slice-read-event invariant-loop decreases-loop
+shared-slice-read-event : tie.Need-bounds-pairs-at invariant-loop decreases-loop
 shared-slice-read-event c = omega arith
 
-add-to : tie.Need-overflow-add-to invariant-loop decreases-loop
+add-to : tie.Need-overflow_add-to invariant-loop decreases-loop
 add-to c = omega arith
 
-shared-slice-read-to : tie.Need-shared-slice-read-to invariant-loop decreases-loop
+shared-slice-read-to : tie.Need-bounds-pairs-at-in-loop-at invariant-loop decreases-loop
 shared-slice-read-to c = omega arith
 
 transition-requires : tie.Need-transition-requires invariant-loop decreases-loop
 transition-requires c κs = c.before.before.before.before.before.before.before.requires.0
 
-returns-2 : tie.Need-returns-2 invariant-loop decreases-loop
+returns-2 : tie.Need-returns-then-not-transition invariant-loop decreases-loop
 returns-2 c = λ initial.
     let e = c.before.before.before.before in
-    read_no_transition _ _ _ _ _ _ _ _ (e.before.before.loop.invariant.2 initial) _ _ _ (pair e)
-    (fails c.before.transition.result (not-true _ c.if2.true) c.before.transition.ensures)
+    read_no_transition _ _ _ _ _ _ _ _ (e.before.before.loop-at.invariant.2 initial) _ _ _ (pair e)
+    (fails c.before.transition.result (not-true _ c.if-not-transition.true) c.before.transition.ensures)
 
-cast-member : tie.Need-overflow-cast-member invariant-loop decreases-loop
-cast-member c = omega (arith, (c.before.before.shared-slice-known4.given (c.before.before.before.before.before.before.loop.at + 1)).fits)
+cast-member : tie.Need-overflow_cast-to invariant-loop decreases-loop
+cast-member c = omega (arith, (c.before.before.shared_slice_known-in-loop-at-2-1.given (c.before.before.before.before.before.before.loop-at.at + 1)).fits)
 
 member-requires : tie.Need-member-requires invariant-loop decreases-loop
 member-requires c κs = search rules
 
-returns-3 : tie.Need-returns-3 invariant-loop decreases-loop
+returns-3 : tie.Need-returns-then-not-member invariant-loop decreases-loop
 returns-3 c = λ initial.
     let e = c.before.before.before.before.before.before in
-    read_outside _ _ _ _ _ _ _ _ (e.before.before.loop.invariant.2 initial) _ _ _ (pair e)
-    (fails c.before.member.result (not-true _ c.if3.true) c.before.member.ensures)
+    read_outside _ _ _ _ _ _ _ _ (e.before.before.loop-at.invariant.2 initial) _ _ _ (pair e)
+    (fails c.before.member.result (not-true _ c.if-not-member.true) c.before.member.ensures)
 
-left-after-requires : tie.Need-left-after-requires invariant-loop decreases-loop
+left-after-requires : tie.Need-left_after-requires invariant-loop decreases-loop
 left-after-requires c κs =
     let e = c.before.before.before.before.before.before in
-    omega (arith, e.before.before.loop.invariant.1, e.before.before.before.before.before.requires.1)
+    omega (arith, e.before.before.loop-at.invariant.1, e.before.before.before.before.before.requires.1)
 
-enum-known-l : tie.Need-enum-known-l invariant-loop decreases-loop
+enum-known-l : tie.Need-enum_known-l invariant-loop decreases-loop
 enum-known-l c = search rules
 
-enum_told : tie.Need-enum-told invariant-loop decreases-loop
+enum_told : tie.Need-enum_told-1 invariant-loop decreases-loop
 enum_told c = search rules
 
-returns-4 : tie.Need-returns-4 invariant-loop decreases-loop
+returns-4 : tie.Need-returns-in_default invariant-loop decreases-loop
 returns-4 c = λ initial.
     let e = c.before.before.before.before.before.before.before.before.before in
     let s = e.before.before.before.before.before in
     let f = c.before.before.left_After in
-    read_wrong _ _ _ _ _ _ _ _ (e.before.before.loop.invariant.2 initial) _ _ _ (pair e)
-    (subst (LeftAfter _ _ _ _) c.enum_told.given.1 (f.ensures s.args.table.now initial))
+    read_wrong _ _ _ _ _ _ _ _ (e.before.before.loop-at.invariant.2 initial) _ _ _ (pair e)
+    (subst (LeftAfter _ _ _ _) c.enum_told-1.given.1 (f.ensures s.args.table.now initial))
 
-abbrev up : tie.After-known-told invariant-loop decreases-loop → tie.Else1 invariant-loop decreases-loop
+abbrev up : tie.In-Symbols invariant-loop decreases-loop → tie.Else-pairs-at-lt2 invariant-loop decreases-loop
 up c = c.before.before.before.before.before.before.before.before.before.before
 
-add_at : tie.Need-overflow-add-at invariant-loop decreases-loop
+add_at : tie.Need-overflow_add-at invariant-loop decreases-loop
 add_at c =
     let e = up c in
-    omega (arith, e.if1.left, e.before.loop-test.taken)
+    omega (arith, e.if-pairs-at-lt2.left, e.before.loop-at-test.taken)
 
-loop-less : tie.Need-loop-smaller invariant-loop decreases-loop
+loop-less : tie.Need-loop-at-smaller invariant-loop decreases-loop
 loop-less c =
     let e = up c in
-    omega (arith, e.if1.left, e.before.loop-test.taken)
+    omega (arith, e.if-pairs-at-lt2.left, e.before.loop-at-test.taken)
 
 -- what is left after the event
-after : (c : tie.After-known-told invariant-loop decreases-loop) (initial : ℕ)
+after : (c : tie.In-Symbols invariant-loop decreases-loop) (initial : ℕ)
     → (let a = (up c).before.before.before.before.before.args in
-    LeftAfter (automaton_with a.table.now initial a.observable a.symbols) a.last (up c).before.before.loop.left
-    (get_or a.pairs.now (up c).before.before.loop.at 0) (left.Symbols c.before.l.given.0.0))
+    LeftAfter (automaton_with a.table.now initial a.observable a.symbols) a.last (up c).before.before.loop-at.left
+    (get_or a.pairs.now (up c).before.before.loop-at.at 0) (left.Symbols c.before.l-1.given.0.0))
 after c initial =
     let f = c.before.before.before.left_After in
-    subst (LeftAfter _ _ _ _) c.before.l.given.1 (f.ensures (up c).before.before.before.before.before.args.table.now initial)
+    subst (LeftAfter _ _ _ _) c.before.l-1.given.1 (f.ensures (up c).before.before.before.before.before.args.table.now initial)
 
-loop-again : tie.Need-loop-preserved invariant-loop decreases-loop
+loop-again : tie.Need-loop-at-preserved invariant-loop decreases-loop
 loop-again c =
     let e = up c in
-    let l = e.before.before.loop in
+    let l = e.before.before.loop-at in
     let m = c.before.before.before.before.before.member in
     let t = c.before.before.before.before.before.before.before.transition in (
-      omega (arith, e.if1.left, e.before.loop-test.taken),
+      omega (arith, e.if-pairs-at-lt2.left, e.before.loop-at-test.taken),
       omega (arith, (after c 0).0, l.inv.1),
       λ initial. read_turn _ _ _ _ _ _ _ _ (l.inv.2 initial) _ _ _ (pair e) _
-          (holds t.result (not-false _ c.before.before.before.before.before.before.if2.false) t.ensures)
-          (holds m.result (not-false _ c.before.before.before.before.if3.false) m.ensures)
+          (holds t.result (not-false _ c.before.before.before.before.before.before.if-not-transition.false) t.ensures)
+          (holds m.result (not-false _ c.before.before.before.before.if-not-member.false) m.ensures)
           (after c initial).1,
     )
 
@@ -143,22 +143,22 @@ none_left : (last : List ℕ) (n : ℕ) → recent n last ≡ [] → n ≡ 0
 none_left last zero e = omega arith
 none_left last (suc n) e = let z : ◌≡◌ {A = ℕ} 0 1 = cc in absurd (omega arith)
 
-returns-5 : tie.Need-returns-5 invariant-loop decreases-loop
+returns-5 : tie.Need-returns-then-left-ne0 invariant-loop decreases-loop
 returns-5 c = λ initial.
-    let l = c.before.before.loop in
+    let l = c.before.before.loop-at in
     let s = c.before.before.before.before.before in
-    read_short _ _ _ _ _ _ _ _ (l.invariant.2 initial) (all_read s.args.pairs.now l.at l.invariant.0 (λ h. omega (arith, c.before.loop-test.false)))
-    (λ e. c.if4.true (none_left _ l.left e))
+    read_short _ _ _ _ _ _ _ _ (l.invariant.2 initial) (all_read s.args.pairs.now l.at l.invariant.0 (λ h. omega (arith, c.before.loop-at-test.false)))
+    (λ e. c.if-left-ne0.true (none_left _ l.left e))
 
-returns-6 : tie.Need-returns-6 invariant-loop decreases-loop
+returns-6 : tie.Need-returns invariant-loop decreases-loop
 returns-6 c = λ initial.
-    let l = c.before.before.loop in
+    let l = c.before.before.loop-at in
     let s = c.before.before.before.before.before in
-    read_end _ _ _ _ _ _ _ _ (l.invariant.2 initial) (all_read s.args.pairs.now l.at l.invariant.0 (λ h. omega (arith, c.before.loop-test.false)))
+    read_end _ _ _ _ _ _ _ _ (l.invariant.2 initial) (all_read s.args.pairs.now l.at l.invariant.0 (λ h. omega (arith, c.before.loop-at-test.false)))
     (last_none _ l.left (omega arith))
 
-pub is-run-spec : {M : Type 1} → statement M
-is-run-spec =
+pub is_run_spec : {M : Type 1} → statement M
+is_run_spec =
     tie.close
     (tie.spec
     invariant-loop

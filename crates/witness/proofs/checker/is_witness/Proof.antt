@@ -14,77 +14,77 @@ use Rattle.witness.proofs.Allowing.{not_allowed, not_run, run_found}
 use Rattle.witness.proofs.checker.is_witness.Statement.{statement}
 use Rattle.witness.proofs.checker.is_witness.Tie as tie
 
-abbrev up : tie.After-word-at → tie.Start
+abbrev up : tie.After-word_at-entry → tie.Start
 up c = c.before.before.before.before.before.before.before
 
 -- the entry set, a word
-word : (c : tie.After-word-at) → get_or (up c).args.estimator.entries (up c).args.k 0 < 2 ^ 64
-word c = subst (λ (w : ℕ). w < 2 ^ 64) c.word_at.ensures.0 c.word_at.ensures.1
+word : (c : tie.After-word_at-entry) → get_or (up c).args.estimator.entries-1 (up c).args.k 0 < 2 ^ 64
+word c = subst (λ (w : ℕ). w < 2 ^ 64) c.word_at-entry.ensures.0 c.word_at-entry.ensures.1
 
-slice-aggregate-word-at : tie.Need-slice-aggregate-word-at
+slice-aggregate-word-at : tie.Need-slice_bounds-word_at-end
 slice-aggregate-word-at c = search rules
 
-word-at-requires : tie.Need-word-at-requires
+word-at-requires : tie.Need-word_at-entry-requires
 word-at-requires c κs = search rules
 
 member-requires : tie.Need-member-requires
 member-requires c κs = search rules
 
-returns : tie.Need-returns
+returns : tie.Need-returns-then-not-member
 returns c = λ x.
     let e = c.before.before in
-    fails c.before.member.result (not-true _ c.if1.true) c.before.member.ensures
-    (subst (λ (w : ℕ). In (up e).args.start w) (sym e.word_at.ensures.0) x.holds.starts)
+    fails c.before.member.result (not-true _ c.if-not-member.true) c.before.member.ensures
+    (subst (λ (w : ℕ). In (up e).args.start w) (sym e.word_at-entry.ensures.0) x.holds.starts)
 
-allowed-by-requires : tie.Need-allowed-by-requires
+allowed-by-requires : tie.Need-allowed_by-allowed-requires
 allowed-by-requires c κs = search rules
 
 member-requires-2 : tie.Need-member-requires-2
 member-requires-2 c κs = search rules
 
-returns-2 : tie.Need-returns-2
+returns-2 : tie.Need-returns-then-not-member-2
 returns-2 c =
     let e = c.before.before.before.before.before in
-    not_allowed _ _ _ (up e).ranges.secret.fits _ (word e) _ _ _ _ c.before.before.allowed-by.ensures
-    (fails c.before.member2.result (not-true _ c.if2.true) c.before.member2.ensures)
+    not_allowed _ _ _ (up e).ranges.secret.fits _ (word e) _ _ _ _ c.before.before.allowed_by-allowed.ensures
+    (fails c.before.member-2.result (not-true _ c.if-not-member-2.true) c.before.member-2.ensures)
 
-is-run-requires : tie.Need-is-run-requires
+is-run-requires : tie.Need-is_run-requires
 is-run-requires c κs =
     let s = up c.before.before.before.before.before in
     let far = look_back_small s.args.header s.args.estimator.further s.pre.0.back s.pre.1.allowed in
     (s.pre.0.words, omega (arith, far, s.pre.1.few, s.pre.2))
 
-returns-3 : tie.Need-returns-3
+returns-3 : tie.Need-returns-then-not-is_run
 returns-3 c =
     let e = c.before.before.before.before.before.before.before in
     let a = (up e).args in
-    not_run (automaton_of a.table.now a.header) _ _ (up e).ranges.secret.fits _ (word e) (recent a.k a.estimator.symbols) _ a.pairs.now _
-    c.before.before.before.before.allowed-by.ensures
-    (fails c.before.is-run.result (not-true _ c.if3.true) (c.before.is-run.ensures (up e).args.header.initial))
+    not_run (automaton_of a.table.now a.header) _ _ (up e).ranges.secret.fits _ (word e) (recent a.k a.estimator.symbols-1) _ a.pairs.now _
+    c.before.before.before.before.allowed_by-allowed.ensures
+    (fails c.before.is-run.result (not-true _ c.if-not-is_run.true) (c.before.is-run.ensures (up e).args.header.initial))
 
-has-clear-requires : tie.Need-has-clear-requires
+has-clear-requires : tie.Need-has_clear-requires
 has-clear-requires c κs = search rules
 
-returns-4 : tie.Need-returns-4
+returns-4 : tie.Need-returns
 returns-4 c =
     let e = c.before.before.before.before.before.before.before.before in
     let s = up e in
     let one = c.before.before.before.before.before.before.before.member in
-    let two = c.before.before.before.before.member2 in
+    let two = c.before.before.before.before.member-2 in
     let run = c.before.before.is-run in
     let a = s.args in
     let p = automaton_of a.table.now a.header in
-    run_found p _ _ s.fits.secret.fits _ (word e) (recent a.k a.estimator.symbols) _ a.pairs.now _
-    c.before.before.before.before.before.allowed-by.ensures
+    run_found p _ _ s.fits.secret.fits _ (word e) (recent a.k a.estimator.symbols-1) _ a.pairs.now _
+    c.before.before.before.before.before.allowed_by-allowed.ensures
     c.has-clear.result
-    (subst (λ (w : ℕ). In s.args.start w) e.word_at.ensures.0
-    (holds one.result (not-false _ c.before.before.before.before.before.before.if1.false) one.ensures))
-    (holds two.result (not-false _ c.before.before.before.if2.false) two.ensures)
-    (holds run.result (not-false _ c.before.if3.false) (run.ensures s.args.header.initial))
+    (subst (λ (w : ℕ). In s.args.start w) e.word_at-entry.ensures.0
+    (holds one.result (not-false _ c.before.before.before.before.before.before.if-not-member.false) one.ensures))
+    (holds two.result (not-false _ c.before.before.before.if-not-member-2.false) two.ensures)
+    (holds run.result (not-false _ c.before.if-not-is_run.false) (run.ensures s.args.header.initial))
     (λ steps e. c.has-clear.ensures p steps refl e)
 
-pub is-witness-spec : {M : Type 1} → statement M
-is-witness-spec =
+pub is_witness_spec : {M : Type 1} → statement M
+is_witness_spec =
     tie.close
     (tie.spec
     slice-aggregate-word-at

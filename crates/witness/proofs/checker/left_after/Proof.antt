@@ -10,47 +10,47 @@ use Rattle.witness.proofs.Lasting.{left_same, left_none, left_other, left_next}
 use Rattle.witness.proofs.checker.left_after.Statement.{statement}
 use Rattle.witness.proofs.checker.left_after.Tie as tie
 
-seen : (c : tie.Else1) → In c.before.before.args.event c.before.before.args.observable
-seen c = holds c.before.member.result (not-false _ c.if1.false) c.before.member.ensures
+seen : (c : tie.Else-not-member) → In c.before.before.args.event c.before.before.args.observable
+seen c = holds c.before.member.result (not-false _ c.if-not-member.false) c.before.member.ensures
 
 member-requires : tie.Need-member-requires
 member-requires c κs = search rules
 
-returns : tie.Need-returns
+returns : tie.Need-returns-then-not-member
 returns c = λ t initial.
     left_same (automaton_with t initial _ c.before.before.args.t2) _ _ _
-    (fails c.before.member.result (not-true _ c.if1.true) c.before.member.ensures)
+    (fails c.before.member.result (not-true _ c.if-not-member.true) c.before.member.ensures)
 
-returns-2 : tie.Need-returns-2
+returns-2 : tie.Need-returns-then-left-eq0
 returns-2 c = λ t initial rest h.
-    left_none (automaton_with t initial _ c.before.before.before.args.t2) _ _ (seen c.before) _ c.if2.true rest h
+    left_none (automaton_with t initial _ c.before.before.before.args.t2) _ _ (seen c.before) _ c.if-left-eq0.true rest h
 
-sub-next : tie.Need-overflow-sub-next
+sub-next : tie.Need-overflow_sub-next
 sub-next c = search rules
 
-cast-if3 : tie.Need-overflow-cast-if3
+cast-if3 : tie.Need-overflow_cast-next
 cast-if3 c = search rules
 
-array-read-if3 : tie.Need-array-read-if3
+array-read-if3 : tie.Need-bounds-last-next
 array-read-if3 c = search rules
 
 -- an observable event is one of 32
-array-read-if3-2 : tie.Need-array-read-if3-2
+array-read-if3-2 : tie.Need-bounds-symbols-event
 array-read-if3-2 c =
     let a = c.before.before.before in
     in_lt 32 a.args.event a.args.observable a.ranges.observable.fits (seen c.before)
 
-returns-3 : tie.Need-returns-3
+returns-3 : tie.Need-returns-then-last-next
 returns-3 c = λ t initial rest h.
     left_other (automaton_with t initial _ c.before.before.before.before.args.t2) _ _ (seen c.before.before) _
-    c.before.if2.false c.if3.true rest h
+    c.before.if-left-eq0.false c.if-last-next.true rest h
 
-returns-4 : tie.Need-returns-4
+returns-4 : tie.Need-returns
 returns-4 c = λ t initial.
-    left_next (automaton_with t initial _ c.before.before.before.before.args.t2) _ _ (seen c.before.before) _ c.before.if2.false (omega arith)
+    left_next (automaton_with t initial _ c.before.before.before.before.args.t2) _ _ (seen c.before.before) _ c.before.if-left-eq0.false (omega arith)
 
-pub left-after-spec : {M : Type 1} → statement M
-left-after-spec =
+pub left_after_spec : {M : Type 1} → statement M
+left_after_spec =
     tie.close
     (tie.spec
     member-requires

@@ -6,42 +6,42 @@ use borrow.Author.Rules.{rules}
 use Rattle.witness.proofs.checker.transition.Statement.{statement}
 use Rattle.witness.proofs.checker.transition.Tie as tie
 
-returns : tie.Need-returns
+returns : tie.Need-returns-then-from-gt63
 returns c = search rules
 
-returns-2 : tie.Need-returns-2
+returns-2 : tie.Need-returns-then-event-gt31
 returns-2 c = search rules
 
-mul_at : tie.Need-overflow-mul-at
+mul_at : tie.Need-overflow_mul-at
 mul_at c = search rules
 
-add_at : tie.Need-overflow-add-at
+add_at : tie.Need-overflow_add-at
 add_at c = search rules
 
-mul-member : tie.Need-overflow-mul-member
+mul-member : tie.Need-offset_bounds-table-at
 mul-member c = search rules
 
-shared-slice-read-member : tie.Need-shared-slice-read-member
+shared-slice-read-member : tie.Need-bounds-table-at
 shared-slice-read-member c = search rules
 
 member-requires : tie.Need-member-requires
 member-requires c κs = search rules
 
-returns-3 : tie.Need-returns-3
+returns-3 : tie.Need-returns
 returns-3 c =
     let a = c.before.before.before.before.before.args in
     decided_as c.member.result
     (λ i. record {
       from_small = omega arith;
       event_small = omega arith;
-      to_small = in_lt 64 a.to _ (c.before.shared-slice-known2.given _).fits i;
+      to_small = in_lt 64 a.to _ (c.before.shared_slice_known-2-1.given _).fits i;
       listed = i;
     })
     (λ t. t.listed)
     c.member.ensures
 
-pub transition-spec : {M : Type 1} → statement M
-transition-spec =
+pub transition_spec : {M : Type 1} → statement M
+transition_spec =
     tie.close
     (tie.spec
     returns

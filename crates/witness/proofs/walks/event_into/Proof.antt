@@ -15,10 +15,10 @@ use Rattle.witness.specs.Inner.{Onward}
 use Rattle.witness.proofs.walks.event_into.Statement.{statement}
 use Rattle.witness.proofs.walks.event_into.Tie as tie
 
-abbrev invariant-loop : tie.invariant-loop
+abbrev invariant-loop : tie.invariant-loop-events
 invariant-loop table events from into todo₀ todo = (todo < 2 ^ 64) × Sub todo events × Onward table todo from into
 
-abbrev decreases-loop : tie.decreases-loop
+abbrev decreases-loop : tie.decreases-loop-events
 decreases-loop table events from into todo₀ todo = todo
 
 full : (w e : ℕ) → In e w → 0 < w
@@ -30,55 +30,55 @@ full w e i = go (dec_lt 0 w)
         let z : w ≡ 0 = omega arith in
         absurd (empty e w z i)
 
-pick : (c : tie.At-loop invariant-loop decreases-loop) → Taken c.loop.todo (count_trailing_zeros 64 c.loop.todo) (bit_and c.loop.todo (c.loop.todo - 1))
-pick c = let x = c.loop.invariant.2.listed in taken c.loop.todo (full c.loop.todo x.0 x.1) c.loop.invariant.0
+pick : (c : tie.At-loop-events invariant-loop decreases-loop) → Taken c.loop-events.todo (count_trailing_zeros 64 c.loop-events.todo) (bit_and c.loop-events.todo (c.loop-events.todo - 1))
+pick c = let x = c.loop-events.invariant.2.listed in taken c.loop-events.todo (full c.loop-events.todo x.0 x.1) c.loop-events.invariant.0
 
 -- the event that is tried
-event : (c : tie.At-loop invariant-loop decreases-loop) → count_trailing_zeros 64 c.loop.todo < 32
-event c = c.before.requires.1 _ (c.loop.invariant.1 _ (pick c).inside)
+event : (c : tie.At-loop-events invariant-loop decreases-loop) → count_trailing_zeros 64 c.loop-events.todo < 32
+event c = c.before.requires.1 _ (c.loop-events.invariant.1 _ (pick c).inside)
 
 -- the state from which it is tried
-state : (c : tie.At-loop invariant-loop decreases-loop) → c.before.args.from < 64
-state c = c.loop.invariant.2.listed.2.from_small
+state : (c : tie.At-loop-events invariant-loop decreases-loop) → c.before.args.from < 64
+state c = c.loop-events.invariant.2.listed.2.from_small
 
-loop-holds : tie.Need-loop-init invariant-loop decreases-loop
+loop-holds : tie.Need-loop-events-init invariant-loop decreases-loop
 loop-holds c = (c.ranges.events.fits, λ e i. i, c.requires.2)
 
-cast-e : tie.Need-overflow-cast-e invariant-loop decreases-loop
+cast-e : tie.Need-overflow_cast-e invariant-loop decreases-loop
 cast-e c = omega (arith, event c)
 
-mul-if1 : tie.Need-overflow-mul-if1 invariant-loop decreases-loop
+mul-if1 : tie.Need-overflow_mul-e invariant-loop decreases-loop
 mul-if1 c = omega (arith, event c)
 
-add-if1 : tie.Need-overflow-add-if1 invariant-loop decreases-loop
+add-if1 : tie.Need-overflow_add-e invariant-loop decreases-loop
 add-if1 c = omega (arith, event c, state c)
 
-mul-if1-2 : tie.Need-overflow-mul-if1-2 invariant-loop decreases-loop
+mul-if1-2 : tie.Need-offset_bounds-table-e invariant-loop decreases-loop
 mul-if1-2 c = omega (arith, event c, state c)
 
-shared-slice-read-if1 : tie.Need-shared-slice-read-if1 invariant-loop decreases-loop
+shared-slice-read-if1 : tie.Need-bounds-table-e invariant-loop decreases-loop
 shared-slice-read-if1 c = omega (arith, event c.before, state c.before, c.before.before.requires.0)
 
-cast-result : tie.Need-overflow-cast-result invariant-loop decreases-loop
+cast-result : tie.Need-overflow_cast-result invariant-loop decreases-loop
 cast-result c = omega (arith, event c.before.before)
 
-returns : tie.Need-returns invariant-loop decreases-loop
+returns : tie.Need-returns-then-table-e-ne0 invariant-loop decreases-loop
 returns c =
     let w = c.before.before in
     let s = w.before in
-    let m = meet (get_or s.args.table.now (64 * count_trailing_zeros 64 w.loop.todo + s.args.from) 0) s.args.into s.ranges.into.fits
-    c.if1.true in (
-      w.loop.invariant.1 _ (pick w).inside,
+    let m = meet (get_or s.args.table.now (64 * count_trailing_zeros 64 w.loop-events.todo + s.args.from) 0) s.args.into s.ranges.into.fits
+    c.if-table-e-ne0.true in (
+      w.loop-events.invariant.1 _ (pick w).inside,
       (m.0, m.2, record { from_small = state w; event_small = event w; to_small = in_lt 64 _ _ s.ranges.into.fits m.2; listed = m.1 }),
     )
 
-sub-todo : tie.Need-overflow-sub-todo invariant-loop decreases-loop
+sub-todo : tie.Need-overflow_sub-todo invariant-loop decreases-loop
 sub-todo c =
-    let l = c.before.before.loop in
+    let l = c.before.before.loop-events in
     let x = l.invariant.2.listed in
     omega (arith, full l.todo x.0 x.1)
 
-loop-less : tie.Need-loop-smaller invariant-loop decreases-loop
+loop-less : tie.Need-loop-events-smaller invariant-loop decreases-loop
 loop-less c = (pick c.before.before).less
 
 -- an event that leads into the set is not the one that was tried
@@ -91,16 +91,16 @@ left t todo e rest from into k none x = go (k.left x.listed.0 x.listed.1)
         absurd (meet_none _ into x.to none (subst (λ (y : ℕ). In x.to (get_or t (64 * y + from) 0)) same x.listed.2.listed) x.inside)
     go (inr i) = record { to = x.to; inside = x.inside; listed = (x.listed.0, i, x.listed.2) }
 
-loop-again : tie.Need-loop-preserved invariant-loop decreases-loop
+loop-again : tie.Need-loop-events-preserved invariant-loop decreases-loop
 loop-again c =
     let w = c.before.before in (
-      omega (arith, (pick w).less, w.loop.invariant.0),
-      λ e i. w.loop.invariant.1 e ((pick w).kept e i),
-      left _ _ _ _ _ _ (pick w) c.if1.false w.loop.invariant.2,
+      omega (arith, (pick w).less, w.loop-events.invariant.0),
+      λ e i. w.loop-events.invariant.1 e ((pick w).kept e i),
+      left _ _ _ _ _ _ (pick w) c.if-table-e-ne0.false w.loop-events.invariant.2,
     )
 
-pub event-into-spec : {M : Type 1} → statement M
-event-into-spec =
+pub event_into_spec : {M : Type 1} → statement M
+event_into_spec =
     tie.close
     (tie.spec
     invariant-loop

@@ -8,49 +8,49 @@ use Rattle.witness.proofs.Layering.{Layering, layer_start, layer_turn, layer_end
 use Rattle.witness.proofs.walks.layers_to.Statement.{statement}
 use Rattle.witness.proofs.walks.layers_to.Tie as tie
 
-abbrev invariant-loop : tie.invariant-loop
+abbrev invariant-loop : tie.invariant-loop-d
 invariant-loop back allowed target layers₀ done₀ wave₀ d₀ layers done wave d = (length layers ≡ 64) × (d ≤ 64) × Layering (Row back) allowed target layers d done wave
 
-abbrev decreases-loop : tie.decreases-loop
+abbrev decreases-loop : tie.decreases-loop-d
 decreases-loop back allowed target layers₀ done₀ wave₀ d₀ layers done wave d = 64 - d
 
-loop-holds : tie.Need-loop-init invariant-loop decreases-loop
+loop-holds : tie.Need-loop-d-init invariant-loop decreases-loop
 loop-holds c = (c.before.before.requires.1, omega arith, layer_start _ _ _ c.before.before.ranges.allowed.fits _)
 
-mul-layers : tie.Need-overflow-mul-layers invariant-loop decreases-loop
+mul-layers : tie.Need-offset_bounds-layers-d invariant-loop decreases-loop
 mul-layers c = omega arith
 
-slice-write-layers : tie.Need-slice-write-layers invariant-loop decreases-loop
-slice-write-layers c = omega (arith, c.before.loop.invariant.0)
+slice-write-layers : tie.Need-bounds-layers-d invariant-loop decreases-loop
+slice-write-layers c = omega (arith, c.before.loop-d.invariant.0)
 
 image-requires : tie.Need-image-requires invariant-loop decreases-loop
 image-requires c κs = c.before.before.before.before.requires.0
 
-add-d : tie.Need-overflow-add-d invariant-loop decreases-loop
+add-d : tie.Need-overflow_add-d invariant-loop decreases-loop
 add-d c = omega arith
 
-loop-less : tie.Need-loop-smaller invariant-loop decreases-loop
+loop-less : tie.Need-loop-d-smaller invariant-loop decreases-loop
 loop-less c = omega arith
 
-loop-again : tie.Need-loop-preserved invariant-loop decreases-loop
+loop-again : tie.Need-loop-d-preserved invariant-loop decreases-loop
 loop-again c =
-    let l = c.before.before.loop in
+    let l = c.before.before.loop-d in
     let s = c.before.before.before.before.before in (
       length-set l.layers l.d l.wave ∙ l.invariant.0,
       omega arith,
       layer_turn _ _ _ s.ranges.allowed.fits _ _ _ _ _ (omega (arith, l.invariant.0)) c.image.ensures l.invariant.2,
     )
 
-same_length : tie.Need-same-length invariant-loop decreases-loop
-same_length c = c.before.loop.invariant.0 ∙ sym c.before.before.before.before.requires.1
+same_length : tie.Need-shape_of-layers invariant-loop decreases-loop
+same_length c = c.before.loop-d.invariant.0 ∙ sym c.before.before.before.before.requires.1
 
 returns : tie.Need-returns invariant-loop decreases-loop
 returns c = λ p e.
-    let l = c.before.loop in
+    let l = c.before.loop-d in
     layer_end p _ e _ _ c.before.before.before.before.ranges.allowed.fits l.layers l.d _ l.wave l.invariant.0 (omega arith) l.invariant.2
 
-pub layers-to-spec : {M : Type 1} → statement M
-layers-to-spec =
+pub layers_to_spec : {M : Type 1} → statement M
+layers_to_spec =
     tie.close
     (tie.spec
     invariant-loop

@@ -7,47 +7,47 @@ use Rattle.witness.proofs.Moving.{moved_join, moved_size, moved_place}
 use Rattle.witness.proofs.walks.observable_walk.Statement.{statement}
 use Rattle.witness.proofs.walks.observable_walk.Tie as tie
 
-preimage-by-requires : tie.Need-preimage-by-requires
+preimage-by-requires : tie.Need-preimage_by-into-requires
 preimage-by-requires c κs =
     let s = c.before.before.before in
     let x = s.requires.1 in
     (s.requires.0, (λ e i. (x.2.1.sound e i).0), omega arith)
 
-silent-walk-requires : tie.Need-silent-walk-requires
+silent-walk-requires : tie.Need-silent_walk-mid-requires
 silent-walk-requires c κs =
     let s = c.before.before.before.before.before in
     let x = s.requires.1 in (
       s.requires.0,
-      (x.0, x.1, ahead_leads x.0 _ x.1.table_is x.2.0 _ x.2.1 _ _ c.before.preimage-by.ensures _ _ x.2.2),
+      (x.0, x.1, ahead_leads x.0 _ x.1.table_is x.2.0 _ x.2.1 _ _ c.before.preimage_by-into.ensures _ _ x.2.2),
       omega
           (arith, s.requires.2),
     )
 
-put-step-requires : tie.Need-put-step-requires
+put-step-requires : tie.Need-put_step-requires
 put-step-requires c κs =
     let s = c.before.before.before.before.before.before.before.before.before in
     let x = s.requires.1 in
-    let w = c.before.before.before.silent-walk in
+    let w = c.before.before.before.silent_walk-mid in
     let m = w.ensures.0 x.0 x.1 in (
       s.requires.0,
       (λ e i. (x.2.1.sound e i).0),
-      into_onward _ _ _ _ _ c.before.before.before.before.before.preimage-by.ensures w.ensures.1,
+      into_onward _ _ _ _ _ c.before.before.before.before.before.preimage_by-into.ensures w.ensures.1,
       omega (arith, s.requires.2, moved_size _ _ _ _ _ _ _ _ _ m, moved_place _ _ _ _ _ _ _ _ _ m),
     )
 
-same_length : tie.Need-same-length
+same_length : tie.Need-shape_of-output
 same_length c = search rules
 
 returns : tie.Need-returns
 returns c =
-    let w = c.before.before.before.before.before.before.silent-walk in
+    let w = c.before.before.before.before.before.before.silent_walk-mid in
     let q = c.before.before.put_step in (
       (λ p symbol P S sub. moved_join p _ [] (symbol ∷ []) 63 1 64 _ _ _ _ _ _ _ (omega arith) (w.ensures.0 p P)
           (q.ensures.0 p _ (symbol ∷ []) P.table_is (λ e i. (S.sound e i).1) sub)),
       q.ensures.1,
     )
 
-pub observable-walk-spec : {M : Type 1} → statement M
-observable-walk-spec =
+pub observable_walk_spec : {M : Type 1} → statement M
+observable_walk_spec =
     tie.close
     (tie.spec preimage-by-requires silent-walk-requires put-step-requires same_length returns)

@@ -7,16 +7,16 @@ use lib.ListN.{set, length-set}
 use Rattle.witness.proofs.walks.put_pair.Statement.{statement}
 use Rattle.witness.proofs.walks.put_pair.Tie as tie
 
-slice-write-output : tie.Need-slice-write-output
+slice-write-output : tie.Need-bounds-output-at
 slice-write-output c = search rules
 
-add-output : tie.Need-overflow-add-output
+add-output : tie.Need-overflow_add-output
 add-output c = search rules
 
-slice-write-output-2 : tie.Need-slice-write-output-2
+slice-write-output-2 : tie.Need-bounds-output-at-2
 slice-write-output-2 c = omega (arith, length-set c.args.output.now c.args.at c.args.event, c.requires)
 
-same_length : tie.Need-same-length
+same_length : tie.Need-shape_of-output
 same_length c = search rules
 
 returns : tie.Need-returns
@@ -24,6 +24,6 @@ returns c =
     let one : c.args.at + 1 ≡ suc c.args.at = omega arith in
     ap (λ (n : ℕ). set (set c.args.output.now c.args.at c.args.event) n c.args.state) one
 
-pub put-pair-spec : {M : Type 1} → statement M
-put-pair-spec =
+pub put_pair_spec : {M : Type 1} → statement M
+put_pair_spec =
     tie.close (tie.spec slice-write-output add-output slice-write-output-2 same_length returns)

@@ -33,51 +33,51 @@ common a b q h i j =
         absurd (empty q (bit_and a b) z (and_in q a b i j))
 
 -- the state that the step leads to
-step : (c : tie.After-event-into)
-    → Common (get_or c.before.before.before.args.table.now (64 * c.event-into.result + c.before.before.before.args.state) 0)
+step : (c : tie.After-event_into-event)
+    → Common (get_or c.before.before.before.args.table.now (64 * c.event_into-event.result + c.before.before.before.args.state) 0)
     c.before.before.before.args.into
-    (count_trailing_zeros 64 (bit_and (get_or c.before.before.before.args.table.now (64 * c.event-into.result + c.before.before.before.args.state) 0)
+    (count_trailing_zeros 64 (bit_and (get_or c.before.before.before.args.table.now (64 * c.event_into-event.result + c.before.before.before.args.state) 0)
     c.before.before.before.args.into))
 step c =
-    let x = c.event-into.ensures.1 in
+    let x = c.event_into-event.ensures.1 in
     common _ _ x.0 c.before.before.before.ranges.into.fits x.2.listed x.1
 
-event-into-requires : tie.Need-event-into-requires
+event-into-requires : tie.Need-event_into-event-requires
 event-into-requires c κs = search rules
 
-cast-to : tie.Need-overflow-cast-to
+cast-to : tie.Need-overflow_cast-to
 cast-to c = search rules
 
-mul-to : tie.Need-overflow-mul-to
+mul-to : tie.Need-overflow_mul-to
 mul-to c = search rules
 
-add-to : tie.Need-overflow-add-to
+add-to : tie.Need-overflow_add-to
 add-to c = search rules
 
-mul-to-2 : tie.Need-overflow-mul-to-2
+mul-to-2 : tie.Need-offset_bounds-table-event
 mul-to-2 c = search rules
 
-shared-slice-read-to : tie.Need-shared-slice-read-to
+shared-slice-read-to : tie.Need-bounds-table-event
 shared-slice-read-to c =
-    let x = c.before.event-into.ensures.1.2 in
+    let x = c.before.event_into-event.ensures.1.2 in
     omega (arith, x.from_small, x.event_small, c.before.before.before.before.requires.0)
 
-cast-to-2 : tie.Need-overflow-cast-to-2
+cast-to-2 : tie.Need-overflow_cast-to-2
 cast-to-2 c = omega (arith, (step c.before).small)
 
-put-pair-requires : tie.Need-put-pair-requires
+put-pair-requires : tie.Need-put_pair-requires
 put-pair-requires c κs = search rules
 
-add-t10 : tie.Need-overflow-add-t10
+add-t10 : tie.Need-overflow_add-result
 add-t10 c = search rules
 
-same_length : tie.Need-same-length
+same_length : tie.Need-shape_of-output
 same_length c = search rules
 
 returns : tie.Need-returns
 returns c =
     let e = c.before.before.before.before.before in
-    let x = e.event-into.ensures in
+    let x = e.event_into-event.ensures in
     let y = step e in (
       (λ p allowed out same shows sub. moved_shows p allowed _ out _ _ _ _ _ _ (shows _ x.0)
           (moved_one p allowed _ _ _ _ _ _
@@ -86,8 +86,8 @@ returns c =
       y.second,
     )
 
-pub put-step-spec : {M : Type 1} → statement M
-put-step-spec =
+pub put_step_spec : {M : Type 1} → statement M
+put_step_spec =
     tie.close
     (tie.spec
     event-into-requires

@@ -7,78 +7,78 @@ use Rattle.witness.proofs.Going.{Going, go_begin, go_ahead, go_size, go_room, go
 use Rattle.witness.proofs.writer.follow_symbols.Statement.{statement}
 use Rattle.witness.proofs.writer.follow_symbols.Tie as tie
 
-abbrev invariant-loop : tie.invariant-loop
+abbrev invariant-loop : tie.invariant-loop-i
 invariant-loop table silent back sets allowed k state from output₀ symbols then q₀ at₀ i₀ output q at i =
     (p : Automaton) → Prepared p table silent back sets → LookedBack p allowed symbols k then
     → Going p allowed symbols then k state from output₀ output q at i
 
-abbrev decreases-loop : tie.decreases-loop
+abbrev decreases-loop : tie.decreases-loop-i
 decreases-loop table silent back sets allowed k state from output₀ symbols then q₀ at₀ i₀ output q at i = i
 
 -- the call, of whose automaton the invariant is used
-abbrev begin : tie.At-loop invariant-loop decreases-loop → tie.Start invariant-loop decreases-loop
+abbrev begin : tie.At-loop-i invariant-loop decreases-loop → tie.Start invariant-loop decreases-loop
 begin u = u.before.before.before.before.before
 
-low : (u : tie.At-loop invariant-loop decreases-loop) → u.loop.i < 16
+low : (u : tie.At-loop-i invariant-loop decreases-loop) → u.loop-i.i < 16
 low u =
     let x = (begin u).requires.2 in
-    omega (arith, (u.loop.invariant x.0 x.1 x.2).low, (begin u).requires.1)
+    omega (arith, (u.loop-i.invariant x.0 x.1 x.2).low, (begin u).requires.1)
 
-loop-holds : tie.Need-loop-init invariant-loop decreases-loop
+loop-holds : tie.Need-loop-i-init invariant-loop decreases-loop
 loop-holds c = λ p P L. go_begin p _ _ _ _ _ _ _ c.before.before.before.before.requires.3
 
-sub-i : tie.Need-overflow-sub-i invariant-loop decreases-loop
+sub-i : tie.Need-overflow_sub-i invariant-loop decreases-loop
 sub-i c = omega arith
 
-cast-n : tie.Need-overflow-cast-n invariant-loop decreases-loop
+cast-n : tie.Need-overflow_cast-n invariant-loop decreases-loop
 cast-n c = omega (arith, low c.before)
 
-array-read-events-with : tie.Need-array-read-events-with invariant-loop decreases-loop
+array-read-events-with : tie.Need-bounds-symbols-n invariant-loop decreases-loop
 array-read-events-with c = omega (arith, low c.before)
 
-events-with-requires : tie.Need-events-with-requires invariant-loop decreases-loop
+events-with-requires : tie.Need-events_with-events-requires invariant-loop decreases-loop
 events-with-requires c κs = (begin c.before).pre.2.1.sets_are.size
 
-mul-observable-walk : tie.Need-overflow-mul-observable-walk invariant-loop decreases-loop
+mul-observable-walk : tie.Need-offset_bounds-then-n invariant-loop decreases-loop
 mul-observable-walk c = omega (arith, low c.before.before)
 
-array-read-observable-walk : tie.Need-array-read-observable-walk invariant-loop decreases-loop
+array-read-observable-walk : tie.Need-bounds-then-n invariant-loop decreases-loop
 array-read-observable-walk c = omega (arith, low c.before.before)
 
-observable-walk-requires : tie.Need-observable-walk-requires invariant-loop decreases-loop
+observable-walk-requires : tie.Need-observable_walk-next-requires invariant-loop decreases-loop
 observable-walk-requires c κs =
     let u = c.before.before.before in
     let s = begin u in
     let x = s.pre.2 in
     let P = x.1 in
-    let g = u.loop.invariant x.0 P x.2 in
-    let h = c.before.before.loop-test.true in (
+    let g = u.loop-i.invariant x.0 P x.2 in
+    let h = c.before.before.loop-i-test.true in (
       s.pre.0,
-      (x.0, P.silently, (_, c.before.events-with.ensures x.0 P.symbols_small P.sets_are, go_ahead _ _ _ _ _ _ _ _ _ _ _ _ g x.2 h)),
+      (x.0, P.silently, (_, c.before.events_with-events.ensures x.0 P.symbols_small P.sets_are, go_ahead _ _ _ _ _ _ _ _ _ _ _ _ g x.2 h)),
       go_room _ _ _ _ _ _ _ _ _ _ _ _ g h s.pre.4,
     )
 
-loop-less : tie.Need-loop-smaller invariant-loop decreases-loop
+loop-less : tie.Need-loop-i-smaller invariant-loop decreases-loop
 loop-less c = omega arith
 
-loop-again : tie.Need-loop-preserved invariant-loop decreases-loop
+loop-again : tie.Need-loop-i-preserved invariant-loop decreases-loop
 loop-again c = λ p P L.
     let u = c.before.before.before.before.before.before in
-    let g = u.loop.invariant p P L in
-    let h = c.before.before.before.before.before.loop-test.true in
-    let w = c.before.before.observable-walk in
+    let g = u.loop-i.invariant p P L in
+    let h = c.before.before.before.before.before.loop-i-test.true in
+    let w = c.before.before.observable_walk-next in
     go_turn _ _ _ _ _ _ _ _ _ _ _ _ g _ w.result h
-    (w.ensures.0 p _ P.silently (c.before.before.before.before.events-with.ensures p P.symbols_small P.sets_are)
+    (w.ensures.0 p _ P.silently (c.before.before.before.before.events_with-events.ensures p P.symbols_small P.sets_are)
     (go_ahead _ _ _ _ _ _ _ _ _ _ _ _ g L h).among) w.ensures.1
 
-same_length : tie.Need-same-length invariant-loop decreases-loop
-same_length c = let x = (begin c.before).pre.2 in go_size _ _ _ _ _ _ _ _ _ _ _ _ (c.before.loop.invariant x.0 x.1 x.2)
+same_length : tie.Need-shape_of-output invariant-loop decreases-loop
+same_length c = let x = (begin c.before).pre.2 in go_size _ _ _ _ _ _ _ _ _ _ _ _ (c.before.loop-i.invariant x.0 x.1 x.2)
 
 returns : tie.Need-returns invariant-loop decreases-loop
-returns c = λ p P L. go_done _ _ _ _ _ _ _ _ _ _ _ _ (c.before.loop.invariant p P L) (λ h. omega (arith, c.loop-test.false))
+returns c = λ p P L. go_done _ _ _ _ _ _ _ _ _ _ _ _ (c.before.loop-i.invariant p P L) (λ h. omega (arith, c.loop-i-test.false))
 
-pub follow-symbols-spec : {M : Type 1} → statement M
-follow-symbols-spec =
+pub follow_symbols_spec : {M : Type 1} → statement M
+follow_symbols_spec =
     tie.close
     (tie.spec
     invariant-loop

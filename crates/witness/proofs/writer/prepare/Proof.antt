@@ -5,36 +5,36 @@ use Rattle.witness.proofs.Outcomes.{prepared}
 use Rattle.witness.proofs.writer.prepare.Statement.{statement}
 use Rattle.witness.proofs.writer.prepare.Tie as tie
 
-slice-aggregate-silent-rows : tie.Need-slice-aggregate-silent-rows
+slice-aggregate-silent-rows : tie.Need-slice_bounds-silent_rows-end
 slice-aggregate-silent-rows c = search rules
 
-silent-rows-requires : tie.Need-silent-rows-requires
+silent-rows-requires : tie.Need-silent_rows-near-requires
 silent-rows-requires c κs = (c.before.before.before.before.requires.0.words, known_none _ _)
 
-slice-aggregate-silent-back : tie.Need-slice-aggregate-silent-back
+slice-aggregate-silent-back : tie.Need-slice_bounds-silent_back-end
 slice-aggregate-silent-back c = search rules
 
-silent-back-requires : tie.Need-silent-back-requires
+silent-back-requires : tie.Need-silent_back-requires
 silent-back-requires c κs = search rules
 
-by-symbol-requires : tie.Need-by-symbol-requires
+by-symbol-requires : tie.Need-by_symbol-requires
 by-symbol-requires c κs = search rules
 
-same_length : tie.Need-same-length
+same_length : tie.Need-shape_of-back
 same_length c = search rules
 
-same-length-2 : tie.Need-same-length-2
+same-length-2 : tie.Need-shape_of-sets
 same-length-2 c = search rules
 
 returns : tie.Need-returns
 returns c =
     let s = c.before.before.before.before.before.before.before.before.before.before.before.before.before.before.before in
-    let r = c.before.before.before.before.before.before.before.before.before.before.silent-rows in
+    let r = c.before.before.before.before.before.before.before.before.before.before.silent_rows-near in
     prepared s.args.table.now s.args.header _ _ _ r.result (search rules) s.requires.0.symbols_small r.ensures
     (λ k. c.before.before.before.before.before.before.silent-back.ensures _ k) (c.before.before.by-symbol.ensures _)
 
-pub prepare-spec : {M : Type 1} → statement M
-prepare-spec =
+pub prepare_spec : {M : Type 1} → statement M
+prepare_spec =
     tie.close
     (tie.spec
     slice-aggregate-silent-rows

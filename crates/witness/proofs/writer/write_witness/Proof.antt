@@ -7,61 +7,61 @@ use Rattle.witness.proofs.Outcomes.{candidate_written}
 use Rattle.witness.proofs.writer.write_witness.Statement.{statement}
 use Rattle.witness.proofs.writer.write_witness.Tie as tie
 
-slice-aggregate-word-at : tie.Need-slice-aggregate-word-at
+slice-aggregate-word-at : tie.Need-slice_bounds-word_at-end
 slice-aggregate-word-at c = search rules
 
-word-at-requires : tie.Need-word-at-requires
+word-at-requires : tie.Need-word_at-entry-requires
 word-at-requires c κs = search rules
 
-cast-silent : tie.Need-overflow-cast-silent
+cast-silent : tie.Need-overflow_cast-silent
 cast-silent c = search rules
 
-slice-aggregate-prepare : tie.Need-slice-aggregate-prepare
+slice-aggregate-prepare : tie.Need-slice_bounds-prepare-end
 slice-aggregate-prepare c = search rules
 
-slice-aggregate-prepare-2 : tie.Need-slice-aggregate-prepare-2
+slice-aggregate-prepare-2 : tie.Need-slice_bounds-prepare-end-2
 slice-aggregate-prepare-2 c = search rules
 
 prepare-requires : tie.Need-prepare-requires
 prepare-requires c κs = search rules
 
-allowed-by-requires : tie.Need-allowed-by-requires
+allowed-by-requires : tie.Need-allowed_by-allowed-requires
 allowed-by-requires c κs = search rules
 
-slice-aggregate-look-back : tie.Need-slice-aggregate-look-back
+slice-aggregate-look-back : tie.Need-slice_bounds-look_back-end
 slice-aggregate-look-back c = search rules
 
-slice-aggregate-look-back-2 : tie.Need-slice-aggregate-look-back-2
+slice-aggregate-look-back-2 : tie.Need-slice_bounds-look_back-end-2
 slice-aggregate-look-back-2 c = search rules
 
 -- the call
-abbrev begin : tie.After-sets3 → tie.Start
+abbrev begin : tie.After-sets-3-1 → tie.Start
 begin x = x.before.before.before.before.before.before.before.before.before.before.before.before.before.before.before
 
-few : (x : tie.After-sets3) → (begin x).args.k ≤ 15
+few : (x : tie.After-sets-3-1) → (begin x).args.k ≤ 15
 few x =
     let s = begin x in
-    omega (arith, look_back_small s.args.header s.args.estimator.further s.pre.0.back s.pre.1.allowed, s.pre.1.few, s.pre.2)
+    omega (arith, look_back_small s.args.header s.args.estimator.further s.pre.0.back-1 s.pre.1.allowed, s.pre.1.few, s.pre.2)
 
-look-back-requires : tie.Need-look-back-requires
+look-back-requires : tie.Need-look_back-then-requires
 look-back-requires c κs =
     let P = c.before.before.before.before.before.prepare.ensures in
     ((begin c).requires.0.words, P.silently.entered.size, P.sets_are.size, few c, (_, _, P))
 
-slice-aggregate-write-run : tie.Need-slice-aggregate-write-run
+slice-aggregate-write-run : tie.Need-slice_bounds-write_run-end
 slice-aggregate-write-run c = search rules
 
-slice-aggregate-write-run-2 : tie.Need-slice-aggregate-write-run-2
+slice-aggregate-write-run-2 : tie.Need-slice_bounds-write_run-end-2
 slice-aggregate-write-run-2 c = search rules
 
-write-run-requires : tie.Need-write-run-requires
+write-run-requires : tie.Need-write_run-requires
 write-run-requires c κs =
     let x = c.before.before.before.before in
     let s = begin x in
     let P = x.before.before.before.before.before.prepare.ensures in
-    (s.pre.0.words, few x, (_, P, c.before.before.before.look-back.ensures _ _ P), s.pre.3)
+    (s.pre.0.words, few x, (_, P, c.before.before.before.look_back-then.ensures _ _ P), s.pre.3)
 
-same_length : tie.Need-same-length
+same_length : tie.Need-shape_of-output
 same_length c = search rules
 
 returns : tie.Need-returns
@@ -69,13 +69,13 @@ returns c =
     let x = c.before.before.before.before.before.before.before in
     let s = begin x in
     let P = x.before.before.before.before.before.prepare.ensures in
-    let e = x.before.before.before.before.before.before.before.before.before.word_at in
+    let e = x.before.before.before.before.before.before.before.before.before.word_at-entry in
     candidate_written _ s.args.estimator s.args.notion _ _ s.fits.secret.fits _ e.ensures.0 e.ensures.1 _
-    x.before.before.allowed-by.ensures _ _ _
-    (c.before.before.write-run.ensures _ P (c.before.before.before.before.before.before.look-back.ensures _ _ P))
+    x.before.before.allowed_by-allowed.ensures _ _ _
+    (c.before.before.write-run.ensures _ P (c.before.before.before.before.before.before.look_back-then.ensures _ _ P))
 
-pub write-witness-spec : {M : Type 1} → statement M
-write-witness-spec =
+pub write_witness_spec : {M : Type 1} → statement M
+write_witness_spec =
     tie.close
     (tie.spec
     slice-aggregate-word-at

@@ -14,18 +14,17 @@ bound-requires : tie.Need-bound-few-requires
 bound-requires c κs = search rules
 
 preimages-by-requires : tie.Need-preimages_by-into-requires
-preimages-by-requires c κs = let s = c.before.before.before in (s.requires.0, s.requires.2, c.bound-few.ensures.0)
+preimages-by-requires c κs = (c.requires.0, c.requires.2, c.bound-few.ensures.0)
 
 closures-requires : tie.Need-closures-requires
-closures-requires c κs = c.before.before.before.before.requires.1
+closures-requires c κs = c.requires.1
 
 returns : tie.Need-returns
 returns c = λ i p rest symbol h same shows b sub T.
-    let s = c.before.before.before.before.before in
-    let few = c.before.before.bound-few in
-    leaves_more p _ s.args.states _ symbol _ _ _ _ _ rest shows b sub (λ q m. few.ensures.1 q (sub q m)) T
-    (subst (λ (t : List ℕ). Is (set_at c.before.preimages_by-into.result i)
-    (λ q. (q < few.result) × Preimage (Listed t s.args.events) (set_at s.args.then i) q)) (sym same) (c.before.preimages_by-into.ensures i h))
+    let few = c.bound-few in
+    leaves_more p _ c.args.states _ symbol _ _ _ _ _ rest shows b sub (λ q m. few.ensures.1 q (sub q m)) T
+    (subst (λ (t : List ℕ). Is (set_at c.preimages_by-into.result i)
+    (λ q. (q < few.result) × Preimage (Listed t c.args.events) (set_at c.args.then i) q)) (sym same) (c.preimages_by-into.ensures i h))
     (c.closures.ensures i h)
 
 pub backward_reaches_spec : {M : Type 1} → statement M

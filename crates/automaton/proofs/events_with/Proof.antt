@@ -15,10 +15,10 @@ shared-slice-read-result : tie.Need-bounds-sets-at
 shared-slice-read-result c = search rules
 
 cast-result : tie.Need-overflow_cast-result
-cast-result c = omega (arith, c.shared_slice_known-1.given c.before.before.args.symbol)
+cast-result c = omega (arith, c.shared_slice_known-1.given c.args.symbol)
 
 returns-2 : tie.Need-returns
-returns-2 c = λ p small b. b.each _ (omega (arith, c.before.if-at-gt31.false))
+returns-2 c = λ p small b. b.each _ (omega (arith, c.if-at-gt31.false))
 
 pub events_with_spec : {M : Type 1} → statement M
 events_with_spec = tie.close (tie.spec returns mul-result shared-slice-read-result cast-result returns-2)

@@ -23,9 +23,9 @@ invariant-loop table events set left₀ r₀ left r = (left < 2 ^ 64) × Joined 
 abbrev decreases-loop : tie.decreases-loop-left
 decreases-loop table events set left₀ r₀ left r = left
 
-next : (c : tie.In-loop-left invariant-loop decreases-loop) → Taken c.before.loop-left.left (count_trailing_zeros 64 c.before.loop-left.left)
-    (bit_and c.before.loop-left.left (c.before.loop-left.left - 1))
-next c = taken c.before.loop-left.left (omega arith) c.before.loop-left.invariant.0
+next : (c : tie.In-loop-left invariant-loop decreases-loop) → Taken c.loop-left.left (count_trailing_zeros 64 c.loop-left.left)
+    (bit_and c.loop-left.left (c.loop-left.left - 1))
+next c = taken c.loop-left.left (omega arith) c.loop-left.invariant.0
 
 falls : (a b k : ℕ) → b < k → bit_and a b < k
 falls a b k h = lt_of_le_of_lt (and_le_r a b) h
@@ -37,35 +37,34 @@ cast-e : tie.Need-overflow_cast-e invariant-loop decreases-loop
 cast-e c = omega (arith, (next c).small)
 
 -- the event that is looked at
-small : (c : tie.In-loop-left invariant-loop decreases-loop) → count_trailing_zeros 64 c.before.loop-left.left < 32
-small c = c.before.before.before.requires.1 _ (c.before.loop-left.invariant.1.sub _ (next c).inside)
+small : (c : tie.In-loop-left invariant-loop decreases-loop) → count_trailing_zeros 64 c.loop-left.left < 32
+small c = c.requires.1 _ (c.loop-left.invariant.1.sub _ (next c).inside)
 
 event-rows-requires : tie.Need-event_rows-requires invariant-loop decreases-loop
-event-rows-requires c κs = (c.before.before.before.requires.0, small c)
+event-rows-requires c κs = (c.requires.0, small c)
 
 image-requires : tie.Need-image-r-requires invariant-loop decreases-loop
-image-requires c κs = ap length c.event-rows.ensures ∙ part_size _ _ (small c.before) c.before.before.before.before.requires.0
+image-requires c κs = ap length c.event_rows.ensures ∙ part_size _ _ (small c.before) c.requires.0
 
 sub-left : tie.Need-overflow_sub-left invariant-loop decreases-loop
 sub-left c = omega arith
 
 loop-less : tie.Need-loop-left-smaller invariant-loop decreases-loop
-loop-less c = falls c.before.before.before.loop-left.left _ _ (omega arith)
+loop-less c = falls c.loop-left.left _ _ (omega arith)
 
 loop-again : tie.Need-loop-left-preserved invariant-loop decreases-loop
 loop-again c = (
-  falls c.before.before.before.loop-left.left _ _ (omega (arith, c.before.before.before.loop-left.invariant.0)),
+  falls c.loop-left.left _ _ (omega (arith, c.loop-left.invariant.0)),
   join_turn _ _ _ _ _ _ _ (next c.before.before)
-      (subst (λ (l : List ℕ). Is c.image-r.result (Image (Row l) c.before.before.before.before.before.args.set)) c.before.event-rows.ensures
+      (subst (λ (l : List ℕ). Is c.image-r.result (Image (Row l) c.args.set)) c.event_rows.ensures
       c.image-r.ensures)
-      c.before.before.before.loop-left.invariant.1,
+      c.loop-left.invariant.1,
 )
 
 returns : tie.Need-returns invariant-loop decreases-loop
 returns c =
-    let s = c.before.before.before in
-    image_joined _ _ _ _ s.requires.0 (λ k. omega (arith, c.before.before.shared_slice_known-1.given k)) s.requires.1
-    (join_end _ _ _ _ c.loop-left-test.false c.before.loop-left.invariant.1)
+    image_joined _ _ _ _ c.requires.0 (λ k. omega (arith, c.shared_slice_known-1.given k)) c.requires.1
+    (join_end _ _ _ _ c.loop-left-test.false c.loop-left.invariant.1)
 
 pub image_by_spec : {M : Type 1} → statement M
 image_by_spec =

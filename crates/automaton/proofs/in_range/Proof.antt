@@ -28,14 +28,14 @@ loop-holds c = (omega arith, omega arith, λ k h. absurd (omega arith))
 
 returns : tie.Need-returns-then-bytes-i invariant-loop decreases-loop
 returns c =
-    let l = c.before.before.loop-i in
-    λ k h. all_small c.before.before.before.args.bytes.now l.i c.if-bytes-i.true l.invariant.2 k
+    let l = c.loop-i in
+    λ k h. all_small c.args.bytes.now l.i c.if-bytes-i.true l.invariant.2 k
 
 shared-slice-read-if2 : tie.Need-bounds-bytes-i invariant-loop decreases-loop
 shared-slice-read-if2 c = omega arith
 
 returns-2 : tie.Need-returns-then-bytes-i-gt31 invariant-loop decreases-loop
-returns-2 c = λ all. omega (arith, all c.before.before.before.before.loop-i.i (omega arith), c.if-bytes-i-gt31.true)
+returns-2 c = λ all. omega (arith, all c.loop-i.i (omega arith), c.if-bytes-i-gt31.true)
 
 add-i : tie.Need-overflow_add-i invariant-loop decreases-loop
 add-i c = omega arith
@@ -44,10 +44,10 @@ loop-less : tie.Need-loop-i-smaller invariant-loop decreases-loop
 loop-less c = omega arith
 
 loop-again : tie.Need-loop-i-preserved invariant-loop decreases-loop
-loop-again c = (omega arith, omega arith, below_more _ _ c.before.before.before.before.loop-i.invariant.2 (omega (arith, c.if-bytes-i-gt31.false)))
+loop-again c = (omega arith, omega arith, below_more _ _ c.loop-i.invariant.2 (omega (arith, c.if-bytes-i-gt31.false)))
 
 returns-3 : tie.Need-returns invariant-loop decreases-loop
-returns-3 c = λ k h. c.before.loop-i.invariant.2 k (omega arith)
+returns-3 c = λ k h. c.loop-i.invariant.2 k (omega arith)
 
 pub in_range_spec : {M : Type 1} → statement M
 in_range_spec =

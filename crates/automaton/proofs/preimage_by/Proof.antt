@@ -22,9 +22,9 @@ invariant-loop table events pairs set todo₀ r₀ todo r = (todo < 2 ^ 64) × J
 abbrev decreases-loop : tie.decreases-loop-todo
 decreases-loop table events pairs set todo₀ r₀ todo r = todo
 
-next : (c : tie.In-loop-todo invariant-loop decreases-loop) → Taken c.before.loop-todo.todo (count_trailing_zeros 64 c.before.loop-todo.todo)
-    (bit_and c.before.loop-todo.todo (c.before.loop-todo.todo - 1))
-next c = taken c.before.loop-todo.todo (omega arith) c.before.loop-todo.invariant.0
+next : (c : tie.In-loop-todo invariant-loop decreases-loop) → Taken c.loop-todo.todo (count_trailing_zeros 64 c.loop-todo.todo)
+    (bit_and c.loop-todo.todo (c.loop-todo.todo - 1))
+next c = taken c.loop-todo.todo (omega arith) c.loop-todo.invariant.0
 
 loop-holds : tie.Need-loop-todo-init invariant-loop decreases-loop
 loop-holds c = (omega arith, join_start _ _)
@@ -33,16 +33,15 @@ cast-e : tie.Need-overflow_cast-e invariant-loop decreases-loop
 cast-e c = omega (arith, (next c).small)
 
 -- the event that is looked at
-small : (c : tie.In-loop-todo invariant-loop decreases-loop) → count_trailing_zeros 64 c.before.loop-todo.todo < 32
-small c = c.before.before.before.requires.1 _ (c.before.loop-todo.invariant.1.sub _ (next c).inside)
+small : (c : tie.In-loop-todo invariant-loop decreases-loop) → count_trailing_zeros 64 c.loop-todo.todo < 32
+small c = c.requires.1 _ (c.loop-todo.invariant.1.sub _ (next c).inside)
 
 event-rows-requires : tie.Need-event_rows-requires invariant-loop decreases-loop
-event-rows-requires c κs = (c.before.before.before.requires.0, small c)
+event-rows-requires c κs = (c.requires.0, small c)
 
 preimage-requires : tie.Need-preimage-r-requires invariant-loop decreases-loop
 preimage-requires c κs =
-    let s = c.before.before.before.before in
-    (ap length c.event-rows.ensures ∙ part_size _ _ (small c.before) s.requires.0, s.requires.2)
+    (ap length c.event_rows.ensures ∙ part_size _ _ (small c.before) c.requires.0, c.requires.2)
 
 sub-todo : tie.Need-overflow_sub-todo invariant-loop decreases-loop
 sub-todo c = omega arith
@@ -52,20 +51,19 @@ loop-less c = (next c.before.before).less
 
 loop-again : tie.Need-loop-todo-preserved invariant-loop decreases-loop
 loop-again c =
-    let l = c.before.before.before.loop-todo in
-    let a = c.before.before.before.before.before.args in
+    let l = c.loop-todo in
+    let a = c.args in
     let k = next c.before.before in (
       omega (arith, k.less),
       join_turn _ _ _ _ _ _ _ k
-          (subst (λ (w : List ℕ). Is c.preimage-r.result (Leading w (2 * a.pairs) a.set)) c.before.event-rows.ensures c.preimage-r.ensures)
+          (subst (λ (w : List ℕ). Is c.preimage-r.result (Leading w (2 * a.pairs) a.set)) c.event_rows.ensures c.preimage-r.ensures)
           l.invariant.1,
     )
 
 returns : tie.Need-returns invariant-loop decreases-loop
 returns c =
-    let s = c.before.before.before in
-    preimage_joined _ _ _ _ s.requires.0 (λ k. omega (arith, c.before.before.shared_slice_known-1.given k)) s.requires.1 (2 * s.args.pairs)
-    (join_end _ _ _ _ c.loop-todo-test.false c.before.loop-todo.invariant.1)
+    preimage_joined _ _ _ _ c.requires.0 (λ k. omega (arith, c.shared_slice_known-1.given k)) c.requires.1 (2 * c.args.pairs)
+    (join_end _ _ _ _ c.loop-todo-test.false c.loop-todo.invariant.1)
 
 pub preimage_by_spec : {M : Type 1} → statement M
 preimage_by_spec =

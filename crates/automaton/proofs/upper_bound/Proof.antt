@@ -29,10 +29,10 @@ loop-less : tie.Need-loop-e-smaller invariant-loop decreases-loop
 loop-less c = omega arith
 
 loop-again : tie.Need-loop-e-preserved invariant-loop decreases-loop
-loop-again c = (omega arith, below_more _ _ (λ k h. omega (arith, c.before.before.loop-e.invariant.1 k h)) (omega arith))
+loop-again c = (omega arith, below_more _ _ (λ k h. omega (arith, c.loop-e.invariant.1 k h)) (omega arith))
 
 returns : tie.Need-returns invariant-loop decreases-loop
-returns c = λ k h. c.before.loop-e.invariant.1 k (omega arith)
+returns c = λ k h. c.loop-e.invariant.1 k (omega arith)
 
 pub upper_bound_spec : {M : Type 1} → statement M
 upper_bound_spec =

@@ -18,10 +18,10 @@ small-symbols-requires c κs = search rules
 
 returns-4 : tie.Need-returns
 returns-4 c =
-    decided_as c.small-symbols.result
+    decided_as c.small_symbols.result
     (λ s. record { words = search rules; back = search rules; start = search rules; symbols_small = s })
     (λ x. x.symbols_small)
-    c.small-symbols.ensures
+    c.small_symbols.ensures
 
 pub well_formed_spec : {M : Type 1} → statement M
 well_formed_spec = tie.close (tie.spec returns returns-2 returns-3 small-symbols-requires returns-4)

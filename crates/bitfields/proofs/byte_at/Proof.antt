@@ -8,17 +8,17 @@ use Rattle.bitfields.proofs.byte_at.Tie as tie
 
 returns : tie.Need-returns-then-bytes-index
 returns c =
-    let a = c.before.args in
+    let a = c.args in
     (sym (get_or-eq_default a.bytes.now 0 {n = a.index} (omega arith)), omega arith)
 
 shared-slice-read-result : tie.Need-bounds-bytes-index
 shared-slice-read-result c = search rules
 
 cast-result : tie.Need-overflow_cast-result
-cast-result c = record { fits = omega (arith, (c.shared_slice_known-1.given c.before.before.args.index).fits) }
+cast-result c = record { fits = omega (arith, (c.shared_slice_known-1.given c.args.index).fits) }
 
 returns-2 : tie.Need-returns
-returns-2 c = (refl, (c.shared_slice_known-1.given c.before.before.args.index).fits)
+returns-2 c = (refl, (c.shared_slice_known-1.given c.args.index).fits)
 
 pub byte_at_spec : {M : Type 1} → statement M
 byte_at_spec = tie.close (tie.spec returns shared-slice-read-result cast-result returns-2)

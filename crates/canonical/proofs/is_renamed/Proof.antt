@@ -13,32 +13,29 @@ use Rattle.canonical.proofs.is_renamed.Tie as tie
 abbrev symbols : tie.Start → ℕ → ℕ
 symbols s x = get_or s.args.symbols.now x 0
 
-observable : (c : tie.Else-not-member) → In c.before.before.before.args.e c.before.before.before.args.observable
-observable c = holds c.before.member.result (not-false _ c.if-not-member.false) c.before.member.ensures
+observable : (c : tie.Else-not-member) → In c.args.e c.args.observable
+observable c = holds c.member.result (not-false _ c.if-not-member.false) c.member.ensures
 
 member-requires : tie.Need-member-requires
 member-requires c κs = search rules
 
 returns : tie.Need-returns-then-not-member
 returns c =
-    let s = c.before.before.before in
-    not_observable s.args.observable (symbols s) s.args.e (fails c.before.member.result (not-true _ c.if-not-member.true) c.before.member.ensures)
+    not_observable c.args.observable (symbols c.before.before.before) c.args.e (fails c.member.result (not-true _ c.if-not-member.true) c.member.ensures)
 
 shared-slice-read-if2 : tie.Need-bounds-symbols-e
 shared-slice-read-if2 c = search rules
 
 cast-if2 : tie.Need-overflow_cast-symbols
-cast-if2 c = omega (arith, c.shared_slice_known-2-1.given c.before.before.before.before.args.e)
+cast-if2 c = omega (arith, c.shared_slice_known-2-1.given c.args.e)
 
 returns-2 : tie.Need-returns-then-symbols-e
 returns-2 c =
-    let s = c.before.before.before.before.before in
-    own_number s.args.observable (symbols s) s.args.e (observable c.before.before) c.if-symbols-e.true
+    own_number c.args.observable (symbols c.before.before.before.before.before) c.args.e (observable c.before.before) c.if-symbols-e.true
 
 returns-3 : tie.Need-returns
 returns-3 c =
-    let s = c.before.before.before.before.before in
-    other_number s.args.observable (symbols s) s.args.e (observable c.before.before) c.if-symbols-e.false
+    other_number c.args.observable (symbols c.before.before.before.before.before) c.args.e (observable c.before.before) c.if-symbols-e.false
 
 pub is_renamed_spec : {M : Type 1} → statement M
 is_renamed_spec =

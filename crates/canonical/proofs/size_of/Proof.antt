@@ -14,20 +14,20 @@ mul-result : tie.Need-overflow_mul-result
 mul-result c = search rules
 
 -- where the preamble ends at the most
-early : (c : tie.After-struct_known-1) → c.before.preamble-end.result ≤ 288
+early : (c : tie.After-struct_known-1) → c.preamble_end.result ≤ 288
 early c =
-    let x = c.before.before.before.requires.fixed-1 in
-    omega (arith, c.before.preamble-end.ensures, symbols_few _ x, x.topstate, x.topevent)
+    let x = c.requires.fixed in
+    omega (arith, c.preamble_end.ensures, symbols_few _ x, x.topstate, x.topevent)
 
 add-result : tie.Need-overflow_add-result
-add-result c = omega (arith, early c, c.before.before.before.requires.fixed-1.count)
+add-result c = omega (arith, early c, c.requires.fixed.count)
 
 add-result-2 : tie.Need-overflow_add-result-2
-add-result-2 c = omega (arith, early c, c.before.before.before.requires.fixed-1.count)
+add-result-2 c = omega (arith, early c, c.requires.fixed.count)
 
 returns : tie.Need-returns
 unfolding size_of
-returns c = rw c.before.preamble-end.ensures
+returns c = rw c.preamble_end.ensures
 
 pub size_of_spec : {M : Type 1} → statement M
 size_of_spec =

@@ -26,9 +26,8 @@ is-renamed-requires c κs = omega arith
 
 returns : tie.Need-returns-then-is_renamed invariant-loop decreases-loop
 returns c =
-    let s = c.before.before.before.before.before in
-    sym (some_found s.args.observable (symbols s) c.before.before.before.loop-e.e s.args.n
-    (sym c.before.is-renamed.ensures ∙ c.if-is_renamed.true) (omega arith))
+    sym (some_found c.args.observable (symbols c.before.before.before.before.before) c.loop-e.e c.args.n
+    (sym c.is_renamed.ensures ∙ c.if-is_renamed.true) (omega arith))
 
 add-e : tie.Need-overflow_add-e invariant-loop decreases-loop
 add-e c = omega arith
@@ -38,14 +37,13 @@ loop-less c = omega arith
 
 loop-again : tie.Need-loop-e-preserved invariant-loop decreases-loop
 loop-again c =
-    let s = c.before.before.before.before.before in
-    let l = c.before.before.before.loop-e in
-    (omega arith, none_turn s.args.observable (symbols s) l.e l.invariant.1 (sym c.before.is-renamed.ensures ∙ c.if-is_renamed.false))
+    let l = c.loop-e in
+    (omega arith, none_turn c.args.observable (symbols c.before.before.before.before.before) l.e l.invariant.1 (sym c.is_renamed.ensures ∙ c.if-is_renamed.false))
 
 returns-2 : tie.Need-returns invariant-loop decreases-loop
 returns-2 c =
-    let l = c.before.loop-e in
-    let e : l.e ≡ c.before.before.before.args.n = omega arith in
+    let l = c.loop-e in
+    let e : l.e ≡ c.args.n = omega arith in
     rw (← e) (sym l.invariant.1)
 
 pub some_renamed_spec : {M : Type 1} → statement M

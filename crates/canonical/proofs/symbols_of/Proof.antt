@@ -13,12 +13,11 @@ symbol-count-requires c κs = search rules
 
 all-symbols-requires : tie.Need-all_symbols-requires
 all-symbols-requires c κs =
-    let s = c.before.before.before in
-    let x = s.requires.0.fixed in
-    omega (arith, c.symbol_count-n.ensures, c.before.front_end-at.ensures, symbols_few s.args.front.fixed x, x.topstate, x.topevent, s.requires.1)
+    let x = c.requires.0.fixed in
+    omega (arith, c.symbol_count-n.ensures, c.front_end-at.ensures, symbols_few c.args.front.fixed x, x.topstate, x.topevent, c.requires.1)
 
 returns : tie.Need-returns
-returns c = rw (← c.before.symbol_count-n.ensures, ← c.before.before.front_end-at.ensures) c.all-symbols.ensures
+returns c = rw (← c.symbol_count-n.ensures, ← c.front_end-at.ensures) c.all_symbols.ensures
 
 pub symbols_of_spec : {M : Type 1} → statement M
 symbols_of_spec =

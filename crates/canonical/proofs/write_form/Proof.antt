@@ -24,38 +24,36 @@ abbrev start : tie.After-size_of-size → tie.Start
 start c = c.before.before.before.before.before.before.before.before.before.before
 
 found : (c : tie.After-size_of-size)
-    → Found (start c).args.bytes.now (start c).args.front c.before.with_flag-form.result
-    c.before.before.before.before.before.before.symbols_of-symbols.result c.type_size.result
+    → Found (start c).args.bytes.now (start c).args.front c.with_flag-form.result
+    c.symbols_of-symbols.result c.type_size.result
 found c =
     let s = start c in
-    let symbols = c.before.before.before.before.before.before.symbols_of-symbols.ensures in
-    let needed = needed_is s.args.bytes.now s.args.front _ _ (small s) symbols c.before.before.before.some_renamed-needed.ensures in
+    let symbols = c.symbols_of-symbols.ensures in
+    let needed = needed_is s.args.bytes.now s.args.front _ _ (small s) symbols c.some_renamed-needed.ensures in
     record {
       accepted = s.pre;
       symbols_are = symbols;
-      form_is = c.before.with_flag-form.ensures ∙ ap (with_flag s.args.front) (c.before.before.number_of.ensures ∙ ap one_if needed);
+      form_is = c.with_flag-form.ensures ∙ ap (with_flag s.args.front) (c.number_of.ensures ∙ ap one_if needed);
       size_is = c.type_size.ensures;
     }
 
 symbols-of-requires : tie.Need-symbols_of-symbols-requires
 symbols-of-requires c κs =
-    let s = c.before.before.before in
-    (small s, omega (arith, (encoding_in s.args.bytes.now s.requires).ends))
+    (small c.before.before.before, omega (arith, (encoding_in c.args.bytes.now c.requires).ends))
 
 slice-aggregate-some-renamed : tie.Need-slice_bounds-some_renamed-end
 slice-aggregate-some-renamed c = search rules
 
 add-some-renamed : tie.Need-overflow_add-fixed
-add-some-renamed c = omega (arith, (small c.before.before.before.before.before.before).fixed-1.topevent)
+add-some-renamed c = omega (arith, (small c.before.before.before.before.before.before).fixed.topevent)
 
 some-renamed-requires : tie.Need-some_renamed-needed-requires
 some-renamed-requires c κs =
-    let s = c.before.before.before.before.before.before in
     omega (
       arith,
-      (small s).fixed-1.topevent,
-      ap length c.before.before.symbols_of-symbols.ensures,
-      header_length s.args.front.observable (given_symbols (bits_of s.args.bytes.now) s.args.front),
+      (small c.before.before.before.before.before.before).fixed.topevent,
+      ap length c.symbols_of-symbols.ensures,
+      header_length c.args.front.observable (given_symbols (bits_of c.args.bytes.now) c.args.front),
     )
 
 number-of-requires : tie.Need-number_of-requires
@@ -66,8 +64,7 @@ with-flag-requires c κs = search rules
 
 size-of-requires : tie.Need-size_of-size-requires
 size-of-requires c κs =
-    let s = c.before.before.before.before.before.before.before.before.before in
-    flagged_small _ _ _ c.before.before.some_renamed-needed.result (small s) c.before.number_of.ensures c.with_flag-form.ensures
+    flagged_small _ _ _ c.some_renamed-needed.result (small c.before.before.before.before.before.before.before.before.before) c.number_of.ensures c.with_flag-form.ensures
 
 returns : tie.Need-returns-then-output-size
 returns c = lacking _ (found c.before) c.if-output-size.true
@@ -81,14 +78,14 @@ slice-aggregate-write c = search rules
 write-requires : tie.Need-write-requires
 write-requires c κs =
     let x = found c.before.before.before.before in
-    let at = c.before.before.preamble_end-at.ensures in
-    let flag = c.before.before.before.before.before.before in (
-      flagged_small _ _ _ flag.before.some_renamed-needed.result (small (start c.before.before.before.before)) flag.number_of.ensures
-          c.before.before.before.before.before.with_flag-form.ensures,
+    let at = c.preamble_end-at.ensures in
+    (
+      flagged_small _ _ _ c.some_renamed-needed.result (small (start c.before.before.before.before)) c.number_of.ensures
+          c.with_flag-form.ensures,
       found_stand _ x at,
       found_length x,
       found_size x ∙ ap (λ (e : Encoding). size_of (length (encoding_bits e))) (sym (found_form _ x at)),
-      c.before.before.before.if-output-size.false,
+      c.if-output-size.false,
     )
 
 same_length : tie.Need-shape_of-output
@@ -96,8 +93,7 @@ same_length c = search rules
 
 returns-2 : tie.Need-returns
 returns-2 c =
-    let k = c.before.before.before.before.before in
-    written _ _ _ (found k.before.before) k.preamble_end-at.ensures k.before.if-output-size.false c.before.before.write.ensures
+    written _ _ _ (found c.before.before.before.before.before.before.before) c.preamble_end-at.ensures c.if-output-size.false c.write.ensures
 
 pub write_form_spec : {M : Type 1} → statement M
 write_form_spec =

@@ -15,10 +15,10 @@ enum-known-gathered c = search rules
 sub-write-output : tie.Need-overflow-sub-write-output
 sub-write-output c = search rules
 
-part-write-output-start : tie.Need-slice_bounds-write-output-start
+part-write-output-start : tie.Need-slice-bounds-write-output-start
 part-write-output-start c = search rules
 
-part-write-output-end : tie.Need-slice_bounds-write-output-end
+part-write-output-end : tie.Need-slice-bounds-write-output-end
 part-write-output-end c =
     let start = c.before.before.before.before.before in
     let filled = subst (Filled start.args.input.now) c.before.gathered.given.1 start.requires.0 in
@@ -33,10 +33,10 @@ enum-known-gathered-2 c = search rules
 sub-write-output-2 : tie.Need-overflow-sub-write-output-2
 sub-write-output-2 c = search rules
 
-part-write-output-start-2 : tie.Need-slice_bounds-write-output-start-2
+part-write-output-start-2 : tie.Need-slice-bounds-write-output-start-2
 part-write-output-start-2 c = search rules
 
-part-write-output-end-2 : tie.Need-slice_bounds-write-output-end-2
+part-write-output-end-2 : tie.Need-slice-bounds-write-output-end-2
 part-write-output-end-2 c =
     let start = c.before.before.before.before.before in
     let filled = subst (Filled start.args.input.now) c.before.gathered2.given.1 start.requires.0 in

@@ -32,7 +32,7 @@ loop-less c = omega arith
 
 loop-again : tie.Need-loop-i-preserved invariant-loop decreases-loop
 loop-again c =
-    let l = c.before.loop-i in
+    let l = c.loop-i in
     (omega arith, simp length-set l.invariant.1, ap (λ (t : List ℕ). set t l.i 0) l.invariant.2 ∙ fill_more l.i 0 _ (omega arith))
 
 same_length : tie.Need-shape_of-table invariant-loop decreases-loop
@@ -40,8 +40,8 @@ same_length c = omega arith
 
 returns : tie.Need-returns invariant-loop decreases-loop
 returns c =
-    let l = c.before.loop-i in
-    let t = c.before.before.args.table.now in
+    let l = c.loop-i in
+    let t = c.args.table.now in
     let e : l.i ≡ length t = omega arith in
     l.invariant.2 ∙ rw (e, drop-length t, append-nil)
 

@@ -16,28 +16,28 @@ use borrow.Author.Rules.{rules}
 use Rattle.decoding.proofs.decode.Statement.{statement}
 use Rattle.decoding.proofs.decode.Tie as tie
 
-abbrev bytes : tie.In-Value-2 → List ℕ
+abbrev bytes : tie.In-Value → List ℕ
 bytes c = c.before.before.before.before.before.before.args.bytes.now
 
-abbrev part : tie.In-Value-2 → Front
-part c = c.f-1.given.0.0
+abbrev part : tie.In-Value → Front
+part c = c.f.given.0.0
 
 -- what the first pass gave, and how large the numbers are
-f1 : (c : tie.In-Value-2) → encoding (bits_of (bytes c)) 0 ≡ encoding_means (bits_of (bytes c)) (Value (part c))
-f1 c = told (encoding_means (bits_of (bytes c))) c.before.before.check-bytes.ensures c.f-1.given.1
+f1 : (c : tie.In-Value) → encoding (bits_of (bytes c)) 0 ≡ encoding_means (bits_of (bytes c)) (Value (part c))
+f1 c = told (encoding_means (bits_of (bytes c))) c.check_bytes.ensures c.in-Value.is
 
-small : (c : tie.In-Value-2) → FrontSmall (part c) × (preamble_end (part c) + (part c).fixed.count * 17 ≤ length (bits_of (bytes c)))
+small : (c : tie.In-Value) → FrontSmall (part c) × (preamble_end (part c) + (part c).fixed.count * 17 ≤ length (bits_of (bytes c)))
 small c = let x = encoding_in (bytes c) (f1 c) in (x.front, x.ends)
 
 -- the table where it was cleared, and the first pass before it
-abbrev up : tie.After-clear → tie.In-Value-2
+abbrev up : tie.After-clear → tie.In-Value
 up c = c.before.before.before
 
 refused-requires : tie.Need-refused-requires
 refused-requires c κs = search rules
 
 returns : tie.Need-returns-then-table-ne2048
-returns c = refuses _ _ _ c.refused.ensures (Decoding.malformed c.before.if-table-ne2048.true)
+returns c = refuses _ _ _ c.refused.ensures (Decoding.malformed c.if-table-ne2048.true)
 
 check-bytes-requires : tie.Need-check_bytes-requires
 check-bytes-requires c κs = search rules
@@ -56,25 +56,22 @@ clear-requires c κs = search rules
 
 read-bytes-requires : tie.Need-read_bytes-header-requires
 read-bytes-requires c κs =
-    let k = c.before.before.before in
-    let x = small (up k) in
-    (x.0, x.1, k.clear.ensures ∙ ap (λ (n : ℕ). replicate n 0) (up k).before.before.before.if-table-ne2048.false)
+    let x = small (up c.before.before.before) in
+    (x.0, x.1, c.clear.ensures ∙ ap (λ (n : ℕ). replicate n 0) (up c.before.before.before).before.before.before.if1.false)
 
 returns-2 : tie.Need-returns-in-Refused
 returns-2 c =
-    let k = c.before.before.before.before in
-    let a = k.before.before.before.before.args in
+    let a = c.args in
     refuses _ _ _ c.refused-in-Refused.ensures
-    (Decoding.refused k.before.if-table-ne2048.false _ (told (encoding_means (bits_of a.bytes.now)) k.check-bytes.ensures c.before.before.r-1.given.1))
+    (Decoding.refused c.if-table-ne2048.false _ (told (encoding_means (bits_of a.bytes.now)) c.check_bytes.ensures c.in-Refused.is))
 
 same_length : tie.Need-shape_of-table
 same_length c = search rules
 
 returns-3 : tie.Need-returns-in-Value
 returns-3 c =
-    let r = c.before.before in
-    let k = up r.before.before.before.before in
-    accepts _ _ _ (part k) _ k.before.before.before.if-table-ne2048.left (f1 k) r.read_bytes-header.ensures.1 r.read_bytes-header.ensures.0
+    let k = up c.before.before.before.before.before.before in
+    accepts _ _ _ (part k) _ k.before.before.before.if1.left (f1 k) c.read_bytes-header.ensures.1 c.read_bytes-header.ensures.0
 
 pub decode_spec : {M : Type 1} → statement M
 decode_spec =

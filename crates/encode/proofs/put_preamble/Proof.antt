@@ -14,13 +14,12 @@ symbol-count-requires c κs = search rules
 
 put-symbols-requires : tie.Need-put_symbols-requires
 put-symbols-requires c κs =
-    let s = c.before.before.before.before.before.before.before.before in
-    let small = s.requires.0.fixed in
+    let small = c.requires.0.fixed in
     omega (
       arith,
-      c.before.symbol_count-n.ensures,
-      symbols_few s.args.front.fixed small,
-      c.before.before.before.before.put_front-at.ensures.0,
+      c.symbol_count-n.ensures,
+      symbols_few c.args.front.fixed small,
+      c.put_front-at.ensures.0,
       small.topstate,
       small.topevent,
     )
@@ -30,9 +29,9 @@ same_length c = search rules
 
 returns : tie.Need-returns
 returns c =
-    let front = c.before.before.before.before.before.before.before.put_front-at.ensures in
-    let given = c.before.before.put-symbols.ensures in
-    preamble_all _ _ _ _ _ front.0 front.1 c.before.before.before.before.symbol_count-n.ensures given.0 given.1
+    let front = c.put_front-at.ensures in
+    let given = c.put_symbols.ensures in
+    preamble_all _ _ _ _ _ front.0 front.1 c.symbol_count-n.ensures given.0 given.1
 
 pub put_preamble_spec : {M : Type 1} → statement M
 put_preamble_spec =

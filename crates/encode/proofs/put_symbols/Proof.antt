@@ -16,13 +16,13 @@ abbrev decreases-loop : tie.decreases-loop-i
 decreases-loop output₀ at n symbols i₀ output i = n - i
 
 loop-holds : tie.Need-loop-i-init invariant-loop decreases-loop
-loop-holds c = (omega arith, symbols_start c.before.before.args.symbols.now _ _)
+loop-holds c = (omega arith, symbols_start c.args.symbols.now _ _)
 
 shared-slice-read-symbol : tie.Need-bounds-symbols-i invariant-loop decreases-loop
 shared-slice-read-symbol c = omega arith
 
 cast-symbol : tie.Need-overflow_cast-symbol invariant-loop decreases-loop
-cast-symbol c = omega (arith, c.shared_slice_known-in-loop-i-1.given c.before.before.loop-i.i)
+cast-symbol c = omega (arith, c.shared_slice_known-in-loop-i-1.given c.loop-i.i)
 
 mul-put-number : tie.Need-overflow_mul-i invariant-loop decreases-loop
 mul-put-number c = omega arith
@@ -41,8 +41,8 @@ loop-less c = omega arith
 
 loop-again : tie.Need-loop-i-preserved invariant-loop decreases-loop
 loop-again c =
-    let l = c.before.before.before.before.before.before.loop-i in
-    (omega arith, symbols_turn _ _ _ (omega arith) l.invariant.1 c.before.before.put-number.ensures.1)
+    let l = c.loop-i in
+    (omega arith, symbols_turn _ _ _ (omega arith) l.invariant.1 c.put_number.ensures.1)
 
 mul-result : tie.Need-overflow_mul-result invariant-loop decreases-loop
 mul-result c = omega arith
@@ -51,12 +51,12 @@ add-result : tie.Need-overflow_add-result invariant-loop decreases-loop
 add-result c = omega arith
 
 same_length : tie.Need-shape_of-output invariant-loop decreases-loop
-same_length c = c.before.loop-i.invariant.1.size
+same_length c = c.loop-i.invariant.1.size
 
 returns : tie.Need-returns invariant-loop decreases-loop
 returns c =
-    let l = c.before.loop-i in
-    let e : l.i ≡ c.before.before.before.before.args.n = omega arith in
+    let l = c.loop-i in
+    let e : l.i ≡ c.args.n = omega arith in
     (refl, rw (← e) l.invariant.1)
 
 pub put_symbols_spec : {M : Type 1} → statement M

@@ -36,10 +36,9 @@ wait-at-requires c κs = search rules
 
 returns : tie.Need-returns-then-further-eq0
 returns c =
-    let s = c.before.before.before in
-    let a = s.args in
+    let a = c.args in
     let one : length (secrets_of a.header a.further) ≤ 1 = omega (arith, how_many_most a.header a.further, c.if-further-eq0.true) in
-    largest_steps a.header a.further a.verdicts _ 0 0 0 _ s.requires.1 c.before.before.wait_at-w0.ensures
+    largest_steps a.header a.further a.verdicts _ 0 0 0 _ c.requires.1 c.wait_at-w0.ensures
     (no_wait _ 1 _ one) (no_wait _ 2 _ (omega arith)) (no_wait _ 3 _ (omega arith)) (omega arith)
 
 wait-at-requires-2 : tie.Need-wait_at-w1-requires
@@ -62,11 +61,8 @@ larger-requires-3 c κs = search rules
 
 returns-2 : tie.Need-returns
 returns-2 c =
-    let w4 = c.before.before.before in
-    let w1 = w4.before.before.before.before.before in
-    let s = w1.before in
-    largest_steps s.args.header s.args.further s.args.verdicts _ _ _ _ _ s.requires.1 w1.wait_at-w0.ensures w4.before.before.wait_at-w1.ensures
-    w4.before.wait_at-w2.ensures w4.wait_at-w3.ensures (c.larger.ensures ∙ ap₂ max c.before.before.larger-a.ensures c.before.larger-b.ensures)
+    largest_steps c.args.header c.args.further c.args.verdicts _ _ _ _ _ c.requires.1 c.wait_at-w0.ensures c.wait_at-w1.ensures
+    c.wait_at-w2.ensures c.wait_at-w3.ensures (c.larger.ensures ∙ ap₂ max c.larger-a.ensures c.larger-b.ensures)
 
 pub largest_wait_spec : {M : Type 1} → statement M
 largest_wait_spec =

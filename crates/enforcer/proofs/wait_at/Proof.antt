@@ -14,12 +14,12 @@ use Rattle.enforcer.proofs.wait_at.Statement.{statement}
 use Rattle.enforcer.proofs.wait_at.Tie as tie
 
 -- it is given
-given : (u : tie.Else-further-i) → u.before.before.args.i < length (secrets_of u.before.before.args.header u.before.before.args.further)
-given u = let s = u.before.before in omega (arith, u.if-further-i.false, how_many s.args.header s.args.further s.requires.1.few)
+given : (u : tie.Else-further-i) → u.args.i < length (secrets_of u.args.header u.args.further)
+given u = omega (arith, u.if-further-i.false, how_many u.args.header u.args.further u.requires.1.few)
 
 returns : tie.Need-returns-then-further-i
 returns c =
-    let a = c.before.before.args in
+    let a = c.args in
     no_wait (secrets_of a.header a.further) a.i _ (omega (arith, c.if-further-i.true, how_many_most a.header a.further))
 
 secret-at-requires : tie.Need-secret_at-secret-requires
@@ -27,17 +27,15 @@ secret-at-requires c κs = search rules
 
 wait-requires : tie.Need-wait-requires
 wait-requires c κs =
-    let s = c.before.before.before in
-    let low = secret_back s.args.header s.args.further s.args.i (given c.before) in
-    let small = look_back_small s.args.header s.args.further s.requires.0 s.requires.1 in
+    let low = secret_back c.args.header c.args.further c.args.i (given c.before) in
+    let small = look_back_small c.args.header c.args.further c.requires.0 c.requires.1 in
     omega (arith, ap (λ (x : Secret). x.k) c.secret_at-secret.ensures, low, small)
 
 returns-2 : tie.Need-returns
 returns-2 c =
-    let u = c.before.before in
     record {
-      given = λ g. c.wait.ensures ∙ ap (λ (x : Secret). wait_of x.k (steps_of u.before.before.args.verdict)) c.before.secret_at-secret.ensures;
-      other = λ o. absurd (omega (arith, given u, o));
+      given = λ g. c.wait.ensures ∙ ap (λ (x : Secret). wait_of x.k (steps_of c.args.verdict)) c.secret_at-secret.ensures;
+      other = λ o. absurd (omega (arith, given c.before.before, o));
     }
 
 pub wait_at_spec : {M : Type 1} → statement M

@@ -9,8 +9,7 @@ use Rattle.estimates.proofs.estimate_from.Tie as tie
 
 silent-rows-requires : tie.Need-silent_rows-reach-requires
 silent-rows-requires c κs =
-    let s = c.before.before.before in
-    (s.requires.0, known_more _ _ s.args.from _ _ (λ q i. or_l q s.args.from _ i) s.requires.2)
+    (c.requires.0, known_more _ _ c.args.from _ _ (λ q i. or_l q c.args.from _ i) c.requires.2)
 
 unobservable-reach-requires : tie.Need-unobservable_reach-states-requires
 unobservable-reach-requires c κs = search rules
@@ -23,12 +22,11 @@ same_length c = search rules
 
 returns : tie.Need-returns
 returns c =
-    let u = c.before in
     let s = u.before.before.before.before.before.before.before.before in
-    estimated _ s.args.from s.args.entry _ u.before.before.before.before.silent_rows-reach.result u.unobservable_reach-states.result c.size.result
+    estimated _ s.args.from s.args.entry _ c.silent-rows.result c.unobservable_reach-states.result c.size.result
     s.requires.1 s.ranges.entry.fits
-    (omega arith) u.before.before.before.before.silent_rows-reach.ensures u.unobservable_reach-states.ensures.0
-    (λ trace closed sub E. u.unobservable_reach-states.ensures.1 _ trace s.requires.1 closed sub E) c.size.ensures
+    (omega arith) c.silent-rows.ensures c.unobservable_reach-states.ensures.0
+    (λ trace closed sub E. c.unobservable_reach-states.ensures.1 _ trace s.requires.1 closed sub E) c.size.ensures
 
 pub estimate_from_spec : {M : Type 1} → statement M
 estimate_from_spec =

@@ -26,7 +26,7 @@ next_entry : (c : tie.After-observable_reach-after) (symbol : ℕ)
 next_entry c symbol shown trace E =
     let s = begin c in
     let g = s.pre.3 in
-    c.observable_reach-after.ensures _ trace symbol refl shown (c.before.unobservable_reach-estimate.ensures.1 _ trace s.pre.1 (gained_closed _ _ _ _ g) g.more E)
+    c.observable_reach-after.ensures _ trace symbol refl shown (c.unobservable_reach-estimate.ensures.1 _ trace s.pre.1 (gained_closed _ _ _ _ g) g.more E)
 
 unobservable-reach-requires : tie.Need-unobservable_reach-estimate-requires
 unobservable-reach-requires c κs = (gained_closed _ _ _ _ c.before.before.before.requires.3).size
@@ -48,9 +48,8 @@ same-length-2 c = search rules
 
 returns-2 : tie.Need-returns
 returns-2 c = λ symbol shown.
-    let i = c.before.before.before.before in
-    some_run (stepping _ _ _ symbol i.before.observable_reach-after.result _ _ c.before.before.estimate_from-next.ensures i.if-after-eq0.false (omega arith)
-    (next_entry i.before symbol shown))
+    some_run (stepping _ _ _ symbol c.observable_reach-after.result _ _ c.estimate_from-next.ensures c.if-after-eq0.false (omega arith)
+    (next_entry c.before.before.before.before.before symbol shown))
 
 pub next_estimate_spec : {M : Type 1} → statement M
 next_estimate_spec =

@@ -37,10 +37,10 @@ loop-less : tie.Need-loop-l-smaller invariant-loop decreases-loop
 loop-less c = search rules
 
 loop-again : tie.Need-loop-l-preserved invariant-loop decreases-loop
-loop-again c = store_turn (omega arith) (omega arith) c.before.loop-l.invariant
+loop-again c = store_turn (omega arith) (omega arith) c.loop-l.invariant
 
 returns : tie.Need-returns invariant-loop decreases-loop
-returns c = store_end (omega arith) c.before.loop-l.invariant
+returns c = store_end (omega arith) c.loop-l.invariant
 
 pub push_entry_spec : {M : Type 1} → statement M
 push_entry_spec =

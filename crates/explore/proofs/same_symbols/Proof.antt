@@ -31,10 +31,10 @@ loop-less : tie.Need-loop-i-smaller invariant-loop decreases-loop
 loop-less c = omega arith
 
 loop-again : tie.Need-loop-i-preserved invariant-loop decreases-loop
-loop-again c = (omega arith, agree_turn _ _ _ c.if-a-i.false c.before.before.loop-i.invariant.1)
+loop-again c = (omega arith, agree_turn _ _ _ c.if-a-i.false c.loop-i.invariant.1)
 
 returns-2 : tie.Need-returns invariant-loop decreases-loop
-returns-2 c = agree_end _ _ 15 _ (search rules) (search rules) (omega arith) c.before.loop-i.invariant.1
+returns-2 c = agree_end _ _ 15 _ (search rules) (search rules) (omega arith) c.loop-i.invariant.1
 
 pub same_symbols_spec : {M : Type 1} → statement M
 same_symbols_spec =

@@ -26,13 +26,11 @@ remembered-of-requires c κs = search rules
 
 returns : tie.Need-returns
 returns c =
-    let strong = c.before in
-    let weak = strong.before in
-    let a = weak.before.before.before.args in
+    let a = c.args in
     let Largest : VerdictsBy → ℕ → Type 0 = λ v w. LargestWait (secrets_of a.header a.further) (steps_each a.further v) w in (
       c.remembered_of-remembered.ensures,
-      subst (λ (v : VerdictsBy). Largest v weak.largest_wait-weak_wait.result) weak.before.before.choose_each-weak.ensures weak.largest_wait-weak_wait.ensures,
-      subst (λ (v : VerdictsBy). Largest v strong.largest_wait-strong_wait.result) weak.before.choose_each-strong.ensures strong.largest_wait-strong_wait.ensures,
+      subst (λ (v : VerdictsBy). Largest v c.largest_wait-weak_wait.result) c.choose_each-weak.ensures c.largest_wait-weak_wait.ensures,
+      subst (λ (v : VerdictsBy). Largest v c.largest_wait-strong_wait.result) c.choose_each-strong.ensures c.largest_wait-strong_wait.ensures,
     )
 
 pub with_waits_spec : {M : Type 1} → statement M

@@ -20,10 +20,10 @@ line-end-requires c κs = search rules
 sub-run : tie.Need-overflow-sub-run invariant-loop decreases-loop
 sub-run c = search rules
 
-part-run-start : tie.Need-slice_bounds-run-start invariant-loop decreases-loop
+part-run-start : tie.Need-slice-bounds-run-start invariant-loop decreases-loop
 part-run-start c = search rules
 
-part-run-end : tie.Need-slice_bounds-run-end invariant-loop decreases-loop
+part-run-end : tie.Need-slice-bounds-run-end invariant-loop decreases-loop
 part-run-end c = search rules
 
 run-requires : tie.Need-run-requires invariant-loop decreases-loop

@@ -14,10 +14,10 @@ least-requires c κs = search rules
 sub-advance : tie.Need-overflow-sub-advance
 sub-advance c = search rules
 
-part-advance-start : tie.Need-slice_bounds-advance-start
+part-advance-start : tie.Need-slice-bounds-advance-start
 part-advance-start c = search rules
 
-part-advance-end : tie.Need-slice_bounds-advance-end
+part-advance-end : tie.Need-slice-bounds-advance-end
 part-advance-end c = search rules
 
 advance-requires : tie.Need-advance-requires

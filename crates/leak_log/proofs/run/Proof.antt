@@ -42,10 +42,10 @@ behind x = first_within (start x).args.input.now (start x).args.n (start x).requ
 sub_open : tie.Need-overflow-sub-open
 sub_open c = search rules
 
-part-open-start : tie.Need-slice_bounds-open-start
+part-open-start : tie.Need-slice-bounds-open-start
 part-open-start c = search rules
 
-part-open-end : tie.Need-slice_bounds-open-end
+part-open-end : tie.Need-slice-bounds-open-end
 part-open-end c = search rules
 
 open-requires : tie.Need-open-requires
@@ -66,10 +66,10 @@ slice-aggregate-begin c = search rules
 sub-begin : tie.Need-overflow-sub-begin
 sub-begin c = behind c.before.before
 
-part-begin-start : tie.Need-slice_bounds-begin-start
+part-begin-start : tie.Need-slice-bounds-begin-start
 part-begin-start c = behind c.before.before.before
 
-part-begin-end : tie.Need-slice_bounds-begin-end
+part-begin-end : tie.Need-slice-bounds-begin-end
 part-begin-end c = search rules
 
 begin-requires : tie.Need-begin-requires
@@ -84,10 +84,10 @@ slice-aggregate-read-on c = sym (sized c.before.before.before.before.before.befo
 sub-read-on : tie.Need-overflow-sub-read-on
 sub-read-on c = search rules
 
-part-read-on-start : tie.Need-slice_bounds-read-on-start
+part-read-on-start : tie.Need-slice-bounds-read-on-start
 part-read-on-start c = search rules
 
-part-read-on-end : tie.Need-slice_bounds-read-on-end
+part-read-on-end : tie.Need-slice-bounds-read-on-end
 part-read-on-end c = search rules
 
 read-on-requires : tie.Need-read-on-requires

@@ -15,10 +15,10 @@ enum-known-fetched c = search rules
 sub-advance : tie.Need-overflow-sub-advance
 sub-advance c = search rules
 
-part-advance-start : tie.Need-slice_bounds-advance-start
+part-advance-start : tie.Need-slice-bounds-advance-start
 part-advance-start c = search rules
 
-part-advance-end : tie.Need-slice_bounds-advance-end
+part-advance-end : tie.Need-slice-bounds-advance-end
 part-advance-end c = (some_brought c.before.before.fetched.given.1 c.before.before.before.before.before.before.fetch.ensures).1
 
 advance-requires : tie.Need-advance-requires

@@ -26,29 +26,28 @@ enum-known-answer-2 c = search rules
 
 returns : tie.Need-returns-in-Refused
 returns c =
-    let called = c.before.before.before.begin-begun in
-    let a = c.before.before.before.before.before.before.args in
-    finding_refused a.notion a.table.now a.header a.further a.bytes.now _ called.result.search-1
-    (subst (λ (x : LeakAnswer). Beginning a.notion a.table.now a.header a.further (said x) called.result.search-1)
-    c.before.answer-1.given.1 called.ensures)
+    let called = c.begin-begun in
+    let a = c.args in
+    finding_refused a.notion a.table.now a.header a.further a.bytes.now _ called.result.search
+    (subst (λ (x : LeakAnswer). Beginning a.notion a.table.now a.header a.further (said x) called.result.search)
+    c.in-Refused.is called.ensures)
 
 returns-2 : tie.Need-returns-in-Nowhere
 returns-2 c =
-    let called = c.before.before.before.before.begin-begun in
-    let s = c.before.before.before.before.before.before.before in
-    let a = s.args in
-    finding_advanced a.notion a.table.now a.header a.further a.bytes.now called.result.search-1 c.advance-reply.result.search-1 _
-    (omega (arith, s.well_formed))
-    (subst (λ (x : LeakAnswer). Beginning a.notion a.table.now a.header a.further (said x) called.result.search-1)
-    c.before.before.enum_told-1.given.1 called.ensures) c.advance-reply.ensures
+    let called = c.begin-begun in
+    let a = c.args in
+    finding_advanced a.notion a.table.now a.header a.further a.bytes.now called.result.search c.advance-reply.result.search _
+    (omega (arith, c.well_formed))
+    (subst (λ (x : LeakAnswer). Beginning a.notion a.table.now a.header a.further (said x) called.result.search)
+    c.in-Nowhere.is called.ensures) c.advance-reply.ensures
 
 returns-3 : tie.Need-returns-in-At
 returns-3 c =
-    let called = c.before.before.before.begin-begun in
-    let a = c.before.before.before.before.before.before.args in
-    never_at a.notion a.table.now a.header a.further _ called.result.search-1
-    (subst (λ (x : LeakAnswer). Beginning a.notion a.table.now a.header a.further (said x) called.result.search-1)
-    c.before.answer-in-At-1.given.1 called.ensures)
+    let called = c.begin-begun in
+    let a = c.args in
+    never_at a.notion a.table.now a.header a.further _ called.result.search
+    (subst (λ (x : LeakAnswer). Beginning a.notion a.table.now a.header a.further (said x) called.result.search)
+    c.in-At.is called.ensures)
 
 pub first_leak_spec : {M : Type 1} → statement M
 first_leak_spec =

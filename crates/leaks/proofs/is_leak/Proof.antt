@@ -14,7 +14,7 @@ returns : tie.Need-returns-in-NoLeak
 returns c = search rules
 
 returns-2 : tie.Need-returns-in-Leak
-returns-2 c = λ e. leak_not_none c.enum_told-in-Leak-1.given.1 e
+returns-2 c = λ e. leak_not_none c.in-Leak.is e
 
 pub is_leak_spec : {M : Type 1} → statement M
 is_leak_spec = tie.close (tie.spec enum_told enum-told-2 returns returns-2)

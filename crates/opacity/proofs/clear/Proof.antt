@@ -14,7 +14,7 @@ further-at-requires-3 : tie.Need-further_at-third-requires
 further-at-requires-3 c κs = search rules
 
 returns : tie.Need-returns
-returns c = rw (c.further_at-third.ensures, c.before.further_at-second.ensures, c.before.before.further_at-first.ensures) refl
+returns c = rw (c.further_at-third.ensures, c.further_at-second.ensures, c.further_at-first.ensures) refl
 
 pub clear_spec : {M : Type 1} → statement M
 clear_spec =

@@ -17,14 +17,14 @@ array-read-t14 : tie.Need-bounds-k-at
 array-read-t14 c = search rules
 
 returns : tie.Need-returns-then-place-lt3
-returns c = let a = c.before.before.before.before.before.args in
-    sym (placed a.further a.place c.before.before.before.if-place-further.true c.before.before.if-place-lt3.true)
+returns c = let a = c.args in
+    sym (placed a.further a.place c.if-place-further.true c.if-place-lt3.true)
 
 returns-2 : tie.Need-returns-else-place-lt3
-returns-2 c = let a = c.before.before.before.args in sym (not_placed a.further a.place (inr (omega (arith, c.if-place-lt3.false))))
+returns-2 c = let a = c.args in sym (not_placed a.further a.place (inr (omega (arith, c.if-place-lt3.false))))
 
 returns-3 : tie.Need-returns-else-place-further
-returns-3 c = let a = c.before.before.args in sym (not_placed a.further a.place (inl (omega (arith, c.if-place-further.false))))
+returns-3 c = let a = c.args in sym (not_placed a.further a.place (inl (omega (arith, c.if-place-further.false))))
 
 pub further_at_spec : {M : Type 1} → statement M
 further_at_spec =

@@ -7,7 +7,7 @@ use Rattle.opacity.proofs.look_back.Statement.{statement}
 use Rattle.opacity.proofs.look_back.Tie as tie
 
 returns : tie.Need-returns-then-n-eq0
-returns c = back_none c.before.args.header c.before.args.further c.if-n-eq0.true
+returns c = back_none c.args.header c.args.further c.if-n-eq0.true
 
 array-read-larger : tie.Need-bounds-k-0
 array-read-larger c = search rules
@@ -16,7 +16,7 @@ larger-requires : tie.Need-larger-one-requires
 larger-requires c κs = search rules
 
 returns-2 : tie.Need-returns-then-n-eq1
-returns-2 c = let a = c.before.before.before.before.args in c.before.larger-one.ensures ∙ back_one a.header a.further c.if-n-eq1.true
+returns-2 c = let a = c.args in c.larger-one.ensures ∙ back_one a.header a.further c.if-n-eq1.true
 
 array-read-larger-2 : tie.Need-bounds-k-1
 array-read-larger-2 c = search rules
@@ -26,8 +26,8 @@ larger-requires-2 c κs = search rules
 
 returns-3 : tie.Need-returns-then-n-eq2
 returns-3 c =
-    let a = c.before.before.before.before.before.before.args in
-    rw (c.before.larger-two.ensures, c.before.before.before.larger-one.ensures) (back_two a.header a.further c.if-n-eq2.true)
+    let a = c.args in
+    rw (c.larger-two.ensures, c.larger-one.ensures) (back_two a.header a.further c.if-n-eq2.true)
 
 array-read-larger-3 : tie.Need-bounds-k-2
 array-read-larger-3 c = search rules
@@ -37,13 +37,13 @@ larger-requires-3 c κs = search rules
 
 returns-4 : tie.Need-returns
 returns-4 c =
-    let a = c.before.before.before.before.before.before.before.args in
-    rw (c.larger.ensures, c.before.before.larger-two.ensures, c.before.before.before.before.larger-one.ensures)
+    let a = c.args in
+    rw (c.larger.ensures, c.larger-two.ensures, c.larger-one.ensures)
     (back_three a.header a.further (omega (
       arith,
-      c.before.if-n-eq2.false,
-      c.before.before.before.if-n-eq1.false,
-      c.before.before.before.before.before.before.if-n-eq0.false,
+      c.if-n-eq2.false,
+      c.if-n-eq1.false,
+      c.if-n-eq0.false,
     )))
 
 pub look_back_spec : {M : Type 1} → statement M

@@ -18,9 +18,9 @@ further-at-requires c κs = search rules
 
 returns-2 : tie.Need-returns
 returns-2 c =
-    let a = c.before.before.args in
-    let e : suc (a.i - 1) ≡ a.i = omega (arith, c.before.if-i-eq0.false) in
-    c.further-at.ensures ∙ ap (secret_at (secrets_of a.header a.further)) e
+    let a = c.args in
+    let e : suc (a.i - 1) ≡ a.i = omega (arith, c.if-i-eq0.false) in
+    c.further_at.ensures ∙ ap (secret_at (secrets_of a.header a.further)) e
 
 pub secret_at_spec : {M : Type 1} → statement M
 secret_at_spec = tie.close (tie.spec returns sub-further-at further-at-requires returns-2)

@@ -4,7 +4,7 @@ use Rattle.relation.proofs.any.Statement.{statement}
 use Rattle.relation.proofs.any.Tie as tie
 
 returns : tie.Need-returns
-returns c = union_of c.before.before.before.args.s
+returns c = union_of c.args.s
 
 pub any_spec : {M : Type 1} → statement M
 any_spec = tie.close (tie.spec returns)

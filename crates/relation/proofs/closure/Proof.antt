@@ -15,26 +15,26 @@ abbrev decreases-loop : tie.decreases-loop-missing
 decreases-loop rows allowed from wave₀ missing₀ wave missing = missing
 
 loop-holds : tie.Need-loop-missing-init invariant-loop decreases-loop
-loop-holds c = close_start _ _ _ _ _ c.before.ranges.allowed.fits refl refl
+loop-holds c = close_start _ _ _ _ _ c.ranges.allowed.fits refl refl
 
 image-requires : tie.Need-image-requires invariant-loop decreases-loop
-image-requires c κs = c.before.before.before.requires
+image-requires c κs = c.requires
 
 returns : tie.Need-returns-then-wave-eq0 invariant-loop decreases-loop
-returns c = close_end _ _ _ _ _ _ _ refl c.before.image.ensures c.before.before.before.loop-missing.invariant _ refl (λ q i. empty q _ c.if-wave-eq0.true i)
+returns c = close_end _ _ _ _ _ _ _ refl c.image.ensures c.loop-missing.invariant _ refl (λ q i. empty q _ c.if-wave-eq0.true i)
 
 loop-less : tie.Need-loop-missing-smaller invariant-loop decreases-loop
 loop-less c =
-    let l = c.before.before.before.loop-missing in
+    let l = c.loop-missing in
     let fits = l.invariant.small in
-    close_less _ _ _ _ _ _ _ refl c.before.image.ensures l.invariant _ refl _
-    (trailing_in 64 _ (omega (arith, c.if-wave-eq0.false)) (omega (arith, fits, and_le_r c.before.image.result l.missing)))
+    close_less _ _ _ _ _ _ _ refl c.image.ensures l.invariant _ refl _
+    (trailing_in 64 _ (omega (arith, c.if-wave-eq0.false)) (omega (arith, fits, and_le_r c.image.result l.missing)))
 
 loop-again : tie.Need-loop-missing-preserved invariant-loop decreases-loop
-loop-again c = close_turn _ _ _ _ _ _ _ refl c.before.image.ensures c.before.before.before.loop-missing.invariant _ refl
+loop-again c = close_turn _ _ _ _ _ _ _ refl c.image.ensures c.loop-missing.invariant _ refl
 
 returns-2 : tie.Need-returns invariant-loop decreases-loop
-returns-2 c = close_full _ _ _ _ _ (λ q i. empty q _ c.loop-missing-test.false i) c.before.loop-missing.invariant
+returns-2 c = close_full _ _ _ _ _ (λ q i. empty q _ c.loop-missing-test.false i) c.loop-missing.invariant
 
 pub closure_spec : {M : Type 1} → statement M
 closure_spec =

@@ -21,13 +21,13 @@ mul-to : tie.Need-offset_bounds-from-i invariant-loop decreases-loop
 mul-to c = omega arith
 
 shared-slice-read-to : tie.Need-bounds-from-i invariant-loop decreases-loop
-shared-slice-read-to c = omega (arith, c.before.before.before.requires.0)
+shared-slice-read-to c = omega (arith, c.requires.0)
 
 mul-to-2 : tie.Need-offset_bounds-to-i invariant-loop decreases-loop
 mul-to-2 c = omega arith
 
 slice-write-to : tie.Need-bounds-to-i invariant-loop decreases-loop
-slice-write-to c = omega (arith, c.before.before.loop-i.invariant.1)
+slice-write-to c = omega (arith, c.loop-i.invariant.1)
 
 add-i : tie.Need-overflow_add-i invariant-loop decreases-loop
 add-i c = omega arith
@@ -37,8 +37,8 @@ loop-less c = omega arith
 
 loop-again : tie.Need-loop-i-preserved invariant-loop decreases-loop
 loop-again c =
-    let l = c.before.before.loop-i in
-    let from = c.before.before.before.args.from.now in (
+    let l = c.loop-i in
+    let from = c.args.from.now in (
       omega arith,
       simp length-set l.invariant.1,
       filled (λ k v. v ≡ get_or from k 0) l.to l.i (get_or from l.i 0) (omega (arith, l.invariant.1)) l.invariant.2
@@ -46,12 +46,12 @@ loop-again c =
     )
 
 same_length : tie.Need-shape_of-to invariant-loop decreases-loop
-same_length c = c.before.loop-i.invariant.1 ∙ sym c.before.before.requires.1
+same_length c = c.loop-i.invariant.1 ∙ sym c.requires.1
 
 returns : tie.Need-returns invariant-loop decreases-loop
 returns c =
-    let l = c.before.loop-i in
-    ext_get_or 0 _ _ (l.invariant.1 ∙ sym c.before.before.requires.0) (λ k h. l.invariant.2 k (omega (arith, l.invariant.1)))
+    let l = c.loop-i in
+    ext_get_or 0 _ _ (l.invariant.1 ∙ sym c.requires.0) (λ k h. l.invariant.2 k (omega (arith, l.invariant.1)))
 
 pub copy_spec : {M : Type 1} → statement M
 copy_spec =

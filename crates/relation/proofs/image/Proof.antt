@@ -17,9 +17,9 @@ invariant-loop rows set todo₀ r₀ todo r = (todo < 2 ^ 64) × Joined (Row row
 abbrev decreases-loop : tie.decreases-loop-todo
 decreases-loop rows set todo₀ r₀ todo r = todo
 
-next : (c : tie.In-loop-todo invariant-loop decreases-loop) → Taken c.before.loop-todo.todo (count_trailing_zeros 64 c.before.loop-todo.todo)
-    (bit_and c.before.loop-todo.todo (c.before.loop-todo.todo - 1))
-next c = taken c.before.loop-todo.todo (omega arith) c.before.loop-todo.invariant.0
+next : (c : tie.In-loop-todo invariant-loop decreases-loop) → Taken c.loop-todo.todo (count_trailing_zeros 64 c.loop-todo.todo)
+    (bit_and c.loop-todo.todo (c.loop-todo.todo - 1))
+next c = taken c.loop-todo.todo (omega arith) c.loop-todo.invariant.0
 
 loop-holds : tie.Need-loop-todo-init invariant-loop decreases-loop
 loop-holds c = (omega arith, join_start _ _)
@@ -40,10 +40,10 @@ loop-less : tie.Need-loop-todo-smaller invariant-loop decreases-loop
 loop-less c = (next c.before).less
 
 loop-again : tie.Need-loop-todo-preserved invariant-loop decreases-loop
-loop-again c = (omega (arith, (next c.before).less), join_turn _ _ _ _ _ _ _ (next c.before) (own_is _) c.before.before.loop-todo.invariant.1)
+loop-again c = (omega (arith, (next c.before).less), join_turn _ _ _ _ _ _ _ (next c.before) (own_is _) c.loop-todo.invariant.1)
 
 returns : tie.Need-returns invariant-loop decreases-loop
-returns c = join_end _ _ _ _ c.loop-todo-test.false c.before.loop-todo.invariant.1
+returns c = join_end _ _ _ _ c.loop-todo-test.false c.loop-todo.invariant.1
 
 pub image_spec : {M : Type 1} → statement M
 image_spec =

@@ -33,9 +33,9 @@ invariant-loop rows waves todo₀ r₀ todo r = (todo < 2 ^ 64) × ((i : ℕ) �
 abbrev decreases-loop : tie.decreases-loop-todo
 decreases-loop rows waves todo₀ r₀ todo r = todo
 
-next : (c : tie.In-loop-todo invariant-loop decreases-loop) → Taken c.before.loop-todo.todo (count_trailing_zeros 64 c.before.loop-todo.todo)
-    (bit_and c.before.loop-todo.todo (c.before.loop-todo.todo - 1))
-next c = taken c.before.loop-todo.todo (omega arith) c.before.loop-todo.invariant.0
+next : (c : tie.In-loop-todo invariant-loop decreases-loop) → Taken c.loop-todo.todo (count_trailing_zeros 64 c.loop-todo.todo)
+    (bit_and c.loop-todo.todo (c.loop-todo.todo - 1))
+next c = taken c.loop-todo.todo (omega arith) c.loop-todo.invariant.0
 
 any-requires : tie.Need-any-todo-requires invariant-loop decreases-loop
 any-requires c κs = search rules
@@ -45,9 +45,9 @@ no-sets-requires c κs = search rules
 
 loop-holds : tie.Need-loop-todo-init invariant-loop decreases-loop
 loop-holds c =
-    let s = c.before.before.before.args in
-    let all = c.before.any-todo.result in (
-      omega (arith, c.before.any-todo.type_inv),
+    let s = c.args in
+    let all = c.any-todo.result in (
+      omega (arith, c.any-todo.type_inv),
       λ i l. subst (Joined (Adds s.rows.now (set_at s.waves i)) all all) (sym (c.no_sets-r.ensures i l))
           (join_start _ _),
     )
@@ -82,22 +82,22 @@ loop-less c = (next c.before.before.before.before.before).less
 loop-again : tie.Need-loop-todo-preserved invariant-loop decreases-loop
 loop-again c =
     let k = next c.before.before.before.before.before in
-    let l = c.before.before.before.before.before.before.loop-todo in
-    let a = c.before.before.before.before.before.before.before.before.before.before.args in
-    let all = c.before.before.before.before.before.before.before.before.any-todo.result in (
+    let l = c.loop-todo in
+    let a = c.args in
+    let all = c.any-todo.result in (
       omega (arith, k.less),
       four (λ i. Joined (Adds a.rows.now (set_at a.waves i)) all (bit_and l.todo (l.todo - 1)) (set_at _ i))
-          (join_more _ _ _ _ _ _ _ k c.before.before.before.pick.ensures (l.invariant.1 0 (omega arith)))
-          (join_more _ _ _ _ _ _ _ k c.before.before.pick-in-loop-todo.ensures (l.invariant.1 1 (omega arith)))
-          (join_more _ _ _ _ _ _ _ k c.before.pick-in-loop-todo-2.ensures (l.invariant.1 2 (omega arith)))
+          (join_more _ _ _ _ _ _ _ k c.pick.ensures (l.invariant.1 0 (omega arith)))
+          (join_more _ _ _ _ _ _ _ k c.pick-in-loop-todo.ensures (l.invariant.1 1 (omega arith)))
+          (join_more _ _ _ _ _ _ _ k c.pick-in-loop-todo-2.ensures (l.invariant.1 2 (omega arith)))
           (join_more _ _ _ _ _ _ _ k c.pick-in-loop-todo-3.ensures (l.invariant.1 3 (omega arith))),
     )
 
 returns : tie.Need-returns invariant-loop decreases-loop
 returns c =
-    let any = c.before.before.before.any-todo in
-    let rows = c.before.before.before.before.before.args.rows.now in
-    λ i h. whole rows _ any.result _ (λ q m. any.ensures.whole q (i, h, m)) (join_end _ _ _ _ c.loop-todo-test.false (c.before.loop-todo.invariant.1 i h))
+    let any = c.any-todo in
+    let rows = c.args.rows.now in
+    λ i h. whole rows _ any.result _ (λ q m. any.ensures.whole q (i, h, m)) (join_end _ _ _ _ c.loop-todo-test.false (c.loop-todo.invariant.1 i h))
 
 pub images_spec : {M : Type 1} → statement M
 images_spec =

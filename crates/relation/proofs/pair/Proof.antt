@@ -29,13 +29,12 @@ shift-requires-2 c κs = search rules
 
 returns : tie.Need-returns
 returns c =
-    let s = c.before.before.before.before.before in
-    let a = s.args in
+    let a = c.args in
     let n = a.first in
-    let fits = s.requires.1 in
+    let fits = c.requires.1 in
     let turn = row_turn a.rows.now (n + 2) a.set in
     let higher = turn (n + 1) (n + 2) 0 _ (omega arith) (omega arith) (omega (arith, fits)) (from_start _ _ (λ x m. m.0))
-    c.before.before.shift-second.ensures in
+    c.shift-second.ensures in
     let two = turn n (n + 1) _ _ (omega arith) (omega arith) (omega (arith, fits)) higher c.shift.ensures in
     record { sound = λ d i. let m = two.sound d i in (omega (arith, m.0), m.1); whole = λ d m. two.whole d (omega (arith, m.0), m.1) }
 

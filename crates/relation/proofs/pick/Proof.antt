@@ -13,13 +13,13 @@ shr-if1 c = search rules
 
 returns : tie.Need-returns-then-wave-q-ne0
 returns c =
-    let s = c.before.args in
+    let s = c.args in
     let i : In s.q s.wave = omega (arith, c.if-wave-q-ne0.true, in_test s.q s.wave, bit_lt s.q s.wave) in
     or_is s.r s.row (own_is s.r) (record { sound = λ x k. (i, k); whole = λ x k. k.1 })
 
 returns-2 : tie.Need-returns
 returns-2 c =
-    let s = c.before.args in
+    let s = c.args in
     let n : In s.q s.wave → ⊥ = λ i. omega (arith, c.if-wave-q-ne0.false, in_test s.q s.wave) in
     record { sound = λ x j. inl j; whole = λ x m. ⊎_elim (λ k. k) (λ k. absurd (n k.0)) m }
 

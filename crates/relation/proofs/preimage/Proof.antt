@@ -30,25 +30,24 @@ mul-pair : tie.Need-overflow_mul-left invariant-loop decreases-loop
 mul-pair c = omega arith
 
 pair-requires : tie.Need-pair-requires invariant-loop decreases-loop
-pair-requires c κs = (c.before.before.before.requires.0, omega arith)
+pair-requires c κs = (c.requires.0, omega arith)
 
 loop-less : tie.Need-loop-left-smaller invariant-loop decreases-loop
 loop-less c = omega arith
 
 loop-again : tie.Need-loop-left-preserved invariant-loop decreases-loop
 loop-again c =
-    let l = c.before.before.loop-left in
-    let s = c.before.before.before.before in
+    let l = c.loop-left in
     let n = 2 * (l.left - 1) in (
       omega arith,
-      from_turn _ 2 n (2 * l.left) l.r _ (omega arith) (omega (arith, l.invariant.0, s.requires.1)) l.invariant.1
-          (or_is _ _ (moved_is 2 l.r) (below (Preimage (Row s.args.rows.now) s.args.set) n s.args.pairs c.pair.result
+      from_turn _ 2 n (2 * l.left) l.r _ (omega arith) (omega (arith, l.invariant.0, c.requires.1)) l.invariant.1
+          (or_is _ _ (moved_is 2 l.r) (below (Preimage (Row c.args.rows.now) c.args.set) n c.args.pairs c.pair.result
           (omega (arith, l.invariant.0)) c.pair.ensures)),
     )
 
 returns : tie.Need-returns invariant-loop decreases-loop
 returns c =
-    let l = c.before.loop-left in
+    let l = c.loop-left in
     from_end _ (2 * l.left) l.r (omega arith) l.invariant.1
 
 pub preimage_spec : {M : Type 1} → statement M

@@ -20,7 +20,7 @@ no-sets-requires c κs = search rules
 
 loop-holds : tie.Need-loop-q-init invariant-loop decreases-loop
 loop-holds c =
-    let s = c.before.before.args in (
+    let s = c.args in (
       omega arith,
       λ i l. subst (From (Leading s.rows.now s.few (set_at s.into i)) s.few) (sym (c.no_sets-r.ensures i l))
           (from_start _ _ (λ x m. m.0)),
@@ -52,21 +52,20 @@ loop-less c = omega arith
 
 loop-again : tie.Need-loop-q-preserved invariant-loop decreases-loop
 loop-again c =
-    let l = c.before.before.before.before.before.before.loop-q in
-    let s = c.before.before.before.before.before.before.before.before.before in
-    let turn : (set r up : ℕ) → _ = λ set r up. row_turn s.args.rows.now s.args.few set (l.q - 1) l.q r up (omega arith) l.invariant.0
-    s.requires.1 in (
+    let l = c.loop-q in
+    let turn : (set r up : ℕ) → _ = λ set r up. row_turn c.args.rows.now c.args.few set (l.q - 1) l.q r up (omega arith) l.invariant.0
+    c.requires.1 in (
       omega arith,
-      four (λ i. From (Leading s.args.rows.now s.args.few (set_at s.args.into i)) (l.q - 1) (set_at _ i))
-          (turn _ _ _ (l.invariant.1 0 (omega arith)) c.before.before.before.shift.ensures)
-          (turn _ _ _ (l.invariant.1 1 (omega arith)) c.before.before.shift-in-loop-q.ensures)
-          (turn _ _ _ (l.invariant.1 2 (omega arith)) c.before.shift-in-loop-q-2.ensures)
+      four (λ i. From (Leading c.args.rows.now c.args.few (set_at c.args.into i)) (l.q - 1) (set_at _ i))
+          (turn _ _ _ (l.invariant.1 0 (omega arith)) c.shift.ensures)
+          (turn _ _ _ (l.invariant.1 1 (omega arith)) c.shift-in-loop-q.ensures)
+          (turn _ _ _ (l.invariant.1 2 (omega arith)) c.shift-in-loop-q-2.ensures)
           (turn _ _ _ (l.invariant.1 3 (omega arith)) c.shift-in-loop-q-3.ensures),
     )
 
 returns : tie.Need-returns invariant-loop decreases-loop
 returns c =
-    let l = c.before.loop-q in
+    let l = c.loop-q in
     λ i h. from_end _ l.q (set_at l.r i) (omega arith) (l.invariant.1 i h)
 
 pub preimages_spec : {M : Type 1} → statement M

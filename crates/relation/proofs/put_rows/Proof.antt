@@ -28,10 +28,10 @@ mul-rows : tie.Need-offset_bounds-rows-first invariant-loop decreases-loop
 mul-rows c = omega arith
 
 slice-read-rows : tie.Need-bounds-rows-first invariant-loop decreases-loop
-slice-read-rows c = omega (arith, c.before.before.loop-i.invariant.1.size, c.before.before.before.requires.0)
+slice-read-rows c = omega (arith, c.loop-i.invariant.1.size, c.requires.0)
 
 slice-write-rows : tie.Need-bounds-rows-first-in-loop-i invariant-loop decreases-loop
-slice-write-rows c = omega (arith, c.before.before.loop-i.invariant.1.size, c.before.before.before.requires.0)
+slice-write-rows c = omega (arith, c.loop-i.invariant.1.size, c.requires.0)
 
 add-i : tie.Need-overflow_add-i invariant-loop decreases-loop
 add-i c = omega arith
@@ -41,14 +41,14 @@ loop-less c = omega arith
 
 loop-again : tie.Need-loop-i-preserved invariant-loop decreases-loop
 loop-again c =
-    let l = c.before.before.loop-i in
-    (l.invariant.0, placing_turn _ _ _ _ _ _ (omega arith) (omega (arith, c.before.before.before.requires.0)) l.invariant.1)
+    let l = c.loop-i in
+    (l.invariant.0, placing_turn _ _ _ _ _ _ (omega arith) (omega (arith, c.requires.0)) l.invariant.1)
 
 same_length : tie.Need-shape_of-rows invariant-loop decreases-loop
-same_length c = c.before.loop-i.invariant.1.size
+same_length c = c.loop-i.invariant.1.size
 
 returns : tie.Need-returns invariant-loop decreases-loop
-returns c = placing_end _ _ _ _ _ _ (omega (arith, c.before.loop-i.invariant.1.few)) c.before.loop-i.invariant.1
+returns c = placing_end _ _ _ _ _ _ (omega (arith, c.loop-i.invariant.1.few)) c.loop-i.invariant.1
 
 pub put_rows_spec : {M : Type 1} → statement M
 put_rows_spec =

@@ -11,14 +11,13 @@ use Rattle.relation.proofs.shift.Tie as tie
 
 returns : tie.Need-returns-then-row-set-ne0
 returns c =
-    let s = c.before in
-    let m = meet s.args.row s.args.set s.ranges.set.fits c.if-row-set-ne0.true in
-    or_is _ 1 (moved_is 1 s.args.r)
+    let m = meet c.args.row c.args.set c.ranges.set.fits c.if-row-set-ne0.true in
+    or_is _ 1 (moved_is 1 c.args.r)
     (record { sound = λ p i. (in_one p 0 (omega arith) i, (m.0, m.2, m.1)); whole = λ p x. subst (λ (y : ℕ). In y 1) (sym x.0) (bit_0 1) })
 
 returns-2 : tie.Need-returns
 returns-2 c =
-    let s = c.before.args in
+    let s = c.args in
     let up = moved_is 1 s.r in
     record {
       sound = λ p i. inl (up.sound p i);

@@ -64,12 +64,11 @@ loop-less c = omega arith
 
 loop-again : tie.Need-loop-i-preserved invariant-loop decreases-loop
 loop-again c =
-    let l = c.before.before.before.loop-i in
-    let s = c.before.before.before.before in
-    (omega arith, swapping_turn _ _ _ _ l.i s.requires.1 s.ranges.mask.fits s.requires.3 (omega arith) l.invariant.1)
+    let l = c.loop-i in
+    (omega arith, swapping_turn _ _ _ _ l.i c.requires.1 c.ranges.mask.fits c.requires.3 (omega arith) l.invariant.1)
 
 returns : tie.Need-returns invariant-loop decreases-loop
-returns c = swapping_end _ _ _ _ (omega arith) c.before.loop-i.invariant.1
+returns c = swapping_end _ _ _ _ (omega arith) c.loop-i.invariant.1
 
 pub swap_digit_spec : {M : Type 1} → statement M
 swap_digit_spec =

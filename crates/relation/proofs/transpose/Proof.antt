@@ -6,47 +6,42 @@ use Rattle.relation.proofs.transpose.Statement.{statement}
 use Rattle.relation.proofs.transpose.Tie as tie
 
 swap-digit-requires : tie.Need-swap_digit-a-requires
-swap-digit-requires c κs = (c.before.requires, omega arith, omega arith, masks_32)
+swap-digit-requires c κs = (c.requires, omega arith, omega arith, masks_32)
 
 slice-aggregate-swap-digit : tie.Need-slice_bounds-swap_digit-end
 slice-aggregate-swap-digit c = search rules
 
 swap-digit-requires-2 : tie.Need-swap_digit-b-requires
-swap-digit-requires-2 c κs = (c.before.swap_digit-a.ensures.size, omega arith, omega arith, masks_16)
+swap-digit-requires-2 c κs = (c.swap_digit-a.ensures.size, omega arith, omega arith, masks_16)
 
 slice-aggregate-swap-digit-2 : tie.Need-slice_bounds-swap_digit-end-2
 slice-aggregate-swap-digit-2 c = search rules
 
 swap-digit-requires-3 : tie.Need-swap_digit-c-requires
-swap-digit-requires-3 c κs = (c.before.swap_digit-b.ensures.size, omega arith, omega arith, masks_8)
+swap-digit-requires-3 c κs = (c.swap_digit-b.ensures.size, omega arith, omega arith, masks_8)
 
 slice-aggregate-swap-digit-3 : tie.Need-slice_bounds-swap_digit-end-3
 slice-aggregate-swap-digit-3 c = search rules
 
 swap-digit-requires-4 : tie.Need-swap_digit-d-requires
-swap-digit-requires-4 c κs = (c.before.swap_digit-c.ensures.size, omega arith, omega arith, masks_4)
+swap-digit-requires-4 c κs = (c.swap_digit-c.ensures.size, omega arith, omega arith, masks_4)
 
 slice-aggregate-swap-digit-4 : tie.Need-slice_bounds-swap_digit-end-4
 slice-aggregate-swap-digit-4 c = search rules
 
 swap-digit-requires-5 : tie.Need-swap_digit-e-requires
-swap-digit-requires-5 c κs = (c.before.swap_digit-d.ensures.size, omega arith, omega arith, masks_2)
+swap-digit-requires-5 c κs = (c.swap_digit-d.ensures.size, omega arith, omega arith, masks_2)
 
 slice-aggregate-swap-digit-5 : tie.Need-slice_bounds-swap_digit-end-5
 slice-aggregate-swap-digit-5 c = search rules
 
 swap-digit-requires-6 : tie.Need-swap_digit-requires
-swap-digit-requires-6 c κs = (c.before.swap_digit-e.ensures.size, omega arith, omega arith, masks_1)
+swap-digit-requires-6 c κs = (c.swap_digit-e.ensures.size, omega arith, omega arith, masks_1)
 
 returns : tie.Need-returns
 returns c =
-    let e = c.before.before in
-    let d = e.before.before in
-    let b = d.before.before in
-    let a = b.before.before in
-    let s = a.before.before in
-    six_rounds _ _ _ _ _ _ _ s.before.before.requires s.swap_digit-a.ensures a.swap_digit-b.ensures b.swap_digit-c.ensures
-    d.swap_digit-d.ensures e.swap_digit-e.ensures c.swap_digit.ensures
+    six_rounds _ _ _ _ _ _ _ c.requires c.swap_digit-a.ensures c.swap_digit-b.ensures c.swap_digit-c.ensures
+    c.swap_digit-d.ensures c.swap_digit-e.ensures c.swap_digit.ensures
 
 pub transpose_spec : {M : Type 1} → statement M
 transpose_spec =

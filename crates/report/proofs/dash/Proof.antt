@@ -13,7 +13,7 @@ same_length : tie.Need-shape_of-out
 same_length c = search rules
 
 returns : tie.Need-returns
-returns c = then c.before.before.before.before.before.before.put-next.ensures c.before.before.put.ensures
+returns c = then c.put-next.ensures c.put.ensures
 
 pub dash_spec : {M : Type 1} → statement M
 dash_spec = tie.close (tie.spec put-requires put-requires-2 same_length returns)

@@ -13,7 +13,7 @@ same_length : tie.Need-shape_of-out
 same_length c = search rules
 
 returns : tie.Need-returns
-returns c = then c.before.before.before.before.before.before.put-next.ensures c.before.before.number.ensures
+returns c = then c.put-next.ensures c.number.ensures
 
 pub field_spec : {M : Type 1} → statement M
 field_spec = tie.close (tie.spec put-requires number-requires same_length returns)

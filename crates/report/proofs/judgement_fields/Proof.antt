@@ -25,12 +25,12 @@ same_length c = search rules
 
 returns : tie.Need-returns
 returns c =
-    let a = c.before.before.before.before.before.before.before.before.before.before.before.before.before.before.before.before.args.judgement
+    let a = c.args.judgement
     in
-    same (ap (λ (k : ℕ). (32 ∷ steps a.verdicts-1.own-1.weak) ++ ((32 ∷ steps a.verdicts-1.own-1.strong) ++ (32 ∷ decimal k)))
-    c.before.before.before.wide.ensures) (omega arith)
-    (then c.before.before.before.before.before.before.before.before.before.before.before.verdict_field-a.ensures
-    (then c.before.before.before.before.before.before.before.verdict_field-b.ensures c.before.before.field.ensures))
+    same (ap (λ (k : ℕ). (32 ∷ steps a.verdicts.own.weak) ++ ((32 ∷ steps a.verdicts.own.strong) ++ (32 ∷ decimal k)))
+    c.wide.ensures) (omega arith)
+    (then c.verdict_field-a.ensures
+    (then c.verdict_field-b.ensures c.field.ensures))
 
 pub judgement_fields_spec : {M : Type 1} → statement M
 judgement_fields_spec = tie.close (tie.spec verdict-field-requires verdict-field-requires-2 wide-requires field-requires same_length returns)

@@ -37,13 +37,12 @@ loop-less c = omega arith
 
 loop-again : tie.Need-loop-i-preserved invariant-loop decreases-loop
 loop-again c =
-    let at-loop = c.before.before.before.before.before.before.before in
-    let l = at-loop.before.before.before.args.released.now in
-    let i = at-loop.loop-i.i in (
+    let l = c.args.released.now in
+    let i = c.loop-i.i in (
       omega arith,
-      same (ap (λ (k : ℕ). led 44 (map decimal (take i l)) ++ (44 ∷ decimal k)) c.before.before.before.wide.ensures ∙ led_one 44 l i (omega arith))
+      same (ap (λ (k : ℕ). led 44 (map decimal (take i l)) ++ (44 ∷ decimal k)) c.wide.ensures ∙ led_one 44 l i (omega arith))
           (omega arith)
-          (then at-loop.loop-i.invariant.1 c.before.before.field-next.ensures),
+          (then c.loop-i.invariant.1 c.field-next.ensures),
     )
 
 same_length : tie.Need-shape_of-out invariant-loop decreases-loop
@@ -51,8 +50,8 @@ same_length c = search rules
 
 returns : tie.Need-returns invariant-loop decreases-loop
 returns c =
-    let l = c.before.before.before.before.args.released.now in
-    same (ap (λ (k : List ℕ). led 44 (map decimal k)) (take_all c.before.loop-i.i l (omega arith))) (omega arith) c.before.loop-i.invariant.1
+    let l = c.args.released.now in
+    same (ap (λ (k : List ℕ). led 44 (map decimal k)) (take_all c.loop-i.i l (omega arith))) (omega arith) c.loop-i.invariant.1
 
 pub more_symbols_spec : {M : Type 1} → statement M
 more_symbols_spec =

@@ -31,23 +31,16 @@ same_length c = search rules
 
 returns : tie.Need-returns
 returns c =
-    let ended = c.before.before in
-    let released = ended.before.before.before.before in
-    let judged = released.before.before.before.before in
-    let symbol = judged.before.before.before.before in
-    let wide = symbol.before in
-    let place = wide.before.before.before.before in
-    let start = place.before.before.before.before in
-    let a = start.args in
+    let a = c.args in
     let j = a.judgement in
     same (ap (λ (k : ℕ). decimal a.place
     ++ ((32 ∷ decimal k) ++ (((32 ∷ steps j.verdicts.own.weak) ++ ((32 ∷ steps j.verdicts.own.strong) ++ (32 ∷ decimal j.size)))
     ++ ((32 ∷ symbols a.released.now) ++ (10 ∷ [])))))
-    wide.wide.ensures
+    c.wide.ensures
     ∙ judgement_lined (decimal a.place) (decimal a.symbol) (steps j.verdicts.own.weak) (steps j.verdicts.own.strong) (decimal j.size)
     (symbols a.released.now)) (omega arith)
-    (then place.number-a.ensures (then symbol.field-b.ensures (then judged.judgement_fields-c.ensures
-    (then released.symbols_field-d.ensures ended.put.ensures))))
+    (then c.number-a.ensures (then c.field-b.ensures (then c.judgement_fields-c.ensures
+    (then c.symbols_field-d.ensures c.put.ensures))))
 
 pub put_accepted_spec : {M : Type 1} → statement M
 put_accepted_spec =

@@ -29,15 +29,9 @@ same_length c = search rules
 
 returns : tie.Need-returns
 returns c =
-    let ended = c.before.before in
-    let pending = ended.before.before.before.before in
-    let released = pending.before.before.before.before in
-    let accepted = released.before.before.before.before in
-    let word = accepted.before.before.before.before in
-    let start = word.before.before.before.before in
-    let a = start.args in
+    let a = c.args in
     same (lined (101 ∷ 110 ∷ 100 ∷ []) (decimal a.accepted ∷ decimal a.released ∷ decimal a.pending ∷ [])) (omega arith)
-    (then word.text-a.ensures (then accepted.field-b.ensures (then released.field-c.ensures (then pending.field-d.ensures ended.put.ensures))))
+    (then c.text-a.ensures (then c.field-b.ensures (then c.field-c.ensures (then c.field-d.ensures c.put.ensures))))
 
 pub put_end_spec : {M : Type 1} → statement M
 put_end_spec =

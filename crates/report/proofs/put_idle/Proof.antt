@@ -26,16 +26,10 @@ same_length c = search rules
 
 returns : tie.Need-returns
 returns c =
-    let ended = c.before.before in
-    let none = ended.before.before.before.before in
-    let judged = none.before.before.before.before in
-    let no_symbol = judged.before.before.before.before in
-    let zero-place = no_symbol.before.before.before.before in
-    let start = zero-place.before.before.before in
-    let a = start.args.opening in
+    let a = c.args.opening in
     same (judgement_lined (decimal 0) (45 ∷ []) (steps a.verdicts.own.weak) (steps a.verdicts.own.strong) (decimal a.size) (45 ∷ [])) (omega arith)
-    (then zero-place.number-a.ensures (then no_symbol.dash-b.ensures (then judged.judgement_fields-c.ensures
-    (then none.dash-d.ensures ended.put.ensures))))
+    (then c.number-a.ensures (then c.dash-b.ensures (then c.judgement_fields-c.ensures
+    (then c.dash-d.ensures c.put.ensures))))
 
 pub put_idle_spec : {M : Type 1} → statement M
 put_idle_spec =

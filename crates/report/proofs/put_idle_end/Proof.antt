@@ -13,7 +13,7 @@ same_length : tie.Need-shape_of-out
 same_length c = search rules
 
 returns : tie.Need-returns
-returns c = then c.before.before.before.before.before.before.put_idle-next.ensures c.before.before.put-end.ensures
+returns c = then c.put_idle-next.ensures c.put_end.ensures
 
 pub put_idle_end_spec : {M : Type 1} → statement M
 put_idle_end_spec = tie.close (tie.spec put-idle-requires put-end-requires same_length returns)

@@ -17,7 +17,7 @@ same_length c = search rules
 returns : tie.Need-returns
 returns c =
     same (lined (45 ∷ []) []) (omega arith)
-    (then c.before.before.before.before.before.before.put-next.ensures c.before.before.put.ensures)
+    (then c.put-next.ensures c.put.ensures)
 
 pub put_no_place_spec : {M : Type 1} → statement M
 put_no_place_spec = tie.close (tie.spec put-requires put-requires-2 same_length returns)

@@ -17,8 +17,7 @@ same_length c = search rules
 
 returns : tie.Need-returns
 returns c =
-    let called = c.before.before.before.before.before.before in
-    same (lined (decimal called.before.before.before.args.place) []) (omega arith) (then called.number-next.ensures c.before.before.put.ensures)
+    same (lined (decimal c.args.place) []) (omega arith) (then c.number-next.ensures c.put.ensures)
 
 pub put_place_spec : {M : Type 1} → statement M
 put_place_spec = tie.close (tie.spec number-requires put-requires same_length returns)

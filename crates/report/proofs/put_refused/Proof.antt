@@ -29,19 +29,13 @@ same_length c = search rules
 
 returns : tie.Need-returns
 returns c =
-    let ended = c.before.before in
-    let number = ended.before.before.before.before in
-    let byte = number.before.before.before.before in
-    let wide = byte.before in
-    let mark = wide.before.before.before.before in
-    let start = mark.before.before.before in
-    let a = start.args in
+    let a = c.args in
     same (ap (λ (k : ℕ). (33 ∷ []) ++ ((32 ∷ decimal k) ++ ((32 ∷ decimal (number_of a.refusal)) ++ (10 ∷ []))))
-    wide.wide.ensures
+    c.wide.ensures
     ∙ lined (33 ∷ []) (decimal a.byte ∷ decimal (number_of a.refusal) ∷ [])) (omega arith)
-    (then mark.put-a.ensures
-    (then byte.field-b.ensures
-    (then number.refusal_field-c.ensures ended.put.ensures)))
+    (then c.put-a.ensures
+    (then c.field-b.ensures
+    (then c.refusal_field-c.ensures c.put.ensures)))
 
 pub put_refused_spec : {M : Type 1} → statement M
 put_refused_spec =

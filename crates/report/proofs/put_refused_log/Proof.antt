@@ -24,10 +24,10 @@ same_length c = search rules
 
 returns : tie.Need-returns
 returns c =
-    let a = c.before.before.before.before.before.before.before.before.before.before.before.before.before.before.args in
+    let a = c.args in
     same (lined (114 ∷ 101 ∷ 102 ∷ 117 ∷ 115 ∷ 101 ∷ 100 ∷ []) (decimal (number_of a.refusal) ∷ [])) (omega arith)
-    (then c.before.before.before.before.before.before.before.before.before.before.text-a.ensures
-    (then c.before.before.before.before.before.before.refusal_field-b.ensures c.before.before.put.ensures))
+    (then c.text-a.ensures
+    (then c.refusal_field-b.ensures c.put.ensures))
 
 pub put_refused_log_spec : {M : Type 1} → statement M
 put_refused_log_spec =

@@ -21,8 +21,8 @@ same_length : tie.Need-shape_of-out
 same_length c = search rules
 
 returns : tie.Need-returns
-returns c = same (ap (λ (k : ℕ). 32 ∷ decimal k) (c.before.before.before.wide.ensures ∙ c.before.before.before.before.number.ensures))
-    (omega arith) c.before.before.field.ensures
+returns c = same (ap (λ (k : ℕ). 32 ∷ decimal k) (c.wide.ensures ∙ c.number.ensures))
+    (omega arith) c.field.ensures
 
 pub refusal_field_spec : {M : Type 1} → statement M
 refusal_field_spec =

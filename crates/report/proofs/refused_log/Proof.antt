@@ -9,20 +9,20 @@ has-room-requires : tie.Need-has_room-requires
 has-room-requires c κs = search rules
 
 put-refused-log-requires : tie.Need-put_refused_log-requires
-put-refused-log-requires c κs = holds _ c.before.if-has_room.true c.before.before.has_room.ensures
+put-refused-log-requires c κs = holds _ c.if-has_room.true c.has_room.ensures
 
 same_length : tie.Need-shape_of-out-then-has_room
 same_length c = search rules
 
 returns : tie.Need-returns-then-has_room
-returns c = entered (holds _ c.before.before.before.before.if-has_room.true c.before.before.before.before.before.has_room.ensures)
-    c.before.before.put-refused-log.ensures
+returns c = entered (holds _ c.if-has_room.true c.has_room.ensures)
+    c.put_refused_log.ensures
 
 same-length-2 : tie.Need-shape_of-out
 same-length-2 c = search rules
 
 returns-2 : tie.Need-returns
-returns-2 c = no_room (fails _ c.if-has_room.false c.before.has_room.ensures)
+returns-2 c = no_room (fails _ c.if-has_room.false c.has_room.ensures)
 
 pub refused_log_spec : {M : Type 1} → statement M
 refused_log_spec = tie.close (tie.spec has-room-requires put-refused-log-requires same_length returns same-length-2 returns-2)

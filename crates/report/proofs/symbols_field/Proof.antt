@@ -11,8 +11,8 @@ same_length : tie.Need-shape_of-out-then-released-eq0
 same_length c = search rules
 
 returns : tie.Need-returns-then-released-eq0
-returns c = same (symbols_none c.before.before.before.before.before.before.before.args.released.now
-    c.before.before.before.before.if-released-eq0.true) (omega arith) c.before.before.dash.ensures
+returns c = same (symbols_none c.args.released.now
+    c.if-released-eq0.true) (omega arith) c.dash.ensures
 
 shared-slice-read-wide : tie.Need-bounds-released-0
 shared-slice-read-wide c = search rules
@@ -40,11 +40,11 @@ same-length-2 c = search rules
 
 returns-2 : tie.Need-returns
 returns-2 c =
-    let l = c.before.before.before.before.before.before.before.before.before.before.before.before.before.before.args.released.now in
-    let some = c.before.before.before.before.before.before.before.before.before.before.before.if-released-eq0.false in
-    let first = c.before.before.before.before.before.before.before.before.wide in
+    let l = c.args.released.now in
+    let some = c.if-released-eq0.false in
+    let first = c.wide in
     same (symbols_some l first.result some first.ensures) (omega (arith, part_shorter l some))
-    (then c.before.before.before.before.before.before.before.field-next.ensures c.before.before.more-symbols.ensures)
+    (then c.field-next.ensures c.more_symbols.ensures)
 
 pub symbols_field_spec : {M : Type 1} → statement M
 symbols_field_spec =

@@ -31,17 +31,17 @@ loop-less c = omega arith
 
 loop-again : tie.Need-loop-i-preserved invariant-loop decreases-loop
 loop-again c =
-    let at-loop = c.before.before.before.before.before.before in (
+    (
       omega arith,
-      same (take_one at-loop.before.before.before.args.s.now at-loop.loop-i.i (omega arith)) (omega arith)
-          (then at-loop.loop-i.invariant.1 c.before.before.put-next.ensures),
+      same (take_one c.args.s.now c.loop-i.i (omega arith)) (omega arith)
+          (then c.loop-i.invariant.1 c.put-next.ensures),
     )
 
 same_length : tie.Need-shape_of-out invariant-loop decreases-loop
 same_length c = search rules
 
 returns : tie.Need-returns invariant-loop decreases-loop
-returns c = same (take_all c.before.loop-i.i c.before.before.before.before.args.s.now (omega arith)) (omega arith) c.before.loop-i.invariant.1
+returns c = same (take_all c.loop-i.i c.args.s.now (omega arith)) (omega arith) c.loop-i.invariant.1
 
 pub text_spec : {M : Type 1} → statement M
 text_spec =

@@ -28,17 +28,17 @@ same_length : tie.Need-shape_of-out-in-NoLeak
 same_length c = search rules
 
 returns : tie.Need-returns-in-NoLeak
-returns c = same (sym (ap (λ (v : Verdict). 32 ∷ steps v) c.before.before.before.before.enum_told-1.given.1)) (omega arith)
-    c.before.before.dash.ensures
+returns c = same (sym (ap (λ (v : Verdict). 32 ∷ steps v) c.in-NoLeak.is)) (omega arith)
+    c.dash.ensures
 
 same-length-2 : tie.Need-shape_of-out-in-Leak
 same-length-2 c = search rules
 
 returns-2 : tie.Need-returns-in-Leak
 returns-2 c =
-    same (ap (λ (k : ℕ). 32 ∷ decimal k) c.before.before.before.wide.ensures
-    ∙ sym (ap (λ (v : Verdict). 32 ∷ steps v) c.before.before.before.before.before.before.verdict-1.given.1)) (omega arith)
-    c.before.before.field.ensures
+    same (ap (λ (k : ℕ). 32 ∷ decimal k) c.wide.ensures
+    ∙ sym (ap (λ (v : Verdict). 32 ∷ steps v) c.in-Leak.is)) (omega arith)
+    c.field.ensures
 
 pub verdict_field_spec : {M : Type 1} → statement M
 verdict_field_spec =

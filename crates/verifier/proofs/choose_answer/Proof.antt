@@ -14,10 +14,10 @@ choose-each-requires : tie.Need-choose_each-verdicts-requires
 choose-each-requires c κs = search rules
 
 returns : tie.Need-returns-in-Refused
-returns c = rw c.before.answer-1.given.1 refl
+returns c = rw c.in-Refused.is refl
 
 returns-2 : tie.Need-returns-in-Accepted
-returns-2 c = rw (c.before.before.answer-in-Accepted-1.given.1, c.choose_each-verdicts.ensures) refl
+returns-2 c = rw (c.in-Accepted.is, c.choose_each-verdicts.ensures) refl
 
 pub choose_answer_spec : {M : Type 1} → statement M
 choose_answer_spec =

@@ -17,7 +17,7 @@ choose-requires-4 : tie.Need-choose-requires-4
 choose-requires-4 c κs = search rules
 
 returns : tie.Need-returns
-returns c = rw (c.choose-4.ensures, c.before.choose-3.ensures, c.before.before.choose-2.ensures, c.before.before.before.choose.ensures) refl
+returns c = rw (c.choose-4.ensures, c.choose-3.ensures, c.choose-2.ensures, c.choose.ensures) refl
 
 pub choose_each_spec : {M : Type 1} → statement M
 choose_each_spec =

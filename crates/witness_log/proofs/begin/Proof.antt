@@ -13,10 +13,10 @@ least-requires c κs = search rules
 sub-follow : tie.Need-overflow-sub-follow
 sub-follow c = search rules
 
-part-follow-start : tie.Need-slice_bounds-follow-start
+part-follow-start : tie.Need-slice-bounds-follow-start
 part-follow-start c = search rules
 
-part-follow-end : tie.Need-slice_bounds-follow-end
+part-follow-end : tie.Need-slice-bounds-follow-end
 part-follow-end c = search rules
 
 follow-requires : tie.Need-follow-requires

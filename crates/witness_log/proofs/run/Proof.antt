@@ -53,10 +53,10 @@ has_begun x =
 sub_open : tie.Need-overflow-sub-open
 sub_open c = search rules
 
-part-open-start : tie.Need-slice_bounds-open-start
+part-open-start : tie.Need-slice-bounds-open-start
 part-open-start c = search rules
 
-part-open-end : tie.Need-slice_bounds-open-end
+part-open-end : tie.Need-slice-bounds-open-end
 part-open-end c = search rules
 
 open-requires : tie.Need-open-requires
@@ -80,10 +80,10 @@ slice-aggregate-begin c = search rules
 sub-begin : tie.Need-overflow-sub-begin
 sub-begin c = behind c.before.before.before
 
-part-begin-start : tie.Need-slice_bounds-begin-start
+part-begin-start : tie.Need-slice-bounds-begin-start
 part-begin-start c = behind c.before.before.before.before
 
-part-begin-end : tie.Need-slice_bounds-begin-end
+part-begin-end : tie.Need-slice-bounds-begin-end
 part-begin-end c = search rules
 
 begin-requires : tie.Need-begin-requires

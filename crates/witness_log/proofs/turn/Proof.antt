@@ -15,10 +15,10 @@ enum-known-fetched c = search rules
 sub-follow : tie.Need-overflow-sub-follow
 sub-follow c = search rules
 
-part-follow-start : tie.Need-slice_bounds-follow-start
+part-follow-start : tie.Need-slice-bounds-follow-start
 part-follow-start c = search rules
 
-part-follow-end : tie.Need-slice_bounds-follow-end
+part-follow-end : tie.Need-slice-bounds-follow-end
 part-follow-end c = (some_brought c.before.before.fetched.given.1 c.before.before.before.before.before.before.fetch.ensures).1
 
 follow-requires : tie.Need-follow-requires

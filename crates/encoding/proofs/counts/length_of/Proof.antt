@@ -14,15 +14,14 @@ enum-known-answer-2 c = search rules
 
 mul-result : tie.Need-overflow_mul-result
 mul-result c =
-    let k = c.before.before.before in
-    let s = subst FrontAnswerSmall k.answer-in-Value-1.given.1 k.before.before.requires in
-    omega (arith, s.fixed-1)
+    let s = subst FrontAnswerSmall c.in-Value.is c.requires in
+    omega (arith, s.fixed)
 
 returns : tie.Need-returns-in-Refused
 returns c = search rules
 
 returns-2 : tie.Need-returns-in-Value
-returns-2 c = rw c.before.before.before.answer-in-Value-1.given.1
+returns-2 c = rw c.in-Value.is
 
 pub length_of_spec : {M : Type 1} → statement M
 length_of_spec =

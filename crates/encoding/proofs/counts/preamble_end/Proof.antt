@@ -13,13 +13,13 @@ symbol-count-requires c κs = search rules
 
 mul-result : tie.Need-overflow_mul-result
 mul-result c =
-    let x = c.before.before.requires.fixed in
-    omega (arith, c.symbol-count.ensures, symbols_few _ x)
+    let x = c.requires.fixed in
+    omega (arith, c.symbol_count.ensures, symbols_few _ x)
 
 add-result : tie.Need-overflow_add-result
 add-result c =
-    let x = c.before.before.requires.fixed in
-    omega (arith, c.symbol-count.ensures, c.before.front-end.ensures, x.topstate, x.topevent, symbols_few _ x)
+    let x = c.requires.fixed in
+    omega (arith, c.symbol_count.ensures, c.front_end.ensures, x.topstate, x.topevent, symbols_few _ x)
 
 returns : tie.Need-returns
 returns c = search rules

@@ -12,13 +12,13 @@ enum-known-answer-2 : tie.Need-enum_known-answer-in-Value-1
 enum-known-answer-2 c = search rules
 
 preamble-end-requires : tie.Need-preamble_end-requires
-preamble-end-requires c κs = subst FrontAnswerSmall c.before.answer-in-Value-1.given.1 c.before.before.before.requires
+preamble-end-requires c κs = subst FrontAnswerSmall c.in-Value.is c.requires
 
 returns : tie.Need-returns-in-Refused
 returns c = search rules
 
 returns-2 : tie.Need-returns-in-Value
-returns-2 c = c.preamble-end.ensures ∙ rw c.before.before.answer-in-Value-1.given.1
+returns-2 c = c.preamble_end.ensures ∙ rw c.in-Value.is
 
 pub start_of_spec : {M : Type 1} → statement M
 start_of_spec =

@@ -14,15 +14,14 @@ enum-known-answer-2 c = search rules
 
 add-result : tie.Need-overflow_add-result
 add-result c =
-    let k = c.before.before in
-    let s = subst FixedAnswerSmall k.answer-in-Value-1.given.1 k.before.before.requires in
+    let s = subst FixedAnswerSmall c.in-Value.is c.requires in
     omega (arith, s)
 
 returns : tie.Need-returns-in-Refused
 returns c = search rules
 
 returns-2 : tie.Need-returns-in-Value
-returns-2 c = rw c.before.before.answer-in-Value-1.given.1
+returns-2 c = rw c.in-Value.is
 
 pub states_of_spec : {M : Type 1} → statement M
 states_of_spec =

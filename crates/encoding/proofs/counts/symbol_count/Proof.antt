@@ -12,7 +12,7 @@ add-result : tie.Need-overflow_add-result
 add-result c = search rules
 
 returns-2 : tie.Need-returns
-returns-2 c = sym (count_some _ _ c.before.if-fixed-eq0.false)
+returns-2 c = sym (count_some _ _ c.if-fixed-eq0.false)
 
 pub symbol_count_spec : {M : Type 1} → statement M
 symbol_count_spec = tie.close (tie.spec returns add-result returns-2)

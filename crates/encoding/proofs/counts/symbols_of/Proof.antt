@@ -12,13 +12,13 @@ enum-known-answer-2 : tie.Need-enum_known-answer-in-Value-1
 enum-known-answer-2 c = search rules
 
 symbol-count-requires : tie.Need-symbol_count-requires
-symbol-count-requires c κs = (subst FrontAnswerSmall c.before.answer-in-Value-1.given.1 c.before.before.before.requires).fixed
+symbol-count-requires c κs = (subst FrontAnswerSmall c.in-Value.is c.requires).fixed
 
 returns : tie.Need-returns-in-Refused
 returns c = search rules
 
 returns-2 : tie.Need-returns-in-Value
-returns-2 c = c.symbol-count.ensures ∙ rw c.before.before.answer-in-Value-1.given.1
+returns-2 c = c.symbol_count.ensures ∙ rw c.in-Value.is
 
 pub symbols_of_spec : {M : Type 1} → statement M
 symbols_of_spec =

@@ -9,7 +9,7 @@ symbol-count-requires : tie.Need-symbol_count-requires
 symbol-count-requires c κs = search rules
 
 mul-result : tie.Need-overflow_mul-result
-mul-result c = omega (arith, c.symbol-count.ensures, symbols_few _ c.before.requires.fixed)
+mul-result c = omega (arith, c.symbol_count.ensures, symbols_few _ c.requires.fixed)
 
 returns : tie.Need-returns
 returns c = search rules

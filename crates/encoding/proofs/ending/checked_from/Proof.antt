@@ -26,37 +26,32 @@ enum-told-2 c = search rules
 
 returns : tie.Need-returns-in-Refused
 unfolding encoding
-returns c = λ bits h1 h2 h3. rw (told (preamble_means _) h1 c.before.answer-1.given.1)
+returns c = λ bits h1 h2 h3. rw (told (preamble_means _) h1 c.in-Refused.is)
 
 returns-2 : tie.Need-returns-in-Refused-listed
 unfolding encoding
 returns-2 c =
-    let k = c.before.before.before.before in
     λ bits h1 h2 h3.
-    rw (told (preamble_means _) h1 k.answer-in-Value-1.given.1, told (checked_means _ _) (rw k.answer-in-Value-1.given.1 at h2) c.before.listed-1.given.1)
+    rw (told (preamble_means _) h1 c.in-Value.is, told (checked_means _ _) (rw c.in-Value.is at h2) c.in-Refused-listed.is)
 
 returns-3 : tie.Need-returns-in-Refused-ended
 unfolding encoding
 returns-3 c =
-    let k4 = c.before.before.before in
-    let k = k4.before.before.before in
     λ bits h1 h2 h3. rw (
-      told (preamble_means _) h1 k.answer-in-Value-1.given.1,
-      told (checked_means _ _) (rw k.answer-in-Value-1.given.1 at h2) k4.enum_told-1.given.1,
+      told (preamble_means _) h1 c.in-Value.is,
+      told (checked_means _ _) (rw c.in-Value.is at h2) c.in-Valid.is,
       told
-          (checked_means _ _) (rw k.answer-in-Value-1.given.1 at h3) c.before.ended-1.given.1,
+          (checked_means _ _) (rw c.in-Value.is at h3) c.in-Refused-ended.is,
     )
 
 returns-4 : tie.Need-returns-in-Valid-ended
 unfolding encoding
 returns-4 c =
-    let k4 = c.before.before in
-    let k = k4.before.before.before in
     λ bits h1 h2 h3. rw (
-      told (preamble_means _) h1 k.answer-in-Value-1.given.1,
-      told (checked_means _ _) (rw k.answer-in-Value-1.given.1 at h2) k4.enum_told-1.given.1,
+      told (preamble_means _) h1 c.in-Value.is,
+      told (checked_means _ _) (rw c.in-Value.is at h2) c.in-Valid.is,
       told
-          (checked_means _ _) (rw k.answer-in-Value-1.given.1 at h3) c.enum_told-in-Valid-ended-1.given.1,
+          (checked_means _ _) (rw c.in-Value.is at h3) c.in-Valid-ended.is,
     )
 
 pub checked_from_spec : {M : Type 1} → statement M

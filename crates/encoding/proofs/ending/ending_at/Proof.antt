@@ -31,7 +31,7 @@ add-if1 c = search rules
 returns : tie.Need-returns-then-at-bytes
 unfolding ending
 returns c =
-    let a = c.before.before.args in
+    let a = c.args in
     rw (length_bits a.bytes.now, le-ltb (length a.bytes.now * 8 - a.at) 8 (omega arith))
 
 mul-if2 : tie.Need-overflow_mul-bytes
@@ -39,7 +39,7 @@ mul-if2 c = search rules
 
 returns-2 : tie.Need-returns-then-bytes-at
 returns-2 c =
-    let a = c.before.before.before.args in
+    let a = c.args in
     let none : length a.bytes.now * 8 - a.at ≡ 0 = omega arith in
     padded a.bytes.now a.at 0 (omega arith) (rw (none, number_none (bits_of a.bytes.now) a.at)) refl
 
@@ -50,17 +50,17 @@ sub-rest : tie.Need-overflow_sub-rest
 sub-rest c = search rules
 
 number-at-requires : tie.Need-number_at-requires
-number-at-requires c κs = omega (arith, length_bits c.before.before.before.args.bytes.now)
+number-at-requires c κs = omega (arith, length_bits c.args.bytes.now)
 
 returns-3 : tie.Need-returns-then-number_at-ne0
 returns-3 c =
-    let a = c.before.before.before.before.before.args in
-    loose a.bytes.now a.at c.before.number_at.result (omega arith) c.before.number_at.ensures c.if-number_at-ne0.true
+    let a = c.args in
+    loose a.bytes.now a.at c.number_at.result (omega arith) c.number_at.ensures c.if-number_at-ne0.true
 
 returns-4 : tie.Need-returns
 returns-4 c =
-    let a = c.before.before.before.before.before.args in
-    padded a.bytes.now a.at c.before.number_at.result (omega arith) c.before.number_at.ensures c.if-number_at-ne0.false
+    let a = c.args in
+    padded a.bytes.now a.at c.number_at.result (omega arith) c.number_at.ensures c.if-number_at-ne0.false
 
 pub ending_at_spec : {M : Type 1} → statement M
 ending_at_spec =

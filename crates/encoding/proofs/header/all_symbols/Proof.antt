@@ -23,7 +23,7 @@ loop-holds c = (omega arith, refl, λ k h. absurd (omega arith))
 
 symbol-at-requires : tie.Need-symbol_at-requires invariant-loop decreases-loop
 symbol-at-requires c κs =
-    let a = c.before.before.before.requires in
+    let a = c.requires in
     (omega arith, a.0, a.1, a.2)
 
 array-write-symbols : tie.Need-bounds-symbols-e invariant-loop decreases-loop
@@ -37,8 +37,8 @@ loop-less c = omega arith
 
 loop-again : tie.Need-loop-e-preserved invariant-loop decreases-loop
 loop-again c =
-    let l = c.before.before.loop-e in
-    let a = c.before.before.before.before.args in (
+    let l = c.loop-e in
+    let a = c.args in (
       omega arith,
       simp length-set l.invariant.1,
       filled (λ k w. w ≡ symbol_for a.observable (symbols_at (bits_of a.bytes.now) a.at a.n) k) l.symbols l.e _ (omega (arith, l.invariant.1))
@@ -47,7 +47,7 @@ loop-again c =
 
 returns : tie.Need-returns invariant-loop decreases-loop
 returns c =
-    let l = c.before.loop-e in
+    let l = c.loop-e in
     header_is _ _ _ l.invariant.1 (λ k h. l.invariant.2 k (omega arith))
 
 pub all_symbols_spec : {M : Type 1} → statement M

@@ -15,12 +15,11 @@ symbol-count-requires c κs = search rules
 
 all-symbols-requires : tie.Need-all_symbols-symbols-requires
 all-symbols-requires c κs =
-    let s = c.before.before.before in
-    let x = s.requires.1.fixed-1 in
+    let x = c.requires.1.fixed in
     let few = symbols_few _ x in
     let n = c.symbol_count-n.ensures in
-    let at = s.requires.0 in
-    (omega (arith, x.topstate, x.topevent), omega arith, omega (arith, s.requires.2))
+    let at = c.requires.0 in
+    (omega (arith, x.topstate, x.topevent), omega arith, omega (arith, c.requires.2))
 
 cast-t7 : tie.Need-overflow_cast-result
 cast-t7 c = search rules
@@ -32,8 +31,8 @@ cast-t9 : tie.Need-overflow_cast-result-3
 cast-t9 c = omega (arith, observable_fits (start c).args.front (start c).requires.1)
 
 returns : tie.Need-returns
-returns c = header_made _ (start c).args.front _ _ _ (start c).requires.0 c.before.before.before.before.symbol_count-n.ensures
-    c.before.before.before.all_symbols-symbols.ensures
+returns c = header_made _ (start c).args.front _ _ _ (start c).requires.0 c.symbol_count-n.ensures
+    c.all_symbols-symbols.ensures
 
 pub header_at_spec : {M : Type 1} → statement M
 header_at_spec =

@@ -18,33 +18,31 @@ abbrev given : tie.Start → List ℕ
 given s = symbols_at (bits_of s.args.bytes.now) s.args.at s.args.n
 
 -- an observable event's symbol is its symbol
-seen : (c : tie.Else-not-member) → symbol_for c.before.before.before.args.observable (given c.before.before.before) c.before.before.before.args.e
-    ≡ given_symbol (given c.before.before.before) c.before.before.before.args.e
+seen : (c : tie.Else-not-member) → symbol_for c.args.observable (given c.before.before.before) c.args.e
+    ≡ given_symbol (given c.before.before.before) c.args.e
 seen c =
-    let s = c.before.before.before in
-    symbol_observable s.args.observable (given s) s.args.e (holds c.before.member.result (not-false _ c.if-not-member.false) c.before.member.ensures)
+    symbol_observable c.args.observable (given c.before.before.before) c.args.e (holds c.member.result (not-false _ c.if-not-member.false) c.member.ensures)
 
 member-requires : tie.Need-member-requires
 member-requires c κs = search rules
 
 returns : tie.Need-returns-then-not-member
 returns c =
-    let s = c.before.before.before in
-    sym (symbol_unobservable s.args.observable (given s) s.args.e
-    (fails c.before.member.result (not-true _ c.if-not-member.true) c.before.member.ensures))
+    sym (symbol_unobservable c.args.observable (given c.before.before.before) c.args.e
+    (fails c.member.result (not-true _ c.if-not-member.true) c.member.ensures))
 
 cast-result : tie.Need-overflow_cast-result
 cast-result c = search rules
 
 returns-2 : tie.Need-returns-then-n-eq0
 returns-2 c =
-    let a = c.before.before.before.before.args in
+    let a = c.args in
     sym (seen c.before ∙ symbol_own (bits_of a.bytes.now) a.at a.n a.e c.if-n-eq0.true)
 
 returns-3 : tie.Need-returns-then-n-e
 returns-3 c =
-    let a = c.before.before.before.before.before.args in
-    sym (seen c.before.before ∙ symbol_behind (bits_of a.bytes.now) a.at a.n a.e c.before.if-n-eq0.false c.if-n-e.true)
+    let a = c.args in
+    sym (seen c.before.before ∙ symbol_behind (bits_of a.bytes.now) a.at a.n a.e c.if-n-eq0.false c.if-n-e.true)
 
 mul-number-at : tie.Need-overflow_mul-e
 mul-number-at c = search rules
@@ -57,13 +55,12 @@ number-at-requires c κs = search rules
 
 cast-result-2 : tie.Need-overflow_cast-result-2
 cast-result-2 c =
-    let a = c.before.before.before.before.before.before in
-    omega (arith, c.number_at.ensures, number_lt a.args.bytes.now (a.args.at + a.args.e * 5) 5 (omega (arith, a.requires, c.before.if-n-e.false)))
+    omega (arith, c.number_at.ensures, number_lt c.args.bytes.now (c.args.at + c.args.e * 5) 5 (omega (arith, c.requires, c.if-n-e.false)))
 
 returns-4 : tie.Need-returns
 returns-4 c =
-    let a = c.before.before.before.before.before.before.args in
-    sym (seen c.before.before.before ∙ symbol_listed (bits_of a.bytes.now) a.at a.n a.e (omega (arith, c.before.if-n-e.false)) ∙ sym
+    let a = c.args in
+    sym (seen c.before.before.before ∙ symbol_listed (bits_of a.bytes.now) a.at a.n a.e (omega (arith, c.if-n-e.false)) ∙ sym
     c.number_at.ensures)
 
 pub symbol_at_spec : {M : Type 1} → statement M

@@ -33,7 +33,7 @@ enum_told c = search rules
 
 returns : tie.Need-returns-in_default
 unfolding fixed
-returns c = λ bits h1 h2 h3 h4 h5 h6. rw (ended 6 h1 c.enum_told-1.given.1)
+returns c = λ bits h1 h2 h3 h4 h5 h6. rw (ended 6 h1 c.in_default.is)
 
 enum-known-events : tie.Need-enum_known-events
 enum-known-events c = search rules
@@ -44,9 +44,8 @@ enum-told-2 c = search rules
 returns-2 : tie.Need-returns-in_default-events
 unfolding fixed
 returns-2 c =
-    let k1 = c.before.before in
     λ bits h1 h2 h3 h4 h5 h6. rw
-    (got h1 k1.before.states-1.given.1, ended 11 h2 c.enum_told-in_default-events-1.given.1)
+    (got h1 c.in-Value.is, ended 11 h2 c.in_default-events.is)
 
 enum-known-back : tie.Need-enum_known-back
 enum-known-back c = search rules
@@ -57,11 +56,10 @@ enum-told-3 c = search rules
 returns-3 : tie.Need-returns-in_default-back
 unfolding fixed
 returns-3 c =
-    let k2 = c.before.before in
-    let k1 = up2 k2 in
+    let k1 = up2 c.before in
     λ bits h1 h2 h3 h4 h5 h6.
-    let cut : field 4 bits 11 ≡ refused Truncated = ended 15 h3 c.enum_told-in_default-back-1.given.1 in
-    rw (got h1 k1.before.states-1.given.1, got h2 k2.before.events-1.given.1, cut)
+    let cut : field 4 bits 11 ≡ refused Truncated = ended 15 h3 c.in_default-back.is in
+    rw (got h1 k1.before.states.given.1, got h2 c.in-Value-events.is, cut)
 
 enum-known-first : tie.Need-enum_known-first
 enum-known-first c = search rules
@@ -72,24 +70,22 @@ enum-told-4 c = search rules
 returns-4 : tie.Need-returns-in_default-first
 unfolding fixed
 returns-4 c =
-    let k3 = c.before.before in
-    let k2 = up3 k3 in
+    let k2 = up3 c.before in
     let k1 = up2 k2 in
     λ bits h1 h2 h3 h4 h5 h6. rw
-    (got h1 k1.before.states-1.given.1, got h2 k2.before.events-1.given.1, got h3 k3.before.back-1.given.1, ended 21 h4 c.enum_told-in_default-first-1.given.1)
+    (got h1 k1.before.states.given.1, got h2 k2.before.events.given.1, got h3 c.in-Value-back.is, ended 21 h4 c.in_default-first.is)
 
 returns-5 : tie.Need-returns-then-topstate-initial
 unfolding fixed
 returns-5 c =
-    let k4 = c.before in
-    let k3 = up4 k4 in
+    let k3 = up4 c.before in
     let k2 = up3 k3 in
     let k1 = up2 k2 in
     λ bits h1 h2 h3 h4 h5 h6. rw (
-      got h1 k1.before.states-1.given.1,
-      got h2 k2.before.events-1.given.1,
-      got h3 k3.before.back-1.given.1,
-      got h4 k4.before.first-1.given.1,
+      got h1 k1.before.states.given.1,
+      got h2 k2.before.events.given.1,
+      got h3 k3.before.back.given.1,
+      got h4 c.in-Value-first.is,
       lt-leb _ _ c.if-topstate-initial.true,
     )
 
@@ -102,17 +98,16 @@ enum-told-5 c = search rules
 returns-6 : tie.Need-returns-in_default-number
 unfolding fixed
 returns-6 c =
-    let k4 = c.before.before.before in
-    let k3 = up4 k4 in
+    let k3 = up4 c.before.before in
     let k2 = up3 k3 in
     let k1 = up2 k2 in
     λ bits h1 h2 h3 h4 h5 h6. rw (
-      got h1 k1.before.states-1.given.1,
-      got h2 k2.before.events-1.given.1,
-      got h3 k3.before.back-1.given.1,
-      got h4 k4.before.first-1.given.1,
-      le-leb _ _ c.before.before.if-topstate-initial.false,
-      ended 31 h5 c.enum_told-in_default-number-1.given.1,
+      got h1 k1.before.states.given.1,
+      got h2 k2.before.events.given.1,
+      got h3 k3.before.back.given.1,
+      got h4 c.in-Value-first.is,
+      le-leb _ _ c.if-topstate-initial.false,
+      ended 31 h5 c.in_default-number.is,
     )
 
 enum-known-follow : tie.Need-enum_known-follow
@@ -124,38 +119,36 @@ enum-told-6 c = search rules
 returns-7 : tie.Need-returns-in_default-follow
 unfolding fixed
 returns-7 c =
-    let k5 = c.before.before in
-    let k4 = up5 k5 in
+    let k4 = up5 c.before in
     let k3 = up4 k4 in
     let k2 = up3 k3 in
     let k1 = up2 k2 in
     λ bits h1 h2 h3 h4 h5 h6. rw (
-      got h1 k1.before.states-1.given.1,
-      got h2 k2.before.events-1.given.1,
-      got h3 k3.before.back-1.given.1,
-      got h4 k4.before.first-1.given.1,
-      le-leb _ _ k5.before.before.before.if-topstate-initial.false,
-      got h5 k5.before.number-1.given.1,
-      ended 32 h6 c.enum_told-in_default-follow-1.given.1,
+      got h1 k1.before.states.given.1,
+      got h2 k2.before.events.given.1,
+      got h3 k3.before.back.given.1,
+      got h4 k4.before.first.given.1,
+      le-leb _ _ c.if-topstate-initial.false,
+      got h5 c.in-Value-number.is,
+      ended 32 h6 c.in_default-follow.is,
     )
 
 returns-8 : tie.Need-returns
 unfolding fixed
 returns-8 c =
-    let k6 = c in
-    let k5 = up6 k6 in
+    let k5 = up6 c in
     let k4 = up5 k5 in
     let k3 = up4 k4 in
     let k2 = up3 k3 in
     let k1 = up2 k2 in
     λ bits h1 h2 h3 h4 h5 h6. rw (
-      got h1 k1.before.states-1.given.1,
-      got h2 k2.before.events-1.given.1,
-      got h3 k3.before.back-1.given.1,
-      got h4 k4.before.first-1.given.1,
-      le-leb _ _ k5.before.before.before.if-topstate-initial.left,
-      got h5 k5.before.number-1.given.1,
-      got h6 k6.before.follow-1.given.1,
+      got h1 k1.before.states.given.1,
+      got h2 k2.before.events.given.1,
+      got h3 k3.before.back.given.1,
+      got h4 k4.before.first.given.1,
+      le-leb _ _ k5.before.before.before.if1.left,
+      got h5 k5.before.number.given.1,
+      got h6 c.in-Value-follow.is,
     )
 
 pub fixed_from_spec : {M : Type 1} → statement M

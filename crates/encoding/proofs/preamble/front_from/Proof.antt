@@ -8,7 +8,7 @@ use Rattle.encoding.proofs.preamble.front_from.Statement.{statement}
 use Rattle.encoding.proofs.preamble.front_from.Tie as tie
 
 -- the place where the fixed fields were read, from where the secret states were
-abbrev up : tie.In-Value-secret → tie.In-Value-2
+abbrev up : tie.In-Value-secret → tie.In-Value
 up c = c.before.before.before.before
 
 enum-known-answer : tie.Need-enum_known-answer
@@ -26,8 +26,7 @@ enum_told c = search rules
 returns : tie.Need-returns-in_default
 unfolding front
 returns c =
-    let k = c.before.before.before in
-    λ bits h1 h2 h3. rw (told fixed_means h1 k.answer-in-Value-1.given.1, told (flags_means _) (rw k.answer-in-Value-1.given.1 at h2) c.enum_told-1.given.1)
+    λ bits h1 h2 h3. rw (told fixed_means h1 c.in-Value.is, told (flags_means _) (rw c.in-Value.is at h2) c.in_default.is)
 
 enum-known-observable : tie.Need-enum_known-observable
 enum-known-observable c = search rules
@@ -38,29 +37,27 @@ enum-told-2 c = search rules
 returns-2 : tie.Need-returns-in_default-observable
 unfolding front
 returns-2 c =
-    let k3 = c.before.before in
-    let k = up k3 in
+    let k = up c.before in
     λ bits h1 h2 h3. rw (
-      told fixed_means h1 k.answer-in-Value-1.given.1,
-      told (flags_means _) (rw k.answer-in-Value-1.given.1 at h2) k3.before.secret-1.given.1,
+      told fixed_means h1 k.answer2.given.1,
+      told (flags_means _) (rw k.answer2.given.1 at h2) c.in-Value-secret.is,
       told (flags_means _)
-          (rw k.answer-in-Value-1.given.1 at h3) c.enum_told-in_default-observable-1.given.1,
+          (rw k.answer2.given.1 at h3) c.in_default-observable.is,
     )
 
 returns-3 : tie.Need-returns-in-Refused
 unfolding front
-returns-3 c = λ bits h1 h2 h3. rw (told fixed_means h1 c.before.answer-1.given.1)
+returns-3 c = λ bits h1 h2 h3. rw (told fixed_means h1 c.in-Refused.is)
 
 returns-4 : tie.Need-returns-in-Value-observable
 unfolding front
 returns-4 c =
-    let k3 = c.before.before.before in
-    let k = up k3 in
+    let k = up c.before in
     λ bits h1 h2 h3. rw (
-      told fixed_means h1 k.answer-in-Value-1.given.1,
-      told (flags_means _) (rw k.answer-in-Value-1.given.1 at h2) k3.before.secret-1.given.1,
+      told fixed_means h1 k.answer2.given.1,
+      told (flags_means _) (rw k.answer2.given.1 at h2) c.in-Value-secret.is,
       told (flags_means _)
-          (rw k.answer-in-Value-1.given.1 at h3) c.before.observable-1.given.1,
+          (rw k.answer2.given.1 at h3) c.in-Value-observable.is,
     )
 
 pub front_from_spec : {M : Type 1} → statement M

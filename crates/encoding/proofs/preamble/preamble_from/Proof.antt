@@ -20,19 +20,17 @@ enum_told c = search rules
 
 returns : tie.Need-returns-in-Refused
 unfolding preamble
-returns c = λ bits h1 h2. rw (told front_means h1 c.before.answer-1.given.1)
+returns c = λ bits h1 h2. rw (told front_means h1 c.in-Refused.is)
 
 returns-2 : tie.Need-returns-in-Refused-listed
 unfolding preamble
 returns-2 c =
-    let k = c.before.before.before.before in
-    λ bits h1 h2. rw (told front_means h1 k.answer-in-Value-1.given.1, told (checked_means _ _) (rw k.answer-in-Value-1.given.1 at h2) c.before.listed-1.given.1)
+    λ bits h1 h2. rw (told front_means h1 c.in-Value.is, told (checked_means _ _) (rw c.in-Value.is at h2) c.in-Refused-listed.is)
 
 returns-3 : tie.Need-returns-in-Valid
 unfolding preamble
 returns-3 c =
-    let k = c.before.before.before in
-    λ bits h1 h2. rw (told front_means h1 k.answer-in-Value-1.given.1, told (checked_means _ _) (rw k.answer-in-Value-1.given.1 at h2) c.enum_told-1.given.1)
+    λ bits h1 h2. rw (told front_means h1 c.in-Value.is, told (checked_means _ _) (rw c.in-Value.is at h2) c.in-Valid.is)
 
 pub preamble_from_spec : {M : Type 1} → statement M
 preamble_from_spec =

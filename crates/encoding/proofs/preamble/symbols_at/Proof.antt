@@ -19,13 +19,12 @@ add-if1-2 c = search rules
 
 returns : tie.Need-returns-then-bytes-at
 returns c =
-    let s = c.before in
-    let a = s.args in
-    sym (symbols_cut (bits_of a.bytes.now) a.at a.n s.requires.2 (omega (arith, length_bits a.bytes.now, c.if-bytes-at.true)))
+    let a = c.args in
+    sym (symbols_cut (bits_of a.bytes.now) a.at a.n c.requires.2 (omega (arith, length_bits a.bytes.now, c.if-bytes-at.true)))
 
 returns-2 : tie.Need-returns
 returns-2 c =
-    let a = c.before.args in
+    let a = c.args in
     sym (symbols_read (bits_of a.bytes.now) a.at a.n (omega (arith, length_bits a.bytes.now, c.if-bytes-at.false)))
 
 pub symbols_at_spec : {M : Type 1} → statement M

@@ -29,7 +29,7 @@ same_length c = search rules
 
 returns : tie.Need-returns
 unfolding mark
-returns c = rw (one_shl _ c.before.requires.3)
+returns c = rw (one_shl _ c.requires.3)
 
 pub place_spec : {M : Type 1} → statement M
 place_spec =

@@ -31,40 +31,37 @@ repeated-requires : tie.Need-repeated-requires
 repeated-requires c κs =
     let s = start c in
     let a = s.args in
-    let there = subst (λ (x : Checked). Reaches x (a.at + a.n * 17 + 17) (bits_of a.bytes.now)) c.enum_told-in-Valid-one-1.given.1 s.pre.2 in
+    let there = subst (λ (x : Checked). Reaches x (a.at + a.n * 17 + 17) (bits_of a.bytes.now)) c.in-Valid-one.is s.pre.2 in
     (s.pre.0, s.pre.1, there)
 
 returns : tie.Need-returns-then-repeated
 returns c =
-    let k = c.before.before in
-    let a = (start k).args in
+    let a = (start c.before.before).args in
     λ s e h1 h2. rw (add-one a.n)
     (sym
-    (transitions_repeated s e (bits_of a.bytes.now) a.at a.n (told (checked_means _ _) h1 k.before.before.enum_told-1.given.1)
-    (told (checked_means _ _) h2 k.enum_told-in-Valid-one-1.given.1) (sym c.before.repeated.ensures ∙ c.if-repeated.true)))
+    (transitions_repeated s e (bits_of a.bytes.now) a.at a.n (told (checked_means _ _) h1 c.in-Valid.is)
+    (told (checked_means _ _) h2 c.in-Valid-one.is) (sym c.repeated.ensures ∙ c.if-repeated.true)))
 
 returns-2 : tie.Need-returns-in-Refused
 returns-2 c =
-    let a = c.before.before.before.before.args in
+    let a = c.args in
     λ s e h1 h2. rw (add-one a.n)
-    (sym (transitions_before s e (bits_of a.bytes.now) a.at a.n (told (checked_means _ _) h1 c.before.earlier-1.given.1)))
+    (sym (transitions_before s e (bits_of a.bytes.now) a.at a.n (told (checked_means _ _) h1 c.in-Refused.is)))
 
 returns-3 : tie.Need-returns-in-Refused-one
 returns-3 c =
-    let k = c.before.before.before in
-    let a = k.before.before.before.args in
+    let a = c.args in
     λ s e h1 h2. rw (add-one a.n)
-    (sym (transitions_refused s e (bits_of a.bytes.now) a.at a.n (told (checked_means _ _) h1 k.enum_told-1.given.1)
-    (told (checked_means _ _) h2 c.before.one-1.given.1)))
+    (sym (transitions_refused s e (bits_of a.bytes.now) a.at a.n (told (checked_means _ _) h1 c.in-Valid.is)
+    (told (checked_means _ _) h2 c.in-Refused-one.is)))
 
 returns-4 : tie.Need-returns-else-repeated
 returns-4 c =
-    let k = c.before.before in
-    let a = (start k).args in
+    let a = (start c.before.before).args in
     λ s e h1 h2. rw (add-one a.n)
     (sym
-    (transitions_more s e (bits_of a.bytes.now) a.at a.n (told (checked_means _ _) h1 k.before.before.enum_told-1.given.1)
-    (told (checked_means _ _) h2 k.enum_told-in-Valid-one-1.given.1) (sym c.before.repeated.ensures ∙ c.if-repeated.false)))
+    (transitions_more s e (bits_of a.bytes.now) a.at a.n (told (checked_means _ _) h1 c.in-Valid.is)
+    (told (checked_means _ _) h2 c.in-Valid-one.is) (sym c.repeated.ensures ∙ c.if-repeated.false)))
 
 pub repeat_at_spec : {M : Type 1} → statement M
 repeat_at_spec =

@@ -40,19 +40,19 @@ number-at-requires-2 : tie.Need-number_at-requires invariant-loop decreases-loop
 number-at-requires-2 c κs = omega arith
 
 -- the two numbers compare as the two transitions do
-compared : (c : tie.After-number_at invariant-loop decreases-loop) → let a = c.before.before.before.before.before.args in
+compared : (c : tie.After-number_at invariant-loop decreases-loop) → let a = c.args in
     let bits = bits_of a.bytes.now in
-    eqb c.number_at.result c.before.before.before.number_at-last.result
-    ≡ same_transition (transition_at bits (a.at + a.n * 17)) (transition_at bits (a.at + c.before.before.loop-i.i * 17))
+    eqb c.number_at.result c.number_at-last.result
+    ≡ same_transition (transition_at bits (a.at + a.n * 17)) (transition_at bits (a.at + c.loop-i.i * 17))
 compared c =
-    let a = c.before.before.before.before.before.args in
-    rw (c.number_at.ensures, c.before.before.before.number_at-last.ensures)
-    (same_bits a.bytes.now (a.at + c.before.before.loop-i.i * 17) (a.at + a.n * 17) (omega arith) (omega arith))
+    let a = c.args in
+    rw (c.number_at.ensures, c.number_at-last.ensures)
+    (same_bits a.bytes.now (a.at + c.loop-i.i * 17) (a.at + a.n * 17) (omega arith) (omega arith))
 
 returns : tie.Need-returns-then-number_at-last invariant-loop decreases-loop
 returns c =
-    let a = c.before.before.before.before.before.before.args in
-    let l = c.before.before.before.loop-i in
+    let a = c.args in
+    let l = c.loop-i in
     sym
     (listed_stays _ (bits_of a.bytes.now) a.at l.i (sym (compared c.before) ∙ eq-eqb _ _ c.if-number_at-last.true) a.n (omega arith))
 
@@ -64,15 +64,15 @@ loop-less c = omega arith
 
 loop-again : tie.Need-loop-i-preserved invariant-loop decreases-loop
 loop-again c =
-    let a = c.before.before.before.before.before.before.args in
-    let l = c.before.before.before.loop-i in
+    let a = c.args in
+    let l = c.loop-i in
     let other = sym (compared c.before) ∙ ne_eqb _ _ c.if-number_at-last.false in
     (omega arith, rw (add-one l.i, listed_more _ (bits_of a.bytes.now) a.at l.i, l.invariant.1, other))
 
 returns-2 : tie.Need-returns invariant-loop decreases-loop
 returns-2 c =
-    let a = c.before.before.before.before.args in
-    let l = c.before.loop-i in
+    let a = c.args in
+    let l = c.loop-i in
     let bits = bits_of a.bytes.now in
     let e : l.i ≡ a.n = omega arith in
     sym (subst (λ (m : ℕ). listed (transition_at bits (a.at + a.n * 17)) (transitions_at bits a.at m) ≡ false) e l.invariant.1)

@@ -20,11 +20,11 @@ enum_told c = search rules
 
 returns : tie.Need-returns-in_default
 unfolding transition
-returns c = λ bits at h1 h2 h3. rw (ended _ h1 c.enum_told-1.given.1)
+returns c = λ bits at h1 h2 h3. rw (ended _ h1 c.in_default.is)
 
 returns-2 : tie.Need-returns-then-topstate-from
 unfolding transition
-returns-2 c = λ bits at h1 h2 h3. rw (got h1 c.before.before.source-1.given.1, lt-leb _ _ c.if-topstate-from.true)
+returns-2 c = λ bits at h1 h2 h3. rw (got h1 c.in-Value.is, lt-leb _ _ c.if-topstate-from.true)
 
 enum-known-label : tie.Need-enum_known-label
 enum-known-label c = search rules
@@ -35,18 +35,16 @@ enum-told-2 c = search rules
 returns-3 : tie.Need-returns-in_default-label
 unfolding transition
 returns-3 c =
-    let e1 = c.before.before in
-    λ bits at h1 h2 h3. rw (got h1 e1.before.before.source-1.given.1, le-leb _ _ e1.if-topstate-from.false, ended _ h2 c.enum_told-in_default-label-1.given.1)
+    λ bits at h1 h2 h3. rw (got h1 c.in-Value.is, le-leb _ _ c.if-topstate-from.false, ended _ h2 c.in_default-label.is)
 
 returns-4 : tie.Need-returns-then-topevent-event
 unfolding transition
 returns-4 c =
-    let e1 = c.before.before.before.before in
     λ bits at h1 h2
     h3. rw (
-      got h1 e1.before.before.source-1.given.1,
-      le-leb _ _ e1.if-topstate-from.false,
-      got h2 c.before.before.label-1.given.1,
+      got h1 c.in-Value.is,
+      le-leb _ _ c.if-topstate-from.false,
+      got h2 c.in-Value-label.is,
       lt-leb _ _
           c.if-topevent-event.true,
     )
@@ -60,42 +58,39 @@ enum-told-3 c = search rules
 returns-5 : tie.Need-returns-in_default-target
 unfolding transition
 returns-5 c =
-    let e2 = c.before.before in
-    let e1 = up2 e2 in
+    let e1 = up2 c.before in
     λ bits at h1 h2 h3. rw (
-      got h1 e1.before.before.source-1.given.1,
-      le-leb _ _ e1.if-topstate-from.left,
-      got h2 e2.before.before.label-1.given.1,
-      le-leb _ _ e2.if-topevent-event.false,
+      got h1 e1.before.before.source.given.1,
+      le-leb _ _ e1.if1.left,
+      got h2 c.in-Value-label.is,
+      le-leb _ _ c.if-topevent-event.false,
       ended
-          _ h3 c.enum_told-in_default-target-1.given.1,
+          _ h3 c.in_default-target.is,
     )
 
 returns-6 : tie.Need-returns-then-topstate-to
 unfolding transition
 returns-6 c =
-    let e2 = c.before.before.before.before in
-    let e1 = up2 e2 in
+    let e1 = up2 c.before.before in
     λ bits at h1 h2 h3. rw (
-      got h1 e1.before.before.source-1.given.1,
-      le-leb _ _ e1.if-topstate-from.left,
-      got h2 e2.before.before.label-1.given.1,
-      le-leb _ _ e2.if-topevent-event.false,
+      got h1 e1.before.before.source.given.1,
+      le-leb _ _ e1.if1.left,
+      got h2 c.in-Value-label.is,
+      le-leb _ _ c.if-topevent-event.false,
       got h3
-          c.before.before.target-1.given.1,
+          c.in-Value-target.is,
       lt-leb _ _ c.if-topstate-to.true,
     )
 
 returns-7 : tie.Need-returns
 unfolding transition
 returns-7 c =
-    let e2 = c.before.before.before.before in
-    let e1 = up2 e2 in
+    let e1 = up2 c.before.before in
     λ bits at h1 h2 h3.
-    let f1 = got h1 e1.before.before.source-1.given.1 in
-    let f2 = got h2 e2.before.before.label-1.given.1 in
-    let f3 = got h3 c.before.before.target-1.given.1 in
-    rw (f1, le-leb _ _ e1.if-topstate-from.left, f2, le-leb _ _ e2.if-topevent-event.false, f3, le-leb _ _ c.if-topstate-to.false)
+    let f1 = got h1 e1.before.before.source.given.1 in
+    let f2 = got h2 c.in-Value-label.is in
+    let f3 = got h3 c.in-Value-target.is in
+    rw (f1, le-leb _ _ e1.if1.left, f2, le-leb _ _ c.if-topevent-event.false, f3, le-leb _ _ c.if-topstate-to.false)
     (same-transition _ (field_in 6 bits at f1).1 (field_in 5 bits (at + 6) f2).1 (field_in 6 bits (at + 6 + 5) f3).1)
 
 pub transition_from_spec : {M : Type 1} → statement M

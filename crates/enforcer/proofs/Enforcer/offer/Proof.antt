@@ -28,38 +28,37 @@ use Rattle.enforcer.proofs.Enforcer.offer.Tie as tie
 abbrev begin : tie.After-pending_within → tie.Start
 begin u = u.before.before.before.before.before.before.before
 
-pending_test : (u : tie.After-pending_within) → Decided u.pending-within.result
-    (PendingWithin (look_back_of (begin u).args.header (begin u).args.self.estimator-1.further-1) (begin u).args.self)
+pending_test : (u : tie.After-pending_within) → Decided u.pending_within.result
+    (PendingWithin (look_back_of (begin u).args.header (begin u).args.self.estimator.further) (begin u).args.self)
 pending_test u =
-    subst (λ (k : ℕ). Decided u.pending-within.result (PendingWithin k (begin u).args.self)) u.before.look_back-k.ensures u.pending-within.ensures
+    subst (λ (k : ℕ). Decided u.pending_within.result (PendingWithin k (begin u).args.self)) u.look_back-k.ensures u.pending_within.ensures
 
 -- past it they are
-pending : (x : tie.Else-not-pending_within) → PendingWithin (look_back_of (begin x.before).args.header (begin x.before).args.self.estimator-1.further-1)
+pending : (x : tie.Else-not-pending_within) → PendingWithin (look_back_of (begin x.before).args.header (begin x.before).args.self.estimator.further)
     (begin x.before).args.self
-pending x = holds x.before.pending-within.result (not-false _ x.if-not-pending_within.left) (pending_test x.before)
+pending x = holds x.pending_within.result (not-false _ x.if-not-pending_within.left) (pending_test x.before)
 
 -- and where the verifier has accepted the symbol, it has tested the rest
-abbrev asked : tie.In-Accepted-2 → tie.Start
+abbrev asked : tie.In-Accepted → tie.Start
 asked x = begin x.before.before.before.before
 
-all : (x : tie.In-Accepted-2) → Moved (asked x).args.table.now (asked x).args.header (asked x).args.self.estimator-1 (asked x).args.byte
-    x.answer-in-Accepted-1.given.0.0.size
-    x.before.before.accept_by-reply.result.estimator-1
+all : (x : tie.In-Accepted) → Moved (asked x).args.table.now (asked x).args.header (asked x).args.self.estimator (asked x).args.byte
+    x.in-Accepted.judgement.size
+    x.accept_by-reply.result.estimator
     × ForEach (secrets_in (asked x).args.header (asked x).args.self)
     (λ i c. TellsBy (asked x).args.self.notion (asked x).args.table.now (asked x).args.header
-    (asked x).args.self.estimator-1 (asked x).args.byte c
-    (get_or (steps_each (asked x).args.self.estimator-1.further-1 x.answer-in-Accepted-1.given.0.0.verdicts-1) i none))
+    (asked x).args.self.estimator (asked x).args.byte c
+    (get_or (steps_each (asked x).args.self.estimator.further x.in-Accepted.judgement.verdicts) i none))
 all x =
-    let called = x.before.before in
     let a = (asked x).args in
     accepted-of
-    (subst (λ (y : AnswerBy). AcceptingBy a.self.notion a.table.now a.header a.self.estimator-1 a.byte (said_by a.self.estimator-1.further-1 y)
-    called.accept_by-reply.result.estimator-1)
-    x.answer-in-Accepted-1.given.1 called.accept_by-reply.ensures.0)
+    (subst (λ (y : AnswerBy). AcceptingBy a.self.notion a.table.now a.header a.self.estimator a.byte (said_by a.self.estimator.further y)
+    x.accept_by-reply.result.estimator)
+    x.in-Accepted.is x.accept_by-reply.ensures.0)
 
 -- so the largest K is at most 15
-small : (x : tie.In-Accepted-2) → look_back_of (asked x).args.header (asked x).args.self.estimator-1.further-1 ≤ 15
-small x = let m = (all x).0 in look_back_small (asked x).args.header (asked x).args.self.estimator-1.further-1 m.well_formed.back m.limits.allowed
+small : (x : tie.In-Accepted) → look_back_of (asked x).args.header (asked x).args.self.estimator.further ≤ 15
+small x = let m = (all x).0 in look_back_small (asked x).args.header (asked x).args.self.estimator.further m.well_formed.back m.limits.allowed
 
 well-formed-requires : tie.Need-well_formed-requires
 well-formed-requires c κs = search rules
@@ -70,8 +69,8 @@ refused-requires c κs = search rules
 returns : tie.Need-returns-then-not-well_formed
 returns c =
     let r = c.refused.ensures in
-    let s = c.before.before.well_formed in
-    refused_given _ _ _ _ _ refusal.Malformed _ r.0 r.1 (Offering.malformed (fails s.result (not-true _ c.before.if-not-well_formed.taken) s.ensures))
+    let s = c.well_formed in
+    refused_given _ _ _ _ _ refusal.Malformed _ r.0 r.1 (Offering.malformed (fails s.result (not-true _ c.if-not-well_formed.taken) s.ensures))
 
 refused-requires-2 : tie.Need-refused-requires-then-output-lt17
 refused-requires-2 c κs = search rules
@@ -79,9 +78,9 @@ refused-requires-2 c κs = search rules
 returns-2 : tie.Need-returns-then-output-lt17
 returns-2 c =
     let r = c.refused-then-output-lt17.ensures in
-    let s = c.before.before.well_formed in
-    let good = holds s.result (not-false _ c.before.if-not-well_formed.left) s.ensures in
-    refused_given _ _ _ _ _ refusal.OutputTooSmall _ r.0 r.1 (output_too_small good.0 good.1 c.before.before.before.if-output-lt17.taken)
+    let s = c.well_formed in
+    let good = holds s.result (not-false _ c.if-not-well_formed.left) s.ensures in
+    refused_given _ _ _ _ _ refusal.OutputTooSmall _ r.0 r.1 (output_too_small good.0 good.1 c.if-output-lt17.taken)
 
 look-back-requires : tie.Need-look_back-k-requires
 look-back-requires c κs = search rules
@@ -95,8 +94,7 @@ refused-requires-3 c κs = search rules
 returns-3 : tie.Need-returns-then-not-pending_within
 returns-3 c =
     let r = c.refused-then-not-pending_within.ensures in
-    let u = c.before.before in
-    let bad = fails u.pending-within.result (not-true _ c.before.if-not-pending_within.taken) (pending_test u) in
+    let bad = fails c.pending_within.result (not-true _ c.if-not-pending_within.taken) (pending_test c.before.before) in
     refused_given _ _ _ _ _ refusal.Malformed _ r.0 r.1 (Offering.malformed (λ both. bad (record { few = both.1.few; small = both.1.small })))
 
 accept-by-requires : tie.Need-accept_by-reply-requires
@@ -109,14 +107,12 @@ enum-known-answer-2 : tie.Need-enum_known-answer-in-Accepted-1
 enum-known-answer-2 c = search rules
 
 largest-wait-requires : tie.Need-largest_wait-w-requires
-largest-wait-requires c κs = let m = (all c.before.before.before).0 in (m.well_formed.back, m.limits.allowed)
+largest-wait-requires c κs = let m = (all c.before.before).0 in (m.well_formed.back, m.limits.allowed)
 
 take-in-requires : tie.Need-take_in-requires
 take-in-requires c κs =
-    let x = c.before.before.before.before.before in
-    let e3 = x.before.before.before in
-    let k = e3.before.before.look_back-k.ensures in
-    (omega (arith, k, small x), omega (arith, k, (pending e3).few), e3.before.before.before.before.before.if-output-lt17.left)
+    let k = c.look_back-k.ensures in
+    (omega (arith, k, small c.before.before.before.before), omega (arith, k, (pending c.before.before.before.before.before.before).few), c.if-output-lt17.left)
 
 refused-requires-4 : tie.Need-refused-requires-in-Refused
 refused-requires-4 c κs = search rules
@@ -124,39 +120,33 @@ refused-requires-4 c κs = search rules
 returns-4 : tie.Need-returns-in-Refused
 returns-4 c =
     let r = c.refused-in-Refused.ensures in
-    let told = c.before.before.answer-1.given in
-    let called = c.before.before.before.before in
-    let e3 = called.before in
-    let a = (begin e3.before).args in
+    let told = c.answer-1.given in
+    let a = (begin c.before.before.before.before).args in
     refused_given _ _ _ _ _ told.0.0 _ r.0 r.1
-    (refused_outcome a.table.now a.header a.self a.byte a.output-1.now (number_of told.0.0) called.accept_by-reply.result.estimator-1
-    (pending e3) e3.before.before.before.before.before.if-output-lt17.left
+    (refused_outcome a.table.now a.header a.self a.byte a.output.now (number_of told.0.0) c.accept_by-reply.result.estimator
+    (pending c.before.before.before) c.if-output-lt17.left
     (refused_of
-    (subst (λ (x : AnswerBy). AcceptingBy a.self.notion a.table.now a.header a.self.estimator-1 a.byte (said_by a.self.estimator-1.further-1 x)
-    called.accept_by-reply.result.estimator-1)
-    told.1 called.accept_by-reply.ensures.0)))
+    (subst (λ (x : AnswerBy). AcceptingBy a.self.notion a.table.now a.header a.self.estimator a.byte (said_by a.self.estimator.further x)
+    c.accept_by-reply.result.estimator)
+    told.1 c.accept_by-reply.ensures.0)))
 
 same_length : tie.Need-shape_of-output
 same_length c = search rules
 
 returns-5 : tie.Need-returns-in-Accepted
 returns-5 c =
-    let waited = c.before.before.before.before in
-    let x = waited.before.before.before.before in
-    let called = x.before.before in
-    let e3 = called.before in
-    let a = (begin e3.before).args in
-    let taken = c.before.before.take_in in
-    let j = x.answer-in-Accepted-1.given.0.0 in
-    let moved = (all x).0 in
-    taken_outcome a.table.now a.header a.self a.byte a.output-1.now (steps_each a.self.estimator-1.further-1 j.verdicts-1)
-    waited.largest_wait-w.result j.size
-    called.accept_by-reply.result.estimator-1 taken.result.answer-1 taken.result.enforcer taken.last.1.1.1.1.1.1.0 moved.well_formed
-    (limits_joined _ a.self moved.limits (pending e3)) e3.before.before.before.before.before.if-output-lt17.left moved (all x).1
-    waited.largest_wait-w.ensures
-    (subst (λ (k : ℕ). Enqueues k a.self called.accept_by-reply.result.estimator-1 waited.largest_wait-w.result j.size a.byte a.output-1.now
-    taken.result.answer-1
-    taken.result.enforcer taken.last.1.1.1.1.1.1.0) e3.before.before.look_back-k.ensures taken.ensures)
+    let a = (begin c.before.before.before.before.before.before.before.before.before.before).args in
+    let taken = c.take_in in
+    let j = c.in-Accepted.judgement in
+    let moved = (all c.before.before.before.before.before.before.before).0 in
+    taken_outcome a.table.now a.header a.self a.byte a.output.now (steps_each a.self.estimator.further j.verdicts)
+    c.largest_wait-w.result j.size
+    c.accept_by-reply.result.estimator taken.result.answer taken.result.enforcer taken.last.1.1.1.1.1.1.0 moved.well_formed
+    (limits_joined _ a.self moved.limits (pending c.before.before.before.before.before.before.before.before.before)) c.if-output-lt17.left moved (all c.before.before.before.before.before.before.before).1
+    c.largest_wait-w.ensures
+    (subst (λ (k : ℕ). Enqueues k a.self c.accept_by-reply.result.estimator c.largest_wait-w.result j.size a.byte a.output.now
+    taken.result.answer
+    taken.result.enforcer taken.last.1.1.1.1.1.1.0) c.look_back-k.ensures taken.ensures)
 
 pub offer_spec : {M : Type 1} → statement M
 offer_spec =

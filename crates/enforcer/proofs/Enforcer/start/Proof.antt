@@ -31,48 +31,45 @@ begin u = u.before.before.before.before.before.before.before
 
 -- the opening, where the verifier gave verdicts
 opening : (u : tie.After-choose_each-verdicts) → Opening (begin u).args.table.now (begin u).args.header (begin u).args.further
-    (verifier.verdicts (findings (begin u).args.further u.before.before.answer-in-Accepted-1.given.0.0))
-    u.before.before.before.before.before.fresh-reply.result.estimator-1
+    (verifier.verdicts (findings (begin u).args.further u.in-Accepted.judgement))
+    u.fresh-reply.result.estimator
 opening u =
     let a = (begin u).args in
-    let called = u.before.before.before.before.before.fresh-reply in
-    subst (λ (x : Answer). Opening a.table.now a.header a.further (verifier.said a.further x) called.result.estimator-1)
-    u.before.before.answer-in-Accepted-1.given.1
+    let called = u.fresh-reply in
+    subst (λ (x : Answer). Opening a.table.now a.header a.further (verifier.said a.further x) called.result.estimator)
+    u.in-Accepted.is
     called.ensures.0
 
 largest-wait-requires : tie.Need-largest_wait-largest-requires
-largest-wait-requires c κs = let j = c.before.before.answer-in-Accepted-1.given.0.0 in opened_given _ _ _ j _ (opening c)
+largest-wait-requires c κs = let j = c.in-Accepted.judgement in opened_given _ _ _ j _ (opening c)
 
 -- the largest wait of the verdicts by the notion
 largest : (u : tie.After-largest_wait-largest) → LargestWait (secrets_of (begin u.before).args.header (begin u.before).args.further)
-    (steps_each (begin u.before).args.further (chosen_each (begin u.before).args.notion u.before.before.before.answer-in-Accepted-1.given.0.0.verdicts))
+    (steps_each (begin u.before).args.further (chosen_each (begin u.before).args.notion u.in-Accepted.judgement.verdicts))
     u.largest_wait-largest.result
 largest u =
     let a = (begin u.before).args in
     subst (λ (v : VerdictsBy). LargestWait (secrets_of a.header a.further) (steps_each a.further v) u.largest_wait-largest.result)
-    u.before.choose_each-verdicts.ensures
+    u.choose_each-verdicts.ensures
     u.largest_wait-largest.ensures
 
 returns : tie.Need-returns-then-largest-ne0
 returns c =
-    let u = c.before in
-    let j = u.before.before.before.answer-in-Accepted-1.given.0.0 in
-    start_open _ _ _ _ j _ _ (largest u) _ (opening u.before) c.if-largest-ne0.true refl
+    let j = c.in-Accepted.judgement in
+    start_open _ _ _ _ j _ _ (largest c.before) _ (opening c.before.before) c.if-largest-ne0.true refl
 
 returns-2 : tie.Need-returns-in-Refused
 returns-2 c =
-    let after-fresh = c.before.before.before.before in
-    let a = after-fresh.before.before.args in
-    let called = after-fresh.fresh-reply in
-    start_refused a.table.now a.header a.further a.notion (number_of c.before.answer-1.given.0.0) called.result.estimator-1 _
-    (subst (λ (x : Answer). Opening a.table.now a.header a.further (verifier.said a.further x) called.result.estimator-1)
-    c.before.answer-1.given.1 called.ensures.0) refl
+    let a = c.args in
+    let called = c.fresh-reply in
+    start_refused a.table.now a.header a.further a.notion (number_of c.in-Refused.refusal) called.result.estimator _
+    (subst (λ (x : Answer). Opening a.table.now a.header a.further (verifier.said a.further x) called.result.estimator)
+    c.in-Refused.is called.ensures.0) refl
 
 returns-3 : tie.Need-returns-else-largest-ne0
 returns-3 c =
-    let u = c.before in
-    let j = u.before.before.before.answer-in-Accepted-1.given.0.0 in
-    start_ready _ _ _ _ j _ _ (largest u) _ _ (padded_zeros 16 0) (padded_zeros 16 0) (opening u.before) c.if-largest-ne0.false
+    let j = c.in-Accepted.judgement in
+    start_ready _ _ _ _ j _ _ (largest c.before) _ _ (padded_zeros 16 0) (padded_zeros 16 0) (opening c.before.before) c.if-largest-ne0.false
 
 pub start_spec : {M : Type 1} → statement M
 start_spec =

@@ -14,7 +14,7 @@ same_length : tie.Need-shape_of-back
 same_length c = search rules
 
 returns-2 : tie.Need-returns
-returns-2 c = λ some. c.before.before.silent-back.ensures
+returns-2 c = λ some. c.silent_back.ensures
 
 pub backward_rows_spec : {M : Type 1} → statement M
 backward_rows_spec = tie.close (tie.spec returns silent-back-requires same_length returns-2)

@@ -42,19 +42,19 @@ steps-holds c = (λ p symbols entries n trace d few m. below_start Weak p (secre
 -- One step: the states of m(l) are visited, and the first that is not secret ends the visit
 
 states-holds : tie.Need-states-init invariant-states decreases-states invariant-steps decreases-steps
-states-holds c = pass_start _ _ (c.shared_slice_known-1.given c.before.steps.l).fits
+states-holds c = pass_start _ _ (c.shared_slice_known-1.given c.steps.l).fits
 
 -- the state that a turn of the inner loop visits
 pick : (c : tie.In-states invariant-states decreases-states invariant-steps decreases-steps)
-    → Taken c.before.states.todo (count_trailing_zeros 64 c.before.states.todo) (bit_and c.before.states.todo (c.before.states.todo - 1))
-pick c = taken c.before.states.todo (omega arith) c.before.states.invariant.small
+    → Taken c.states.todo (count_trailing_zeros 64 c.states.todo) (bit_and c.states.todo (c.states.todo - 1))
+pick c = taken c.states.todo (omega arith) c.states.invariant.small
 
 -- it is secret
 states-again : tie.Need-states-preserved invariant-states decreases-states invariant-steps decreases-steps
 states-again c =
-    let q = count_trailing_zeros 64 c.before.before.states.todo in
-    pass_turn _ _ _ q _ (pick c.before) (digit_in q c.before.before.before.before.before.args.secret c.if-secret-q-eq0.false)
-    c.before.before.states.invariant
+    let q = count_trailing_zeros 64 c.states.todo in
+    pass_turn _ _ _ q _ (pick c.before) (digit_in q c.args.secret c.if-secret-q-eq0.false)
+    c.states.invariant
 
 -- the step whose states were visited, and where the call began
 abbrev turn : tie.Else-todo-eq0 invariant-states decreases-states invariant-steps decreases-steps → tie.At-steps invariant-states decreases-states invariant-steps decreases-steps
@@ -70,15 +70,15 @@ clear : (c : tie.Else-todo-eq0 invariant-states decreases-states invariant-steps
 clear c p symbols entries n trace d few m =
     let a = (begin (turn c)).args in
     let s = (turn c).steps in
-    let w = c.before.before.states.todo in
+    let w = c.states.todo in
     ⊎_elim
     (λ w. absurd (omega arith))
     (λ v.
-    let t = taken w (omega arith) c.before.before.states.invariant.small in
+    let t = taken w (omega arith) c.states.invariant.small in
     decided_clear _ _ trace _ _ (past_by _ _ a.secret s.l s.inv.1 p symbols entries n trace d few m) (count_trailing_zeros 64 w)
-    (c.before.before.states.invariant.kept (count_trailing_zeros 64 w) t.inside)
+    (c.states.invariant.kept (count_trailing_zeros 64 w) t.inside)
     (λ i. omega (arith, in_test (count_trailing_zeros 64 w) a.secret, v.1.taken)))
-    c.before.states-test.branch
+    c.states-test.branch
 
 -- so that, with what was known below l, no step below l + 1 is a leak
 below_next : (c : tie.Else-todo-eq0 invariant-states decreases-states invariant-steps decreases-steps)
@@ -90,21 +90,21 @@ below_next c p symbols entries n trace d few m =
 
 -- and the loop takes up step l + 1
 steps-again : tie.Need-steps-preserved invariant-states decreases-states invariant-steps decreases-steps
-steps-again c = (below_next c.before, omega (arith, c.before.before.before.before.before.steps.invariant.1))
+steps-again c = (below_next c.before, omega (arith, c.steps.invariant.1))
 
 -- First exit: leak l, the least because no step below it is one
 
 returns : tie.Need-returns-then-todo-eq0 invariant-states decreases-states invariant-steps decreases-steps
 returns c = λ p symbols entries n d few.
-    let a = c.before.before.before.before.before.args in
-    let u = c.before.before.before.before.steps in
+    let a = c.args in
+    let u = c.steps in
     record {
       bounded = u.invariant.1;
       exact = λ trace whole.
           let m = remembers_part whole a.last few in
           below_leak Weak _ (secret_of a.secret a.last) trace _ u.invariant.1 m.reached (u.invariant.0 p _ _ n trace d few m)
           (decided_sure _ _ trace _ _ (past_by _ _ a.secret u.l u.invariant.1 p _ _ n trace d few m)
-          (λ q i. pass_end _ _ _ c.if-todo-eq0.true c.before.before.states.invariant q i));
+          (λ q i. pass_end _ _ _ c.if-todo-eq0.true c.states.invariant q i));
     }
 
 -- Second exit: step l is the last one, K or n, and no leak
@@ -125,10 +125,10 @@ cast-todo : tie.Need-overflow_cast-todo invariant-states decreases-states invari
 cast-todo c = search rules
 
 mul-todo : tie.Need-offset_bounds-past-l invariant-states decreases-states invariant-steps decreases-steps
-mul-todo c = omega (arith, c.steps.invariant.1, c.before.requires.1)
+mul-todo c = omega (arith, c.steps.invariant.1, c.requires.1)
 
 shared-slice-read-todo : tie.Need-bounds-past-l invariant-states decreases-states invariant-steps decreases-steps
-shared-slice-read-todo c = omega (arith, c.before.steps.invariant.1, c.before.before.requires.0, c.before.before.requires.1)
+shared-slice-read-todo c = omega (arith, c.steps.invariant.1, c.requires.0, c.requires.1)
 
 cast-if1 : tie.Need-overflow_cast-q invariant-states decreases-states invariant-steps decreases-steps
 cast-if1 c = omega (arith, (pick c).small)
@@ -143,10 +143,10 @@ states-less : tie.Need-states-smaller invariant-states decreases-states invarian
 states-less c = (pick c.before).less
 
 add-l : tie.Need-overflow_add-l invariant-states decreases-states invariant-steps decreases-steps
-add-l c = omega (arith, c.before.before.before.before.before.steps.invariant.1, c.before.before.before.before.before.before.requires.1)
+add-l c = omega (arith, c.steps.invariant.1, c.requires.1)
 
 steps-less : tie.Need-steps-smaller invariant-states decreases-states invariant-steps decreases-steps
-steps-less c = omega (arith, c.before.before.before.before.before.steps.invariant.1)
+steps-less c = omega (arith, c.steps.invariant.1)
 
 pub first_secret_spec : {M : Type 1} → statement M
 first_secret_spec =

@@ -9,15 +9,14 @@ use Rattle.estimates.proofs.look_back.possible_states.Tie as tie
 
 returns : tie.Need-returns-then-some-secret-ne0
 returns c = λ p trace start k sub E.
-    let s = c.before.before in
-    let a = s.args in
+    let a = c.args in
     let x = meet (bit_and a.entry a.then) (complement a.secret) (omega arith) c.if-some-secret-ne0.true in
     record {
       sound = λ q i.
           let m = in_and q a.entry a.then i in
           let e = E.sound q m.0 in
           (record { run = e.run; compatible = e.compatible; ends = e.ends }, m.1);
-      whole = λ all. absurd (in_not 64 x.0 a.secret s.ranges.secret.fits x.2 (all x.0 x.1));
+      whole = λ all. absurd (in_not 64 x.0 a.secret c.ranges.secret.fits x.2 (all x.0 x.1));
     }
 
 unobservable-reach-requires : tie.Need-unobservable_reach-requires
@@ -25,11 +24,10 @@ unobservable-reach-requires c κs = search rules
 
 returns-2 : tie.Need-returns
 returns-2 c = λ p trace start k sub E.
-    let s = c.before.before.before in
-    let A = c.unobservable-reach.ensures.1 p trace start k sub E in
+    let A = c.unobservable_reach.ensures.1 p trace start k sub E in
     record {
-      sound = λ q i. let m = in_and q c.unobservable-reach.result s.args.then i in (A.sound q m.0, m.1);
-      whole = λ all q x. all q (and_in q c.unobservable-reach.result s.args.then (A.whole q x.0) x.1);
+      sound = λ q i. let m = in_and q c.unobservable_reach.result c.args.then i in (A.sound q m.0, m.1);
+      whole = λ all q x. all q (and_in q c.unobservable_reach.result c.args.then (A.whole q x.0) x.1);
     }
 
 pub possible_states_spec : {M : Type 1} → statement M

@@ -37,12 +37,12 @@ decreases-steps table sets silent back states secret symbols entries last clear 
 
 steps-holds : tie.Need-steps-init invariant-steps decreases-steps
 steps-holds c =
-    let a = c.before.before.before.before.before.before in (
-      λ p trace g m. below_start Strong p (secret_of a.args.secret a.args.remembered.count) trace,
+    (
+      λ p trace g m. below_start Strong p (secret_of c.args.secret c.args.remembered.count) trace,
       λ p trace g m. follows_start p _ trace,
       omega arith,
-      a.requires.few,
-      omega (arith, and_le_r a.args.states (complement a.args.secret)),
+      c.requires.few,
+      omega (arith, and_le_r c.args.states (complement c.args.secret)),
     )
 
 -- One step
@@ -53,7 +53,7 @@ begin s = s.before.before.before.before.before.before.before
 -- an automaton for which holds what was prepared for this call
 abbrev Good : tie.At-steps invariant-steps decreases-steps → Automaton → Type 0
 Good u p =
-    Looks p (begin u).args.table.now (begin u).args.sets.now (begin u).args.remembered.entries-1 (begin u).args.silent.now (begin u).args.back.now
+    Looks p (begin u).args.table.now (begin u).args.sets.now (begin u).args.remembered.entries (begin u).args.silent.now (begin u).args.back.now
     (begin u).args.states (begin u).args.remembered.count
 
 -- the secret that is looked for, as far as is remembered
@@ -65,34 +65,34 @@ abbrev Each : tie.At-steps invariant-steps decreases-steps → (Automaton → Li
 Each u =
     ForTraces (begin u).args.table.now (begin u).args.sets.now (begin u).args.silent.now (begin u).args.back.now (begin u).args.states
     (begin u).args.remembered.count
-    (begin u).args.remembered.symbols-1 (begin u).args.remembered.entries-1
+    (begin u).args.remembered.symbols (begin u).args.remembered.entries
 
 secret_small : (s : tie.At-steps invariant-steps decreases-steps) → (begin s).args.secret < 2 ^ 64
 secret_small s = (begin s).ranges.secret.fits
 
 -- a state right after the symbol l steps back from which a run avoids the secret
 clear : (c : tie.Else-entries-at-eq0 invariant-steps decreases-steps)
-    → Each c.before (λ p trace. ClearFrom p (begin c.before).args.secret trace (length trace - c.before.steps.l))
+    → Each c.before (λ p trace. ClearFrom p (begin c.before).args.secret trace (length trace - c.steps.l))
 clear c p trace g m =
-    let s = c.before.steps in
+    let s = c.steps in
     strong_clear _ _ trace _ s.l (begin c.before).args.states _ _ (secret_small c.before) s.invariant.2 (m.entries_are s.l s.invariant.2)
     (s.invariant.1 p trace g m) s.invariant.4 c.if-entries-at-eq0.false
 
 -- so that, with what was known below l, no step below l + 1 is a leak
 below_next : (c : tie.Else-entries-at-eq0 invariant-steps decreases-steps)
-    → Each c.before (λ p trace. NoLeakBelow Strong p (sought c.before) trace (c.before.steps.l + 1))
-below_next c p trace g m = below_step Strong p (sought c.before) trace _ (c.before.steps.invariant.0 p trace g m) (clear c p trace g m)
+    → Each c.before (λ p trace. NoLeakBelow Strong p (sought c.before) trace (c.steps.l + 1))
+below_next c p trace g m = below_step Strong p (sought c.before) trace _ (c.steps.invariant.0 p trace g m) (clear c p trace g m)
 
 -- the events that show the symbol before
 showing : (c : tie.After-events_with-shown invariant-steps decreases-steps) (p : Automaton) → Good c.before.before.before p
-    → Showing p (get_or (begin c.before.before.before).args.remembered.symbols-1 c.before.before.before.steps.l 0) c.events_with-shown.result
+    → Showing p (get_or (begin c.before.before.before).args.remembered.symbols c.steps.l 0) c.events_with-shown.result
 showing c p g = c.events_with-shown.ensures p g.symbols_small g.sets_are
 
 -- and the loop takes up step l + 1
 steps-again : tie.Need-steps-preserved invariant-steps decreases-steps
 steps-again c =
     let a = begin c.before.before.before.before in
-    let s = c.before.before.before.before.steps in (
+    let s = c.steps in (
       below_next c.before.before.before,
       λ p trace g m. follows_step p _ trace _ _ _ _ _ m (omega arith)
           (c.backward_reach-then.ensures p _ _ _ g.table_is (showing c.before p g) (g.back_are (omega arith))
@@ -107,7 +107,7 @@ steps-again c =
 returns : tie.Need-returns-then-entries-at-eq0 invariant-steps decreases-steps
 returns c =
     let a = begin c.before in
-    let s = c.before.steps in
+    let s = c.steps in
     let g = a.pre.looks in
     record {
       bounded = s.invariant.2;

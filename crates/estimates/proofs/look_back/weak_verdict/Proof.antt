@@ -60,14 +60,13 @@ decreases-states table sets silent back states estimate secret symbols entries l
 
 steps-holds : tie.Need-steps-init invariant-states decreases-states invariant-steps decreases-steps
 steps-holds c =
-    let a = c.before.before.before.before.before.before in
-    let few : a.args.remembered.count ≤ 15 = a.requires.0.few in (
-      λ p trace g m r. below_start Weak p (secret_of a.args.secret a.args.remembered.count) trace,
+    let few : c.args.remembered.count ≤ 15 = c.requires.0.few in (
+      λ p trace g m r. below_start Weak p (secret_of c.args.secret c.args.remembered.count) trace,
       λ p trace g m r. follows_start p _ trace,
       λ p trace g m r. estimate_by p _ trace _ _ _ _ _ _ g.start few g.near m r,
       omega arith,
       few,
-      a.ranges.estimate.fits,
+      c.ranges.estimate.fits,
     )
 
 -- One step, "m(l) ∈ 2^S" or not: the states of a part of m(l) are visited, and the first that is not secret ends the visit ('states)
@@ -78,7 +77,7 @@ begin u = u.before.before.before.before.before.before.before
 -- an automaton for which holds what was prepared for this call
 abbrev Good : tie.At-steps invariant-states decreases-states invariant-steps decreases-steps → Automaton → Type 0
 Good u p =
-    Looks p (begin u).args.table.now (begin u).args.sets.now (begin u).args.remembered.entries-1 (begin u).args.silent.now (begin u).args.back.now
+    Looks p (begin u).args.table.now (begin u).args.sets.now (begin u).args.remembered.entries (begin u).args.silent.now (begin u).args.back.now
     (begin u).args.states (begin u).args.remembered.count
 
 -- the secret that is looked for, as far as is remembered
@@ -90,12 +89,12 @@ abbrev Each : tie.At-steps invariant-states decreases-states invariant-steps dec
 Each u =
     ForTracesWith (begin u).args.table.now (begin u).args.sets.now (begin u).args.silent.now (begin u).args.back.now (begin u).args.states
     (begin u).args.estimate
-    (begin u).args.remembered.count (begin u).args.remembered.symbols-1 (begin u).args.remembered.entries-1
+    (begin u).args.remembered.count (begin u).args.remembered.symbols (begin u).args.remembered.entries
 
 -- the state that a turn of the inner loop visits
 pick : (c : tie.In-states invariant-states decreases-states invariant-steps decreases-steps)
-    → Taken c.before.states.todo (count_trailing_zeros 64 c.before.states.todo) (bit_and c.before.states.todo (c.before.states.todo - 1))
-pick c = taken c.before.states.todo (omega arith) c.before.states.invariant.small
+    → Taken c.states.todo (count_trailing_zeros 64 c.states.todo) (bit_and c.states.todo (c.states.todo - 1))
+pick c = taken c.states.todo (omega arith) c.states.invariant.small
 
 states-holds : tie.Need-states-init invariant-states decreases-states invariant-steps decreases-steps
 states-holds c = pass_start _ _ c.steps.invariant.5
@@ -103,33 +102,32 @@ states-holds c = pass_start _ _ c.steps.invariant.5
 -- it is secret
 states-again : tie.Need-states-preserved invariant-states decreases-states invariant-steps decreases-steps
 states-again c =
-    let q = count_trailing_zeros 64 c.before.before.states.todo in
-    pass_turn _ _ _ q _ (pick c.before) (digit_in q (begin c.before.before.before).args.secret c.if-secret-q-eq0.false) c.before.before.states.invariant
+    let q = count_trailing_zeros 64 c.states.todo in
+    pass_turn _ _ _ q _ (pick c.before) (digit_in q (begin c.before.before.before).args.secret c.if-secret-q-eq0.false) c.states.invariant
 
 -- "m(l) ∉ 2^S": the state at which the visit ended is not secret, and a run through it excuses the system
 clear : (c : tie.Else-todo-eq0 invariant-states decreases-states invariant-steps decreases-steps)
     → Each c.before.before.before (λ p trace. ClearAt p (begin c.before.before.before).args.secret trace
-    (length trace - c.before.before.before.steps.l))
+    (length trace - c.steps.l))
 clear c p trace g m r =
-    let u = c.before.before.before in
-    let w = c.before.before.states.todo in
+    let w = c.states.todo in
     ⊎_elim
     (λ w. absurd (omega arith))
     (λ v.
-    let t = taken w (omega arith) c.before.before.states.invariant.small in
-    decided_clear _ _ trace _ _ (u.steps.invariant.2 p trace g m r) (count_trailing_zeros 64 w) (c.before.before.states.invariant.kept (count_trailing_zeros 64 w) t.inside)
-    (λ i. omega (arith, in_test (count_trailing_zeros 64 w) (begin u).args.secret, v.1.taken)))
-    c.before.states-test.branch
+    let t = taken w (omega arith) c.states.invariant.small in
+    decided_clear _ _ trace _ _ (c.steps.invariant.2 p trace g m r) (count_trailing_zeros 64 w) (c.states.invariant.kept (count_trailing_zeros 64 w) t.inside)
+    (λ i. omega (arith, in_test (count_trailing_zeros 64 w) (begin c.before.before.before).args.secret, v.1.taken)))
+    c.states-test.branch
 
 -- so that, with what was known below l, no step below l + 1 is a leak
 below_next : (c : tie.Else-todo-eq0 invariant-states decreases-states invariant-steps decreases-steps)
-    → Each c.before.before.before (λ p trace. NoLeakBelow Weak p (sought c.before.before.before) trace (c.before.before.before.steps.l + 1))
-below_next c p trace g m r = below_step Weak p (sought c.before.before.before) trace _ (c.before.before.before.steps.invariant.0 p trace g m r)
+    → Each c.before.before.before (λ p trace. NoLeakBelow Weak p (sought c.before.before.before) trace (c.steps.l + 1))
+below_next c p trace g m r = below_step Weak p (sought c.before.before.before) trace _ (c.steps.invariant.0 p trace g m r)
     (clear c p trace g m r)
 
 -- the events that show the symbol before
 showing : (c : tie.After-events_with-shown invariant-states decreases-states invariant-steps decreases-steps) (p : Automaton) → Good c.before.before.before.before.before p
-    → Showing p (get_or (begin c.before.before.before.before.before).args.remembered.symbols-1 c.before.before.before.before.before.steps.l 0)
+    → Showing p (get_or (begin c.before.before.before.before.before).args.remembered.symbols c.steps.l 0)
     c.events_with-shown.result
 showing c p g = c.events_with-shown.ensures p g.symbols_small g.sets_are
 
@@ -137,18 +135,17 @@ showing c p g = c.events_with-shown.ensures p g.symbols_small g.sets_are
 follows_next : (c : tie.After-backward_reach-then invariant-states decreases-states invariant-steps decreases-steps)
     → Each c.before.before.before.before.before.before (λ p trace.
     Follows p (begin c.before.before.before.before.before.before).args.states trace
-    (c.before.before.before.before.before.before.steps.l + 1) c.backward_reach-then.result)
+    (c.steps.l + 1) c.backward_reach-then.result)
 follows_next c p trace g m r =
-    let s = c.before.before.before.before.before.before.steps in
+    let s = c.steps in
     follows_step p _ trace _ _ _ _ _ m (omega arith) (c.backward_reach-then.ensures p _ _ _ g.table_is (showing c.before p g) (g.back_are (omega arith))
     (λ q i. i) (s.invariant.1 p trace g m r))
 
 -- and the loop takes up step l + 1, with a part of m(l + 1) that decides
 steps-again : tie.Need-steps-preserved invariant-states decreases-states invariant-steps decreases-steps
 steps-again c =
-    let u = c.before.before.before.before.before.before.before in
-    let s = u.steps in
-    let next : s.l + 1 ≤ (begin u).args.remembered.count = omega arith in (
+    let s = c.steps in
+    let next : s.l + 1 ≤ (begin c.before.before.before.before.before.before.before).args.remembered.count = omega arith in (
       below_next c.before.before.before.before,
       follows_next c.before,
       λ p trace g m r.
@@ -166,15 +163,14 @@ steps-again c =
 
 returns : tie.Need-returns-then-todo-eq0 invariant-states decreases-states invariant-steps decreases-steps
 returns c =
-    let u = c.before.before.before in
-    let s = u.steps in
-    let g = (begin u).requires.0.looks in
-    let r = (begin u).requires.1 in
+    let s = c.steps in
+    let g = (begin c.before.before.before).requires.0.looks in
+    let r = (begin c.before.before.before).requires.1 in
     record {
       bounded = s.invariant.3;
       exact = λ trace m.
-          below_leak Weak _ (sought u) trace _ s.invariant.3 m.reached (s.invariant.0 _ trace g m r)
-          (decided_sure _ _ trace _ _ (s.invariant.2 _ trace g m r) (λ q i. pass_end _ _ _ c.if-todo-eq0.true c.before.before.states.invariant q i));
+          below_leak Weak _ (sought c.before.before.before) trace _ s.invariant.3 m.reached (s.invariant.0 _ trace g m r)
+          (decided_sure _ _ trace _ _ (s.invariant.2 _ trace g m r) (λ q i. pass_end _ _ _ c.if-todo-eq0.true c.states.invariant q i));
     }
 
 -- Second exit, "noleak if ∀ k ∈ [0, K] : m(k) ∉ 2^S": step l is the last one, K or n (and m(k) for k past n is m(n)), and no leak, so that no step below
@@ -182,10 +178,9 @@ returns c =
 
 returns-2 : tie.Need-returns-then-l-last invariant-states decreases-states invariant-steps decreases-steps
 returns-2 c =
-    let u = c.before.before.before.before in
     record {
       bounded = tt;
-      exact = λ trace m. below_last Weak _ (sought u) trace _ (omega arith) (below_next c.before _ trace (begin u).requires.0.looks m (begin u).requires.1);
+      exact = λ trace m. below_last Weak _ (sought c.before.before.before.before) trace _ (omega arith) (below_next c.before _ trace (begin c.before.before.before.before).requires.0.looks m (begin c.before.before.before.before).requires.1);
     }
 
 -- What else is asked: numbers that fit, indices, what is called, and that the loops end

@@ -43,10 +43,10 @@ size-of-requires-7 c κs = tt
 sub_apply : tie.Need-overflow-sub-apply
 sub_apply c = least
 
-part-apply-start : tie.Need-slice_bounds-apply-start
+part-apply-start : tie.Need-slice-bounds-apply-start
 part-apply-start c = least
 
-part-apply-end : tie.Need-slice_bounds-apply-end
+part-apply-end : tie.Need-slice-bounds-apply-end
 part-apply-end c =
     let sized = c.before.before.before.before.before.before in
     fits sized.type_size.ensures (start sized).requires.0
@@ -54,10 +54,10 @@ part-apply-end c =
 sub-apply-2 : tie.Need-overflow-sub-apply-2
 sub-apply-2 c = least
 
-part-apply-start-2 : tie.Need-slice_bounds-apply-start-2
+part-apply-start-2 : tie.Need-slice-bounds-apply-start-2
 part-apply-start-2 c = least
 
-part-apply-end-2 : tie.Need-slice_bounds-apply-end-2
+part-apply-end-2 : tie.Need-slice-bounds-apply-end-2
 part-apply-end-2 c =
     let sized = c.before.before.before.before.before.before in
     fits sized.size-of2.ensures (start sized.before).requires.1
@@ -65,10 +65,10 @@ part-apply-end-2 c =
 sub-apply-3 : tie.Need-overflow-sub-apply-3
 sub-apply-3 c = least
 
-part-apply-start-3 : tie.Need-slice_bounds-apply-start-3
+part-apply-start-3 : tie.Need-slice-bounds-apply-start-3
 part-apply-start-3 c = least
 
-part-apply-end-3 : tie.Need-slice_bounds-apply-end-3
+part-apply-end-3 : tie.Need-slice-bounds-apply-end-3
 part-apply-end-3 c =
     let sized = c.before.before.before.before.before.before in
     fits sized.size-of3.ensures (start sized.before.before).requires.2
@@ -76,10 +76,10 @@ part-apply-end-3 c =
 sub-apply-4 : tie.Need-overflow-sub-apply-4
 sub-apply-4 c = least
 
-part-apply-start-4 : tie.Need-slice_bounds-apply-start-4
+part-apply-start-4 : tie.Need-slice-bounds-apply-start-4
 part-apply-start-4 c = least
 
-part-apply-end-4 : tie.Need-slice_bounds-apply-end-4
+part-apply-end-4 : tie.Need-slice-bounds-apply-end-4
 part-apply-end-4 c =
     let sized = c.before.before.before.before.before.before in
     fits sized.size-of4.ensures (start sized.before.before.before).requires.3
@@ -87,10 +87,10 @@ part-apply-end-4 c =
 sub-apply-5 : tie.Need-overflow-sub-apply-5
 sub-apply-5 c = least
 
-part-apply-start-5 : tie.Need-slice_bounds-apply-start-5
+part-apply-start-5 : tie.Need-slice-bounds-apply-start-5
 part-apply-start-5 c = least
 
-part-apply-end-5 : tie.Need-slice_bounds-apply-end-5
+part-apply-end-5 : tie.Need-slice-bounds-apply-end-5
 part-apply-end-5 c =
     let sized = c.before.before.before.before.before.before in
     fits sized.size-of5.ensures (start sized.before.before.before.before).requires.4
@@ -98,10 +98,10 @@ part-apply-end-5 c =
 sub-apply-6 : tie.Need-overflow-sub-apply-6
 sub-apply-6 c = least
 
-part-apply-start-6 : tie.Need-slice_bounds-apply-start-6
+part-apply-start-6 : tie.Need-slice-bounds-apply-start-6
 part-apply-start-6 c = least
 
-part-apply-end-6 : tie.Need-slice_bounds-apply-end-6
+part-apply-end-6 : tie.Need-slice-bounds-apply-end-6
 part-apply-end-6 c =
     let sized = c.before.before.before.before.before.before in
     fits sized.size-of6.ensures (start sized.before.before.before.before.before).requires.5
@@ -109,10 +109,10 @@ part-apply-end-6 c =
 sub-apply-7 : tie.Need-overflow-sub-apply-7
 sub-apply-7 c = least
 
-part-apply-start-7 : tie.Need-slice_bounds-apply-start-7
+part-apply-start-7 : tie.Need-slice-bounds-apply-start-7
 part-apply-start-7 c = least
 
-part-apply-end-7 : tie.Need-slice_bounds-apply-end-7
+part-apply-end-7 : tie.Need-slice-bounds-apply-end-7
 part-apply-end-7 c =
     let sized = c.before.before.before.before.before.before in
     fits sized.size-of7.ensures (start sized.before.before.before.before.before.before).requires.6

@@ -59,10 +59,10 @@ front-size-requires c κs = search rules
 sub-decode : tie.Need-overflow-sub-decode
 sub-decode c = search rules
 
-part-decode-start : tie.Need-slice_bounds-decode-start
+part-decode-start : tie.Need-slice-bounds-decode-start
 part-decode-start c = search rules
 
-part-decode-end : tie.Need-slice_bounds-decode-end
+part-decode-end : tie.Need-slice-bounds-decode-end
 part-decode-end c = omega (arith, whole c.before.before.before, c.front-size.ensures)
 
 slice-aggregate-decode : tie.Need-slice-aggregate-decode

@@ -21,45 +21,45 @@ within-requires : tie.Need-within-requires invariant-loop decreases-loop
 within-requires c κs = search rules
 
 returns : tie.Need-returns-then-not-within invariant-loop decreases-loop
-returns c = Advancing.malformed (fails c.before.within.result (not-true _ c.if-not-within.true) c.before.within.ensures)
+returns c = Advancing.malformed (fails c.within.result (not-true _ c.if-not-within.true) c.within.ensures)
 
 loop-holds : tie.Need-loop-i-init invariant-loop decreases-loop
 loop-holds c =
-    along_start _ _ _ _ (holds c.before.within.result (not-false _ c.if-not-within.false) c.before.within.ensures)
+    along_start _ _ _ _ (holds c.within.result (not-false _ c.if-not-within.false) c.within.ensures)
 
 shared-slice-read-step : tie.Need-bounds-bytes-i invariant-loop decreases-loop
 shared-slice-read-step c = omega arith
 
 step-requires : tie.Need-step-now-requires invariant-loop decreases-loop
 step-requires c κs =
-    let l = c.before.before.before.loop-i in (
-      along_ready _ _ _ _ l.now l.i l.invariant c.before.before.loop-i-test.true c.before.if-now.false,
-      c.before.if-now.false,
+    let l = c.loop-i in (
+      along_ready _ _ _ _ l.now l.i l.invariant c.loop-i-test.true c.if-now.false,
+      c.if-now.false,
     )
 
 add-i : tie.Need-overflow_add-i invariant-loop decreases-loop
-add-i c = omega (arith, c.before.before.before.before.before.before.before.before.before.well_formed)
+add-i c = omega (arith, c.well_formed)
 
 loop-less : tie.Need-loop-i-smaller invariant-loop decreases-loop
 loop-less c = omega arith
 
 loop-again : tie.Need-loop-i-preserved invariant-loop decreases-loop
 loop-again c =
-    let l = c.before.before.before.before.loop-i in
-    along_next _ _ _ _ l.now l.i c.step-now.result l.invariant c.before.before.before.loop-i-test.true c.step-now.ensures
+    let l = c.loop-i in
+    along_next _ _ _ _ l.now l.i c.step-now.result l.invariant c.loop-i-test.true c.step-now.ensures
 
 answer-requires : tie.Need-answer-answer-requires invariant-loop decreases-loop
 answer-requires c κs = search rules
 
 returns-2 : tie.Need-returns invariant-loop decreases-loop
 returns-2 c =
-    let a = c.before.before.before.before.before.before.before.args in
-    let l = c.before.before.loop-i in
+    let a = c.args in
+    let l = c.loop-i in
     rw c.answer-answer.ensures
     (⊎_elim
     (λ w. along_end a.table.now a.header a.self a.bytes.now l.now l.i l.invariant (inl (omega arith)))
     (λ w. along_end a.table.now a.header a.self a.bytes.now l.now l.i l.invariant (inr w.1.taken))
-    c.before.loop-i-test.branch)
+    c.loop-i-test.branch)
 
 pub advance_spec : {M : Type 1} → statement M
 advance_spec =

@@ -19,19 +19,19 @@ enum_told c = search rules
 
 returns : tie.Need-returns-in-Refused
 returns c =
-    let called = c.before.before.before.before.fresh-reply in
-    let a = c.before.before.before.before.before.before.args in
+    let called = c.fresh-reply in
+    let a = c.args in
     begin_refused a.notion a.table.now a.header a.further _ _
-    (subst (λ (x : Answer). Opening a.table.now a.header a.further (verifier.said a.further x) called.result.estimator-1)
-    c.before.answer-1.given.1 called.ensures.0)
+    (subst (λ (x : Answer). Opening a.table.now a.header a.further (verifier.said a.further x) called.result.estimator)
+    c.in-Refused.is called.ensures.0)
 
 returns-2 : tie.Need-returns-in-Accepted
 returns-2 c =
-    let called = c.before.before.before.fresh-reply in
-    let a = c.before.before.before.before.before.args in
-    begin_begun a.notion a.table.now a.header a.further _ called.result.estimator-1
-    (subst (λ (x : Answer). Opening a.table.now a.header a.further (verifier.said a.further x) called.result.estimator-1)
-    c.enum_told-1.given.1 called.ensures.0)
+    let called = c.fresh-reply in
+    let a = c.args in
+    begin_begun a.notion a.table.now a.header a.further _ called.result.estimator
+    (subst (λ (x : Answer). Opening a.table.now a.header a.further (verifier.said a.further x) called.result.estimator)
+    c.in-Accepted.is called.ensures.0)
 
 pub begin_spec : {M : Type 1} → statement M
 begin_spec = tie.close (tie.spec fresh-requires enum-known-answer enum_told returns returns-2)

@@ -9,7 +9,7 @@ use Rattle.leaks.proofs.Search.step.Statement.{statement}
 use Rattle.leaks.proofs.Search.step.Tie as tie
 
 add-next : tie.Need-overflow_add-next
-add-next c = let s = c.before.before.before in omega (arith, s.requires.0.countable s.requires.1)
+add-next c = omega (arith, c.requires.0.countable c.requires.1)
 
 accept-by-requires : tie.Need-accept_by-reply-requires
 accept-by-requires c κs = search rules
@@ -25,24 +25,22 @@ any-leak-requires c κs = search rules
 
 returns : tie.Need-returns-in-Refused
 returns c =
-    let called = c.before.before.accept_by-reply in
-    let s = c.before.before.before.before.before.before in
-    let a = s.args in
-    step_refused a.table.now a.header a.self a.byte s.requires.0 s.requires.1 _ _ called.result.estimator-1 c.enum_told-1.given.1
+    let called = c.accept_by-reply in
+    let a = c.args in
+    step_refused a.table.now a.header a.self a.byte c.requires.0 c.requires.1 _ _ called.result.estimator c.in-Refused.is
     called.ensures.0
 
 returns-2 : tie.Need-returns-in-Accepted
 returns-2 c =
-    let told = c.before.before.before.before.answer-1 in
-    let called = c.before.before.before.before.before.before.accept_by-reply in
-    let s = c.before.before.before.before.before.before.before.before.before.before in
-    let a = s.args in
-    step_accepted a.table.now a.header a.self a.byte s.requires.0 s.requires.1 told.given.0.0 called.result.estimator-1
-    c.any-leak.result
-    (subst (λ (x : AnswerBy). AcceptingBy a.self.notion a.table.now a.header a.self.estimator-1 a.byte
-    (said_by a.self.estimator-1.further x) called.result.estimator-1) told.given.1 called.ensures.0)
-    (subst (OthersBy a.self.estimator-1.further) told.given.1 called.ensures.1)
-    c.any-leak.ensures
+    let told = c.answer-1 in
+    let called = c.accept_by-reply in
+    let a = c.args in
+    step_accepted a.table.now a.header a.self a.byte c.requires.0 c.requires.1 told.given.0.0 called.result.estimator
+    c.any_leak.result
+    (subst (λ (x : AnswerBy). AcceptingBy a.self.notion a.table.now a.header a.self.estimator a.byte
+    (said_by a.self.estimator.further x) called.result.estimator) told.given.1 called.ensures.0)
+    (subst (OthersBy a.self.estimator.further) told.given.1 called.ensures.1)
+    c.any_leak.ensures
 
 pub step_spec : {M : Type 1} → statement M
 step_spec =

@@ -11,28 +11,28 @@ well-formed-requires : tie.Need-well_formed-requires
 well-formed-requires c κs = search rules
 
 returns : tie.Need-returns-then-not-well_formed
-returns c = λ w. fails c.before.well-formed-2.result (not-true _ c.if-not-well_formed.true) c.before.well-formed-2.ensures (w.well_formed, w.limits)
+returns c = λ w. fails c.well-formed-2.result (not-true _ c.if-not-well_formed.true) c.well-formed-2.ensures (w.well_formed, w.limits)
 
 returns-2 : tie.Need-returns-then-self-eq0
-returns-2 c = λ w. absurd (omega (arith, w.placed c.before.before.if-self.true, c.if-self-eq0.true))
+returns-2 c = λ w. absurd (omega (arith, w.placed c.if-self.true, c.if-self-eq0.true))
 
 returns-3 : tie.Need-returns-then-self
 returns-3 c =
-    let good = holds c.before.before.before.before.well-formed-2.result (not-false _ c.before.before.before.if-not-well_formed.false)
-    c.before.before.before.before.well-formed-2.ensures in
-    record { well_formed = good.0; limits = good.1; placed = λ e. omega (arith, c.if-self-eq0.false); countable = λ e. absent e c.before.before.if-self.true }
+    let good = holds c.well-formed-2.result (not-false _ c.if-not-well_formed.false)
+    c.well-formed-2.ensures in
+    record { well_formed = good.0; limits = good.1; placed = λ e. omega (arith, c.if-self-eq0.false); countable = λ e. absent e c.if-self.true }
 
 sub-if4 : tie.Need-overflow_sub-self
 sub-if4 c = search rules
 
 returns-4 : tie.Need-returns-then-self-more
-returns-4 c = λ w. absurd (omega (arith, w.countable c.before.before.if-self.false))
+returns-4 c = λ w. absurd (omega (arith, w.countable c.if-self.false))
 
 returns-5 : tie.Need-returns
 returns-5 c =
-    let good = holds c.before.before.before.before.well-formed-2.result (not-false _ c.before.before.before.if-not-well_formed.false)
-    c.before.before.before.before.well-formed-2.ensures in
-    record { well_formed = good.0; limits = good.1; placed = λ e. absent c.before.before.if-self.false e; countable = λ e. omega arith }
+    let good = holds c.well-formed-2.result (not-false _ c.if-not-well_formed.false)
+    c.well-formed-2.ensures in
+    record { well_formed = good.0; limits = good.1; placed = λ e. absent c.if-self.false e; countable = λ e. omega arith }
 
 pub within_spec : {M : Type 1} → statement M
 within_spec =

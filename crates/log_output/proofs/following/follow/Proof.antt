@@ -60,10 +60,10 @@ returns c =
 sub-advance : tie.Need-overflow-sub-advance invariant-loop decreases-loop
 sub-advance c = search rules
 
-part-advance-start : tie.Need-slice_bounds-advance-start invariant-loop decreases-loop
+part-advance-start : tie.Need-slice-bounds-advance-start invariant-loop decreases-loop
 part-advance-start c = search rules
 
-part-advance-end : tie.Need-slice_bounds-advance-end invariant-loop decreases-loop
+part-advance-end : tie.Need-slice-bounds-advance-end invariant-loop decreases-loop
 part-advance-end c = search rules
 
 advance-requires : tie.Need-advance-requires invariant-loop decreases-loop

@@ -36,10 +36,10 @@ slice-aggregate-follow c = search rules
 sub-follow : tie.Need-overflow-sub-follow
 sub-follow c = omega (arith, first c.before.before)
 
-part-follow-start : tie.Need-slice_bounds-follow-start
+part-follow-start : tie.Need-slice-bounds-follow-start
 part-follow-start c = omega (arith, first c.before.before)
 
-part-follow-end : tie.Need-slice_bounds-follow-end
+part-follow-end : tie.Need-slice-bounds-follow-end
 part-follow-end c = search rules
 
 follow-requires : tie.Need-follow-requires

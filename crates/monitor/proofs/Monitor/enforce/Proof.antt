@@ -68,10 +68,10 @@ cast-m c = search rules
 sub-log-accepted : tie.Need-overflow-sub-log-accepted
 sub-log-accepted c = search rules
 
-part-log-accepted-start : tie.Need-slice_bounds-log-accepted-start
+part-log-accepted-start : tie.Need-slice-bounds-log-accepted-start
 part-log-accepted-start c = search rules
 
-part-log-accepted-end : tie.Need-slice_bounds-log-accepted-end
+part-log-accepted-end : tie.Need-slice-bounds-log-accepted-end
 part-log-accepted-end c = within c.before.before.before.before
 
 log-accepted-requires : tie.Need-log-accepted-requires

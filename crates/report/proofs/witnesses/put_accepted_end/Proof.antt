@@ -23,12 +23,9 @@ same_length c = search rules
 
 returns : tie.Need-returns
 returns c =
-    let ended = c.before.before in
-    let accepted = ended.before.before.before.before in
-    let word = accepted.before.before.before.before in
-    let a = word.before.before.before.before.args in
+    let a = c.args in
     same (lined (101 ∷ 110 ∷ 100 ∷ []) (decimal a.accepted ∷ [])) (omega arith)
-    (then word.text-a.ensures (then accepted.field-b.ensures ended.put.ensures))
+    (then c.text-a.ensures (then c.field-b.ensures c.put.ensures))
 
 pub put_accepted_end_spec : {M : Type 1} → statement M
 put_accepted_end_spec =

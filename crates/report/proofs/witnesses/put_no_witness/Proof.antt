@@ -22,10 +22,9 @@ same_length c = search rules
 
 returns : tie.Need-returns
 returns c =
-    let stepped = c.before.before.before.before.before.before.before in
-    let a = stepped.before.before.before.args in
+    let a = c.args in
     same (no_witness_lined (word a.notion) (decimal a.k) (110 ∷ 111 ∷ []) (97 ∷ 108 ∷ 105 ∷ 98 ∷ 105 ∷ [])) (omega arith)
-    (then stepped.put_step-next.ensures c.before.before.text.ensures)
+    (then c.put_step-next.ensures c.text.ensures)
 
 pub put_no_witness_spec : {M : Type 1} → statement M
 put_no_witness_spec =

@@ -22,9 +22,7 @@ same_length c = search rules
 
 returns : tie.Need-returns
 returns c =
-    let reached = c.before.before in
-    let event = reached.before.before.before.before.before in
-    same (pair_same event.before.wide.ensures reached.before.wide-2.ensures) (omega arith) (then event.field-next.ensures reached.field.ensures)
+    same (pair_same c.wide.ensures c.wide-2.ensures) (omega arith) (then c.field-next.ensures c.field.ensures)
 
 pub put_pair_spec : {M : Type 1} → statement M
 put_pair_spec =

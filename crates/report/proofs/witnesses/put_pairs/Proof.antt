@@ -43,13 +43,12 @@ loop-less c = omega arith
 
 loop-again : tie.Need-loop-i-preserved invariant-loop decreases-loop
 loop-again c =
-    let at-loop = c.before.before.before.before.before.before.before in
-    let l = at-loop.before.before.before.args.pairs.now in
-    let i = at-loop.loop-i.i in (
+    let l = c.args.pairs.now in
+    let i = c.loop-i.i in (
       omega arith,
       omega arith,
       omega arith,
-      same (pairs_one l i (omega arith)) (omega arith) (then at-loop.loop-i.invariant.3 c.before.before.put_pair-next.ensures),
+      same (pairs_one l i (omega arith)) (omega arith) (then c.loop-i.invariant.3 c.put_pair-next.ensures),
     )
 
 same_length : tie.Need-shape_of-out invariant-loop decreases-loop
@@ -57,8 +56,8 @@ same_length c = search rules
 
 returns : tie.Need-returns invariant-loop decreases-loop
 returns c =
-    let l = c.before.before.before.before.args.pairs.now in
-    same (pairs_all l c.before.loop-i.i (omega arith) (omega arith)) (omega arith) c.before.loop-i.invariant.3
+    let l = c.args.pairs.now in
+    same (pairs_all l c.loop-i.i (omega arith) (omega arith)) (omega arith) c.loop-i.invariant.3
 
 pub put_pairs_spec : {M : Type 1} → statement M
 put_pairs_spec =

@@ -19,10 +19,8 @@ same_length c = search rules
 
 returns : tie.Need-returns
 returns c =
-    let step = c.before.before in
-    let word = step.before.before.before.before.before in
-    same (step_same word.before.before.before.args.notion step.before.wide.ensures) (omega arith)
-    (then word.put_word-next.ensures step.field.ensures)
+    same (step_same c.args.notion c.wide.ensures) (omega arith)
+    (then c.put_word-next.ensures c.field.ensures)
 
 pub put_step_spec : {M : Type 1} → statement M
 put_step_spec =

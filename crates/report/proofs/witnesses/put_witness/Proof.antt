@@ -27,14 +27,9 @@ same_length c = search rules
 
 returns : tie.Need-returns
 returns c =
-    let ended = c.before.before in
-    let paired = ended.before.before.before.before in
-    let started = paired.before.before.before.before in
-    let wide = started.before in
-    let stepped = wide.before.before.before.before in
-    let a = stepped.before.before.before.before.args in
-    same (witness_lined (word a.notion) (decimal a.k) wide.wide.ensures (pair_fields a.pairs.now)) (omega arith)
-    (then stepped.put_step-a.ensures (then started.field-b.ensures (then paired.put_pairs-c.ensures ended.put.ensures)))
+    let a = c.args in
+    same (witness_lined (word a.notion) (decimal a.k) c.wide.ensures (pair_fields a.pairs.now)) (omega arith)
+    (then c.put_step-a.ensures (then c.field-b.ensures (then c.put_pairs-c.ensures c.put.ensures)))
 
 pub put_witness_spec : {M : Type 1} → statement M
 put_witness_spec =

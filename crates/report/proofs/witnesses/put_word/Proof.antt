@@ -28,13 +28,13 @@ same_length : tie.Need-shape_of-out-in-Weak
 same_length c = search rules
 
 returns : tie.Need-returns-in-Weak
-returns c = same (sym (ap word c.before.before.before.before.before.enum_told-1.given.1)) (omega arith) c.before.before.text.ensures
+returns c = same (sym (ap word c.in-Weak.is)) (omega arith) c.text.ensures
 
 same-length-2 : tie.Need-shape_of-out-in-Strong
 same-length-2 c = search rules
 
 returns-2 : tie.Need-returns-in-Strong
-returns-2 c = same (sym (ap word c.before.before.before.before.before.enum_told-in-Strong-1.given.1)) (omega arith) c.before.before.text-in-Strong.ensures
+returns-2 c = same (sym (ap word c.in-Strong.is)) (omega arith) c.text-in-Strong.ensures
 
 pub put_word_spec : {M : Type 1} → statement M
 put_word_spec =

@@ -15,10 +15,10 @@ returns c = search rules
 sub_read : tie.Need-overflow-sub-read
 sub_read c = search rules
 
-part-read-start : tie.Need-slice_bounds-read-start
+part-read-start : tie.Need-slice-bounds-read-start
 part-read-start c = search rules
 
-part-read-end : tie.Need-slice_bounds-read-end
+part-read-end : tie.Need-slice-bounds-read-end
 part-read-end c = search rules
 
 read-requires : tie.Need-read-requires
@@ -27,10 +27,10 @@ read-requires c κs = search rules
 sub-found : tie.Need-overflow-sub-found
 sub-found c = search rules
 
-part-found-start : tie.Need-slice_bounds-found-start
+part-found-start : tie.Need-slice-bounds-found-start
 part-found-start c = search rules
 
-part-found-end : tie.Need-slice_bounds-found-end
+part-found-end : tie.Need-slice-bounds-found-end
 part-found-end c = search rules
 
 found-requires : tie.Need-found-requires

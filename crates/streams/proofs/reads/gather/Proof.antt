@@ -22,10 +22,10 @@ loop-holds c = search rules
 sub-has-encoding : tie.Need-overflow-sub-has-encoding invariant-loop decreases-loop
 sub-has-encoding c = search rules
 
-part-has-encoding-start : tie.Need-slice_bounds-has-encoding-start invariant-loop decreases-loop
+part-has-encoding-start : tie.Need-slice-bounds-has-encoding-start invariant-loop decreases-loop
 part-has-encoding-start c = search rules
 
-part-has-encoding-end : tie.Need-slice_bounds-has-encoding-end invariant-loop decreases-loop
+part-has-encoding-end : tie.Need-slice-bounds-has-encoding-end invariant-loop decreases-loop
 part-has-encoding-end c = search rules
 
 has-encoding-requires : tie.Need-has-encoding-requires invariant-loop decreases-loop

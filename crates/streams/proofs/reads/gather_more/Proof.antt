@@ -9,10 +9,10 @@ use Rattle.streams.proofs.reads.gather_more.Tie as tie
 sub-fetch : tie.Need-overflow-sub-fetch
 sub-fetch c = search rules
 
-part-fetch-start : tie.Need-slice_bounds-fetch-start
+part-fetch-start : tie.Need-slice-bounds-fetch-start
 part-fetch-start c = search rules
 
-part-fetch-end : tie.Need-slice_bounds-fetch-end
+part-fetch-end : tie.Need-slice-bounds-fetch-end
 part-fetch-end c = search rules
 
 fetch-requires : tie.Need-fetch-requires

@@ -9,10 +9,10 @@ returns c = λ e. absurd (false≢true e)
 sub-write-all : tie.Need-overflow-sub-write-all
 sub-write-all c = search rules
 
-part-write-all-start : tie.Need-slice_bounds-write-all-start
+part-write-all-start : tie.Need-slice-bounds-write-all-start
 part-write-all-start c = search rules
 
-part-write-all-end : tie.Need-slice_bounds-write-all-end
+part-write-all-end : tie.Need-slice-bounds-write-all-end
 part-write-all-end c = search rules
 
 write-all-requires : tie.Need-write-all-requires

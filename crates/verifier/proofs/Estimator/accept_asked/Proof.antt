@@ -31,14 +31,14 @@ first e = e.before.before.before.before.before.before
 
 -- the tests that were passed
 ok : (c : tie.Else-not-well_formed) → WellFormed (tested c).args.table.now (tested c).args.header × InLimits (tested c).args.header (tested c).args.t1
-ok c = holds c.before.well-formed-2.result (not-false _ c.if-not-well_formed.false) c.before.well-formed-2.ensures
+ok c = holds c.well-formed-2.result (not-false _ c.if-not-well_formed.false) c.well-formed-2.ensures
 
 -- the events that show the symbol
 showing : (c : tie.After-events_with-shown)
     → Showing (automaton_of (begin c).args.table.now (begin c).args.header) (begin c).args.symbol c.events_with-shown.result
 showing c =
     c.events_with-shown.ensures _ (ok c.before.before.before.before.before).0.symbols_small
-    (c.before.before.before.by-symbol.ensures (begin c).args.table.now)
+    (c.by_symbol.ensures (begin c).args.table.now)
 
 observed : (c : tie.Else-shown-eq0) → Observable (begin c.before).args.header (begin c.before).args.symbol
 observed c =
@@ -54,9 +54,8 @@ refused-requires c κs = search rules
 returns : tie.Need-returns-then-not-well_formed
 returns c =
     let r = c.refused.ensures in
-    let s = c.before.before in
     refused_asked _ _ _ _ _ refusal.Malformed _ r.0 r.1
-    (Accepting.malformed (fails s.well-formed-2.result (not-true _ c.before.if-not-well_formed.true) s.well-formed-2.ensures))
+    (Accepting.malformed (fails c.well-formed-2.result (not-true _ c.if-not-well_formed.true) c.well-formed-2.ensures))
 
 slice-aggregate-by-symbol : tie.Need-slice_bounds-by_symbol-end
 slice-aggregate-by-symbol c = search rules
@@ -68,7 +67,7 @@ slice-aggregate-events-with : tie.Need-slice_bounds-events_with-end
 slice-aggregate-events-with c = search rules
 
 events-with-requires : tie.Need-events_with-shown-requires
-events-with-requires c κs = (c.before.before.by-symbol.ensures []).size
+events-with-requires c κs = (c.by_symbol.ensures []).size
 
 refused-requires-2 : tie.Need-refused-requires-then-shown-eq0
 refused-requires-2 c κs = search rules
@@ -76,11 +75,10 @@ refused-requires-2 c κs = search rules
 returns-2 : tie.Need-returns-then-shown-eq0
 returns-2 c =
     let r = c.refused-then-shown-eq0.ensures in
-    let v = c.before.before in
-    let o = ok v.before.before.before.before.before in
-    let a = (begin v).args in
+    let o = ok c.before.before.before.before.before.before.before in
+    let a = (begin c.before.before).args in
     refused_asked _ _ _ _ _ refusal.NotObservable _ r.0 r.1
-    (not_observable o.0 o.1 (none_observable a.table.now a.header _ _ (showing v) c.before.if-shown-eq0.true))
+    (not_observable o.0 o.1 (none_observable a.table.now a.header _ _ (showing c.before.before) c.if-shown-eq0.true))
 
 entered-requires : tie.Need-entered-from-requires
 entered-requires c κs = search rules
@@ -99,14 +97,11 @@ slice-aggregate-next-estimate c = search rules
 
 next-estimate-requires : tie.Need-next_estimate-next-requires
 next-estimate-requires c κs =
-    let g = c.before.before.before in
-    let f = g.before.before in
-    let e = f.before.before in
-    let o = ok (first e) in (
+    let o = ok (first c.before.before.before.before.before.before.before) in (
       o.0.words,
       o.0.start,
-      λ x i. ((showing e.before).sound x i).0,
-      gained_part _ _ _ _ _ (λ q i. f.entered-from.ensures 0 q (omega arith) i) g.silent_rows-near.ensures,
+      λ x i. ((showing c.before.before.before.before.before.before.before.before).sound x i).0,
+      gained_part _ _ _ _ _ (λ q i. c.entered-from.ensures 0 q (omega arith) i) c.silent_rows-near.ensures,
     )
 
 enum-known-next : tie.Need-enum_known-next
@@ -121,11 +116,10 @@ refused-requires-3 c κs = search rules
 returns-3 : tie.Need-returns-in_default
 returns-3 c =
     let r = c.refused-in_default.ensures in
-    let e = c.before.before.before.before.before.before.before.before.before.before.before.before in
-    let o = ok (first e) in
+    let o = ok (first c.before.before.before.before.before.before.before.before.before.before.before) in
     refused_asked _ _ _ _ _ refusal.Incompatible _ r.0 r.1
-    (incompatible o.0 o.1 (observed e)
-    (λ trace g. none_left (c.before.before.before.before.next_estimate-next.ensures _ (showing e.before)) c.before.enum_told-1.given.1 trace
+    (incompatible o.0 o.1 (observed c.before.before.before.before.before.before.before.before.before.before.before)
+    (λ trace g. none_left (c.next_estimate-next.ensures _ (showing c.before.before.before.before.before.before.before.before.before.before.before.before)) c.in_default.is trace
     (grown_entry _ _ trace _ g)))
 
 look-back-requires : tie.Need-look_back-k-requires
@@ -133,19 +127,17 @@ look-back-requires c κs = search rules
 
 push-requires : tie.Need-push-after-requires
 push-requires c κs =
-    let e = c.before.before.before.before.before.before.before.before.before.before.before.before.before.before in
-    let o = ok (first e) in
-    let a = (begin e.before).args in
+    let o = ok (first c.before.before.before.before.before.before.before.before.before.before.before.before) in
+    let a = (begin c.before.before.before.before.before.before.before.before.before.before.before.before.before).args in
     let K = c.look_back-k.ensures in (
-      omega (arith, K, look_back_small a.header a.t1.further-1 o.0.back-1 o.1.allowed),
-      observable_small a.table.now _ _ o.0 (observed e),
+      omega (arith, K, look_back_small a.header a.t1.further o.0.back o.1.allowed),
+      observable_small a.table.now _ _ o.0 (observed c.before.before.before.before.before.before.before.before.before.before.before.before),
       subst (λ (n : ℕ). Limits n a.t1) (sym K) o.1,
     )
 
 slice-aggregate-assess : tie.Need-slice_bounds-assess-end
 slice-aggregate-assess c =
-    let e = c.before.before.before.before.before.before.before.before.before.before.before.before.before.before.before.before in
-    sym (e.before.before.before.before.by-symbol.ensures []).size
+    sym (c.by_symbol.ensures []).size
 
 slice-aggregate-assess-2 : tie.Need-slice_bounds-assess-end-2
 slice-aggregate-assess-2 c = search rules
@@ -155,22 +147,17 @@ slice-aggregate-assess-3 c = search rules
 
 assess-requires : tie.Need-assess-judgement-requires
 assess-requires c κs =
-    let pushed = c.before.before.before in
-    let k = pushed.before.before.before in
-    let f = k.before.before.before.before.before.before.before.before.before.before in
-    let e = f.before.before in
-    let o = ok (first e) in
-    let a = (begin e.before).args in
-    let x = some_left (k.before.before.before.before.next_estimate-next.ensures _ (showing e.before)) k.before.next-1.given.1 in
-    let near = k.before.before.before.before.before.before.before.before in
-    let after = pushed.push-after.ensures in (
+    let o = ok (first c.before.before.before.before.before.before.before.before.before.before.before.before.before.before.before.before) in
+    let a = (begin c.before.before.before.before.before.before.before.before.before.before.before.before.before.before.before.before.before).args in
+    let x = some_left (c.next_estimate-next.ensures _ (showing c.before.before.before.before.before.before.before.before.before.before.before.before.before.before.before.before.before)) c.in-States.is in
+    let after = c.push-after.ensures in (
       record {
         well_formed = o.0;
-        limits = limits_as a.header a.t1 _ _ pushed.before.look_back-k.ensures after.0 after.1;
-        sets_are = e.before.before.before.before.by-symbol.ensures _;
-        near = record {
+        limits = limits_as a.header a.t1 _ _ c.look_back-k.ensures after.0 after.1;
+        sets_are = c.by_symbol.ensures _;
+        c.before.before.before.before.before.before.before.before.before.before.before.before = record {
           closed = x.estimated.closed;
-          inside = after.3 _ x.estimated.new (λ l q h i. x.estimated.old q (near.silent_rows-near.ensures.more q (f.entered-from.ensures l q h i)));
+          inside = after.3 _ x.estimated.new (λ l q h i. x.estimated.old q (c.silent_rows-near.ensures.more q (c.entered-from.ensures l q h i)));
         };
         reach = reach_as after.2 x.estimated.reach;
       },
@@ -179,17 +166,14 @@ assess-requires c κs =
 
 returns-4 : tie.Need-returns
 returns-4 c =
-    let pushed = c.before.before.before.before.before in
-    let k = pushed.before.before.before in
-    let e = k.before.before.before.before.before.before.before.before.before.before.before.before in
-    let a = (begin e.before).args in
-    let o = ok (first e) in
-    let x = some_left (k.before.before.before.before.next_estimate-next.ensures _ (showing e.before)) k.before.next-1.given.1 in
-    let after = pushed.push-after.ensures in
-    let moved : Moved a.table.now a.header a.t1 a.symbol c.before.assess-judgement.result.size pushed.push-after.result =
-    moved_by _ _ _ _ _ _ _ _ _ _ o.0 o.1 (observed e) x c.before.assess-judgement.ensures.1 pushed.before.look_back-k.ensures after.0 after.1
+    let a = (begin c.before.before.before.before.before.before.before.before.before.before.before.before.before.before.before.before.before.before.before).args in
+    let o = ok (first c.before.before.before.before.before.before.before.before.before.before.before.before.before.before.before.before.before.before) in
+    let x = some_left (c.next_estimate-next.ensures _ (showing c.before.before.before.before.before.before.before.before.before.before.before.before.before.before.before.before.before.before.before)) c.in-States.is in
+    let after = c.push-after.ensures in
+    let moved : Moved a.table.now a.header a.t1 a.symbol c.assess-judgement.result.size c.push-after.result =
+    moved_by _ _ _ _ _ _ _ _ _ _ o.0 o.1 (observed c.before.before.before.before.before.before.before.before.before.before.before.before.before.before.before.before.before.before) x c.assess-judgement.ensures.1 c.look_back-k.ensures after.0 after.1
     (λ trace g E y. after.4 _ trace g E y) in
-    judged_by _ _ _ _ _ c.before.assess-judgement.result _ moved c.before.assess-judgement.ensures.0
+    judged_by _ _ _ _ _ c.assess-judgement.result _ moved c.assess-judgement.ensures.0
 
 pub accept_asked_spec : {M : Type 1} → statement M
 accept_asked_spec =

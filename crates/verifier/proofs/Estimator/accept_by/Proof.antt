@@ -15,9 +15,8 @@ choose-answer-requires c κs = search rules
 
 returns : tie.Need-returns
 returns c =
-    let called = c.before.before in
-    rw c.choose_answer-answer_by.ensures (asked_one _ _ _ _ _ _ called.accept_asked-reply.result.answer called.accept_asked-reply.result.estimator-1
-    called.before.ask.ensures called.accept_asked-reply.ensures)
+    rw c.choose_answer-answer_by.ensures (asked_one _ _ _ _ _ _ c.accept_asked-reply.result.answer c.accept_asked-reply.result.estimator
+    c.ask.ensures c.accept_asked-reply.ensures)
 
 pub accept_by_spec : {M : Type 1} → statement M
 accept_by_spec = tie.close (tie.spec ask-requires accept-asked-requires choose-answer-requires returns)

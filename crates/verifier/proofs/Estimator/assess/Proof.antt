@@ -7,7 +7,7 @@ use Rattle.verifier.proofs.Estimator.assess.Statement.{statement}
 use Rattle.verifier.proofs.Estimator.assess.Tie as tie
 
 backward-rows-requires : tie.Need-backward_rows-requires
-backward-rows-requires c κs = let x = c.before.before.before.before.before.requires in (x.0.near.closed.size, x.1)
+backward-rows-requires c κs = let x = c.requires in (x.0.near.closed.size, x.1)
 
 judge-all-requires : tie.Need-judge_all-verdicts-requires
 judge-all-requires c κs =
@@ -17,14 +17,14 @@ judge-all-requires c κs =
         limits = x.limits;
         prepared = record {
           words = x.well_formed.words;
-          few = omega (arith, x.limits.few, look_back_small u.args.header u.args.self.further x.well_formed.back-1 x.limits.allowed);
+          few = omega (arith, x.limits.few, look_back_small u.args.header u.args.self.further x.well_formed.back x.limits.allowed);
           looks = record {
             table_is = refl;
             start = x.well_formed.start;
             symbols_small = x.well_formed.symbols_small;
             sets_are = x.sets_are;
             near = x.near;
-            back_are = λ some. c.before.before.before.backward-rows.ensures some _ x.near.closed;
+            back_are = λ some. c.backward-rows.ensures some _ x.near.closed;
           };
         };
       },

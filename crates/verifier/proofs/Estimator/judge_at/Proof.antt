@@ -11,9 +11,8 @@ use Rattle.verifier.proofs.Estimator.judge_at.Tie as tie
 
 returns : tie.Need-returns-then-self-i
 returns c =
-    let s = c.before.before.before.before in
     record {
-      given = λ g. absurd (omega (arith, c.if-self-i.true, how_many_most s.args.header s.args.self.further-1));
+      given = λ g. absurd (omega (arith, c.if-self-i.true, how_many_most c.args.header c.args.self.further));
       other = λ o. refl;
     }
 
@@ -22,22 +21,21 @@ secret-at-requires c κs = search rules
 
 judge-requires : tie.Need-judge-requires
 judge-requires c κs =
-    let s = c.before.before.before.before.before.before in (
-      s.requires.0,
-      s.requires.2,
-      s.requires.3,
-      subst (λ (x : Secret). StrongGiven s.args.table.now s.args.header s.args.self s.args.asked x s.args.found)
+    (
+      c.requires.0,
+      c.requires.2,
+      c.requires.3,
+      subst (λ (x : Secret). StrongGiven c.args.table.now c.args.header c.args.self c.args.asked x c.args.found)
           (sym c.secret_at-secret.ensures)
-          (s.requires.4 (omega (arith, c.before.before.if-self-i.false))),
+          (c.requires.4 (omega (arith, c.if-self-i.false))),
     )
 
 returns-2 : tie.Need-returns
 returns-2 c =
-    let s = c.before.before.before.before.before.before.before in
     record {
-      given = λ g. judged_of s.args.table.now s.args.header s.args.self _ _ s.args.asked c.judge.result c.before.secret_at-secret.ensures
+      given = λ g. judged_of c.args.table.now c.args.header c.args.self _ _ c.args.asked c.judge.result c.secret_at-secret.ensures
           c.judge.ensures;
-      other = λ o. absurd (omega (arith, o, c.before.before.before.if-self-i.false, how_many s.args.header s.args.self.further-1 s.requires.1));
+      other = λ o. absurd (omega (arith, o, c.if-self-i.false, how_many c.args.header c.args.self.further c.requires.1));
     }
 
 pub judge_at_spec : {M : Type 1} → statement M

@@ -8,22 +8,22 @@ slice-aggregate-shared-estimates : tie.Need-slice_bounds-shared_estimates-end
 slice-aggregate-shared-estimates c = search rules
 
 shared-estimates-requires : tie.Need-shared_estimates-requires
-shared-estimates-requires c κs = let x = c.before.before.before.before.before.requires in (x.0, x.1, refl)
+shared-estimates-requires c κs = let x = c.requires in (x.0, x.1, refl)
 
 strong-each-requires : tie.Need-strong_each-found-requires
-strong-each-requires c κs = c.before.before.before.before.before.before.before.requires.0.prepared
+strong-each-requires c κs = c.requires.0.prepared
 
 slice-aggregate-judge-places : tie.Need-slice_bounds-judge_places-end
 slice-aggregate-judge-places c = search rules
 
 judge-places-requires : tie.Need-judge_places-requires
 judge-places-requires c κs =
-    let x = c.before.before.before.before.before.before.before.before.before.requires.0 in
-    let shared = c.before.before.before.shared-estimates.ensures in
-    (x.prepared.few, x.limits.allowed.few, shared.0, shared.1, c.before.strong_each-found.ensures)
+    let x = c.requires.0 in
+    let shared = c.shared_estimates.ensures in
+    (x.prepared.few, x.limits.allowed.few, shared.0, shared.1, c.strong_each-found.ensures)
 
 returns : tie.Need-returns
-returns c = c.judge-places.ensures
+returns c = c.judge_places.ensures
 
 pub judge_each_spec : {M : Type 1} → statement M
 judge_each_spec =

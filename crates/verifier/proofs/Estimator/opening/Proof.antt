@@ -13,13 +13,13 @@ slice-aggregate-estimate-from : tie.Need-slice_bounds-estimate_from-end
 slice-aggregate-estimate-from c = search rules
 
 estimate-from-requires : tie.Need-estimate_from-estimate-requires
-estimate-from-requires c κs = let o = c.before.before.before.requires.0 in (o.words, o.start, known_none _ _)
+estimate-from-requires c κs = let o = c.requires.0 in (o.words, o.start, known_none _ _)
 
 slice-aggregate-by-symbol : tie.Need-slice_bounds-by_symbol-end
 slice-aggregate-by-symbol c = search rules
 
 by-symbol-requires : tie.Need-by_symbol-requires
-by-symbol-requires c κs = (c.before.before.before.before.before.before.requires.0.symbols_small, search rules)
+by-symbol-requires c κs = (c.requires.0.symbols_small, search rules)
 
 slice-aggregate-assess : tie.Need-slice_bounds-assess-end
 slice-aggregate-assess c = search rules
@@ -32,24 +32,21 @@ slice-aggregate-assess-3 c = search rules
 
 assess-requires : tie.Need-assess-requires
 assess-requires c κs =
-    let s = c.before.before.before.before.before.before.before in
-    let a = s.before.before.before.before in
-    let so = a.requires.0 in
-    let g = a.requires.1 in (
+    let so = c.requires.0 in
+    let g = c.requires.1 in (
       record {
         well_formed = so;
         limits = grown_limits _ _ _ _ g so.symbols_small;
-        sets_are = c.before.before.before.before.by-symbol.ensures _;
-        near = record { closed = s.estimate_from-estimate.ensures.closed; inside = initial_inside _ _ _ _ g s.estimate_from-estimate.ensures.new };
-        reach = s.estimate_from-estimate.ensures.reach;
+        sets_are = c.by_symbol.ensures _;
+        near = record { closed = c.estimate_from-estimate.ensures.closed; inside = initial_inside _ _ _ _ g c.estimate_from-estimate.ensures.new };
+        reach = c.estimate_from-estimate.ensures.reach;
       },
       search rules,
     )
 
 returns : tie.Need-returns
 returns c =
-    let s = c.before.before.before.before.before.before.before.before.before in
-    opened_of _ _ _ _ _ _ _ _ s.before.before.before.before.requires.1 s.estimate_from-estimate.ensures c.before.assess.ensures
+    opened_of _ _ _ _ _ _ _ _ c.requires.1 c.estimate_from-estimate.ensures c.assess.ensures
 
 pub opening_spec : {M : Type 1} → statement M
 opening_spec =

@@ -13,22 +13,22 @@ smaller-requires c κs = search rules
 
 first-secret-requires : tie.Need-first_secret-weak-requires
 first-secret-requires c κs =
-    let x = c.before.before.before.before.requires in
-    (x.1, omega (arith, c.before.smaller-last.ensures, x.0))
+    let x = c.requires in
+    (x.1, omega (arith, c.smaller-last.ensures, x.0))
 
 up-to-requires : tie.Need-up_to-strong-requires
 up-to-requires c κs = search rules
 
 returns : tie.Need-returns
 returns c =
-    let n = c.before.before.smaller-last.ensures in
-    let a = c.before.before.before.before.before.args in
-    let x = c.before.before.before.before.before.requires in
+    let n = c.smaller-last.ensures in
+    let a = c.args in
+    let x = c.requires in
     judged_both _ a.header a.estimator a.secret a.asked _ _
     (record {
       found = λ asks. ⊎_elim (λ w. rw w.2 (found_last n (w.1.ensures _ _ _ _ (x.2 asks) (omega (arith, n)))))
-          (λ w. absurd (not_both _ asks w.0.left)) c.before.if-asked.branch;
-      silent = λ not. ⊎_elim (λ w. absurd (not w.0.taken)) (λ w. w.1) c.before.if-asked.branch;
+          (λ w. absurd (not_both _ asks w.0.left)) c.if-asked.branch;
+      silent = λ not. ⊎_elim (λ w. absurd (not w.0.taken)) (λ w. w.1) c.if-asked.branch;
     })
     (record {
       found = λ asks. found_last n (c.up_to_lem.ensures.1 Strong _ _ _ _ _ (omega (arith, n)) (x.3.found asks));

@@ -20,36 +20,32 @@ remembered-of-requires c κs = search rules
 
 weak-verdict-requires : tie.Need-weak_verdict-weak-requires
 weak-verdict-requires c κs =
-    let x = c.before.before.before.before.before.before.requires in
-    rw c.before.remembered_of-remembered.ensures (x.0.prepared, x.1)
+    let x = c.requires in
+    rw c.remembered_of-remembered.ensures (x.0.prepared, x.1)
 
 strong-verdict-requires : tie.Need-strong_verdict-strong-requires
-strong-verdict-requires c κs = rw c.before.before.remembered_of-remembered.ensures c.before.before.before.before.before.before.before.requires.0.prepared
+strong-verdict-requires c κs = rw c.remembered_of-remembered.ensures c.requires.0.prepared
 
 returns : tie.Need-returns-then-asked-2
 returns c =
-    let r = c.before.before.before in
-    let s = r.before.before.before.before.before in
-    judged_both _ s.args.header s.args.estimator (own s.args.header) s.args.asked _ _
+    judged_both _ c.args.header c.args.estimator (own c.args.header) c.args.asked _ _
     (record {
-      found = λ asks. ⊎_elim (λ w. rw w.2 (found_last (all s) (found_of s.args.estimator r.remembered_of-remembered.ensures w.1.ensures)))
-          (λ w. absurd (not_both _ asks w.0.left)) c.before.before.if-asked.branch;
-      silent = λ not. ⊎_elim (λ w. absurd (not w.0.taken)) (λ w. w.1) c.before.before.if-asked.branch;
+      found = λ asks. ⊎_elim (λ w. rw w.2 (found_last (all c.before.before.before.before.before.before.before.before) (found_of c.args.estimator c.remembered_of-remembered.ensures w.1.ensures)))
+          (λ w. absurd (not_both _ asks w.0.left)) c.if-asked.branch;
+      silent = λ not. ⊎_elim (λ w. absurd (not w.0.taken)) (λ w. w.1) c.if-asked.branch;
     })
     (record {
-      found = λ asks. found_last (all s) (found_of s.args.estimator r.remembered_of-remembered.ensures c.strong_verdict-strong.ensures);
-      silent = λ not. absurd (not c.before.if-asked-2.true);
+      found = λ asks. found_last (all c.before.before.before.before.before.before.before.before) (found_of c.args.estimator c.remembered_of-remembered.ensures c.strong_verdict-strong.ensures);
+      silent = λ not. absurd (not c.if-asked-2.true);
     })
 
 returns-2 : tie.Need-returns-else-asked-2
 returns-2 c =
-    let r = c.before.before in
-    let s = r.before.before.before.before.before in
-    judged_both _ s.args.header s.args.estimator (own s.args.header) s.args.asked _ _
+    judged_both _ c.args.header c.args.estimator (own c.args.header) c.args.asked _ _
     (record {
-      found = λ asks. ⊎_elim (λ w. rw w.2 (found_last (all s) (found_of s.args.estimator r.remembered_of-remembered.ensures w.1.ensures)))
-          (λ w. absurd (not_both _ asks w.0.left)) c.before.if-asked.branch;
-      silent = λ not. ⊎_elim (λ w. absurd (not w.0.taken)) (λ w. w.1) c.before.if-asked.branch;
+      found = λ asks. ⊎_elim (λ w. rw w.2 (found_last (all c.before.before.before.before.before.before.before) (found_of c.args.estimator c.remembered_of-remembered.ensures w.1.ensures)))
+          (λ w. absurd (not_both _ asks w.0.left)) c.if-asked.branch;
+      silent = λ not. ⊎_elim (λ w. absurd (not w.0.taken)) (λ w. w.1) c.if-asked.branch;
     })
     (record { found = λ asks. absurd (not_both _ asks c.if-asked-2.false); silent = λ not. refl })
 

@@ -17,10 +17,10 @@ secret-at-requires c κs = search rules
 
 returns-2 : tie.Need-returns
 returns-2 c = (
-  λ past. absurd (omega (arith, c.before.before.if-further-i.false)),
+  λ past. absurd (omega (arith, c.if-further-i.false)),
   λ given. (
-    subst (λ (x : Secret). x.states < 2 ^ 64) c.before.secret_at-secret.ensures (search rules),
-    ap (λ (x : Secret). bit_and c.before.before.before.before.args.states (complement x.states)) c.before.secret_at-secret.ensures,
+    subst (λ (x : Secret). x.states < 2 ^ 64) c.secret_at-secret.ensures (search rules),
+    ap (λ (x : Secret). bit_and c.args.states (complement x.states)) c.secret_at-secret.ensures,
   ),
 )
 

@@ -18,7 +18,7 @@ none-found-requires c κs = search rules
 
 returns : tie.Need-returns-then-not-asked
 returns c i h given =
-    record { found = λ asks. absurd (not_both _ asks (not-true _ c.before.if-not-asked.true)); silent = λ not. c.none_found.ensures i h }
+    record { found = λ asks. absurd (not_both _ asks (not-true _ c.if-not-asked.true)); silent = λ not. c.none_found.ensures i h }
 
 outside-secret-requires : tie.Need-outside_secret-requires
 outside-secret-requires c κs = search rules
@@ -37,22 +37,21 @@ strong-verdicts-requires c κs = search rules
 
 returns-2 : tie.Need-returns
 returns-2 c i h given =
-    let s = c.before.before.before.before.before.before.before.before.before.before.before.before in
-    let cs = secrets_of s.args.header s.args.estimator.further-1 in
+    let cs = secrets_of c.args.header c.args.estimator.further in
     let clear : StateSets =
     record {
-      own = c.before.before.before.before.outside-secret.result;
-      first = c.before.before.before.outside_secret-2.result;
-      second = c.before.before.outside_secret-3.result;
-      third = c.before.outside_secret-4.result;
+      own = c.outside_secret.result;
+      first = c.outside_secret-2.result;
+      second = c.outside_secret-3.result;
+      third = c.outside_secret-4.result;
     } in
-    let x = four (λ j. j ≤ s.args.estimator.further-1.count → ((secret_at cs j).states < 2 ^ 64)
-    × (set_at clear j ≡ bit_and s.args.states (complement (secret_at cs j).states)))
-    c.before.before.before.before.outside-secret.ensures.1 c.before.before.before.outside_secret-2.ensures.1
-    c.before.before.outside_secret-3.ensures.1 c.before.outside_secret-4.ensures.1 i h given in
+    let x = four (λ j. j ≤ c.args.estimator.further.count → ((secret_at cs j).states < 2 ^ 64)
+    × (set_at clear j ≡ bit_and c.args.states (complement (secret_at cs j).states)))
+    c.outside_secret.ensures.1 c.outside_secret-2.ensures.1
+    c.outside_secret-3.ensures.1 c.outside_secret-4.ensures.1 i h given in
     record {
-      found = λ asks. c.strong-verdicts.ensures i (secret_at cs i).states h x.0 x.1;
-      silent = λ not. absurd (not (not-false _ c.before.before.before.before.before.before.if-not-asked.false));
+      found = λ asks. c.strong_verdicts.ensures i (secret_at cs i).states h x.0 x.1;
+      silent = λ not. absurd (not (not-false _ c.if-not-asked.false));
     }
 
 pub strong_each_spec : {M : Type 1} → statement M

@@ -43,18 +43,18 @@ none-found-requires c κs = search rules
 
 steps-holds : tie.Need-steps-init invariant-steps decreases-steps
 steps-holds c =
-    let a = c.before.before.before.before.before.before.before in (
+    (
       λ i secret h small e. (
-        omega (arith, e, and_le_r a.args.states (complement secret)),
+        omega (arith, e, and_le_r c.args.states (complement secret)),
         λ p trace g m. (
-          subst (λ (v : Verdict). Searched Strong p (secret_of secret a.args.estimator.count) trace 0 v) (sym (c.none_found-found.ensures i h))
-              (below_start Strong p (secret_of secret a.args.estimator.count) trace),
-          subst (λ (x : ℕ). Follows p (bit_and a.args.states (complement secret)) trace 0 x) (sym e) (follows_start p _ trace),
+          subst (λ (v : Verdict). Searched Strong p (secret_of secret c.args.estimator.count) trace 0 v) (sym (c.none_found-found.ensures i h))
+              (below_start Strong p (secret_of secret c.args.estimator.count) trace),
+          subst (λ (x : ℕ). Follows p (bit_and c.args.states (complement secret)) trace 0 x) (sym e) (follows_start p _ trace),
         ),
       ),
-      λ i h. subst (λ (v : Verdict). Bounded a.args.estimator.count (steps_of v)) (sym (c.none_found-found.ensures i h)) tt,
+      λ i h. subst (λ (v : Verdict). Bounded c.args.estimator.count (steps_of v)) (sym (c.none_found-found.ensures i h)) tt,
       omega arith,
-      a.requires.few,
+      c.requires.few,
     )
 
 -- One step
@@ -77,7 +77,7 @@ with-steps-requires c κs = search rules
 -- an automaton for which holds what was prepared for this call
 abbrev Good : tie.At-steps invariant-steps decreases-steps → Automaton → Type 0
 Good u p =
-    Looks p (begin u).args.table.now (begin u).args.sets.now (begin u).args.estimator.entries-1 (begin u).args.silent.now (begin u).args.back.now
+    Looks p (begin u).args.table.now (begin u).args.sets.now (begin u).args.estimator.entries (begin u).args.silent.now (begin u).args.back.now
     (begin u).args.states (begin u).args.estimator.count
 
 -- what holds for each of these and each trace that is remembered
@@ -85,14 +85,14 @@ abbrev Each : tie.At-steps invariant-steps decreases-steps → (Automaton → Li
 Each u =
     ForTraces (begin u).args.table.now (begin u).args.sets.now (begin u).args.silent.now (begin u).args.back.now (begin u).args.states
     (begin u).args.estimator.count
-    (begin u).args.estimator.symbols-1 (begin u).args.estimator.entries-1
+    (begin u).args.estimator.symbols (begin u).args.estimator.entries
 
 -- step l is tested for the secret at an arbitrary place
 tested : (c : tie.After-with_steps-found invariant-steps decreases-steps) (i secret : ℕ) → i < 4 → secret < 2 ^ 64
     → set_at (begin c.before).args.clear i ≡ bit_and (begin c.before).args.states (complement secret) → Each c.before (λ p trace.
-    Searched Strong p (secret_of secret (begin c.before).args.estimator.count) trace (c.before.steps.l + 1) (verdict_at c.with_steps-found.result i))
+    Searched Strong p (secret_of secret (begin c.before).args.estimator.count) trace (c.steps.l + 1) (verdict_at c.with_steps-found.result i))
 tested c i secret h small e p trace g m =
-    let s = c.before.steps in
+    let s = c.steps in
     let a = (begin c.before).args in
     let x = (s.invariant.0 i secret h small e).1 p trace g m in
     let E = m.entries_are s.l s.invariant.2 in
@@ -102,7 +102,7 @@ tested c i secret h small e p trace g m =
 
 bounded : (c : tie.After-with_steps-found invariant-steps decreases-steps) (i : ℕ) → i < 4 → Bounded (begin c.before).args.estimator.count
     (steps_of (verdict_at c.with_steps-found.result i))
-bounded c i h = searched_bounded (c.with_steps-found.ensures i h) c.before.steps.invariant.2 (c.before.steps.invariant.1 i h)
+bounded c i h = searched_bounded (c.with_steps-found.ensures i h) c.steps.invariant.2 (c.steps.invariant.1 i h)
 
 -- Exit: step l is the last one
 
@@ -113,13 +113,13 @@ returns c i secret h small e =
       bounded = bounded c.before i h;
       exact = λ trace m.
           searched_end Strong (automaton_of a.args.table.now a.args.header) (secret_of secret a.args.estimator.count) trace
-          c.before.before.steps.l
-          (verdict_at c.before.with_steps-found.result i) (omega arith) (tested c.before i secret h small e _ trace a.pre.looks m);
+          c.steps.l
+          (verdict_at c.with_steps-found.result i) (omega arith) (tested c.before i secret h small e _ trace a.pre.looks m);
     }
 
 -- the events that show the symbol before
 showing : (c : tie.After-events_with-shown invariant-steps decreases-steps) (p : Automaton) → Good c.before.before.before p
-    → Showing p (get_or (begin c.before.before.before).args.estimator.symbols-1 c.before.before.before.steps.l 0) c.events_with-shown.result
+    → Showing p (get_or (begin c.before.before.before).args.estimator.symbols c.steps.l 0) c.events_with-shown.result
 showing c p g = c.events_with-shown.ensures p g.symbols_small g.sets_are
 
 array-read-events-with : tie.Need-bounds-symbols-at invariant-steps decreases-steps
@@ -142,14 +142,14 @@ steps-less c = omega arith
 steps-again : tie.Need-steps-preserved invariant-steps decreases-steps
 steps-again c =
     let a = (begin c.before.before.before.before).args in
-    let s = c.before.before.before.before.steps in (
+    let s = c.steps in (
       λ i secret h small e. (
         four (λ j. set_at c.backward_reaches-then.result j < 2 ^ 64) (search rules) (search rules) (search rules) (search rules) i h,
         λ p trace g m. (
           tested c.before.before.before i secret h small e p trace g m,
           follows_step p _ trace _ _ _ _ _ m (omega arith)
               (subst (λ (x : ℕ). Is (set_at c.backward_reaches-then.result i)
-              (Leaves p x (get_or a.estimator.symbols-1 s.l 0 ∷ drop (length trace - s.l) trace))) e
+              (Leaves p x (get_or a.estimator.symbols s.l 0 ∷ drop (length trace - s.l) trace))) e
               (c.backward_reaches-then.ensures i p _ _ h g.table_is (showing c.before p g) (g.back_are (omega arith))
               (λ q j. (in_and q a.states (complement secret) (subst (λ (x : ℕ). In q x) e j)).0)
               (subst (λ (x : ℕ). Is (set_at s.then i) (Leaves p x (drop (length trace - s.l) trace))) (sym e)

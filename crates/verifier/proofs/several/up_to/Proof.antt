@@ -54,22 +54,22 @@ returns c = (
   λ e. refl,
   λ notion p secret n symbols entries few f.
       cut_past notion p secret n _ symbols entries few _ (omega (arith, c.if-last-l.true))
-      (subst (λ (v : Verdict). Found notion p (secret_of secret n) n symbols entries v) c.before.before.found-1.given.1 f),
+      (subst (λ (v : Verdict). Found notion p (secret_of secret n) n symbols entries v) c.in-Leak.is f),
 )
 
 returns-2 : tie.Need-returns-in-NoLeak
 returns-2 c = (
   λ e. refl,
   λ notion p secret n symbols entries few f. cut_none notion p secret n _ symbols entries few
-      (subst (λ (v : Verdict). Found notion p (secret_of secret n) n symbols entries v) c.enum_told-1.given.1 f),
+      (subst (λ (v : Verdict). Found notion p (secret_of secret n) n symbols entries v) c.in-NoLeak.is f),
 )
 
 returns-3 : tie.Need-returns-else-last-l
 returns-3 c = (
-  λ e. absurd (leak_not _ (sym c.before.before.found-1.given.1 ∙ e)),
+  λ e. absurd (leak_not _ (sym c.in-Leak.is ∙ e)),
   λ notion p secret n symbols entries few f.
       cut_leak notion p secret n _ symbols entries few _ (omega (arith, c.if-last-l.false))
-      (subst (λ (v : Verdict). Found notion p (secret_of secret n) n symbols entries v) c.before.before.found-1.given.1 f),
+      (subst (λ (v : Verdict). Found notion p (secret_of secret n) n symbols entries v) c.in-Leak.is f),
 )
 
 pub up_to_spec : {M : Type 1} → statement M

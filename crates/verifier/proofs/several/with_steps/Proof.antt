@@ -17,7 +17,7 @@ with-step-requires-4 : tie.Need-with_step-requires-4
 with-step-requires-4 c κs = search rules
 
 returns : tie.Need-returns
-returns c = four _ c.before.before.before.with-step.ensures c.before.before.with_step-2.ensures c.before.with_step-3.ensures
+returns c = four _ c.with_step.ensures c.with_step-2.ensures c.with_step-3.ensures
     c.with_step-4.ensures
 
 pub with_steps_spec : {M : Type 1} → statement M

@@ -22,7 +22,7 @@ abbrev decreases-loop : tie.decreases-loop-observable
 decreases-loop observable secret start pairs q₀ at₀ q at = length pairs - at
 
 loop-holds : tie.Need-loop-observable-init invariant-loop decreases-loop
-loop-holds c = (omega arith, omega (arith, c.before.ranges.start.fits), λ p steps o e. scan_start _ _ _ _ _ e)
+loop-holds c = (omega arith, omega (arith, c.ranges.start.fits), λ p steps o e. scan_start _ _ _ _ _ e)
 
 cast-member : tie.Need-overflow_cast-q invariant-loop decreases-loop
 cast-member c = omega (arith, c.loop-observable.invariant.1)
@@ -30,39 +30,38 @@ cast-member c = omega (arith, c.loop-observable.invariant.1)
 member-requires : tie.Need-member-requires invariant-loop decreases-loop
 member-requires c κs = search rules
 
-within : (c : tie.Else-not-member invariant-loop decreases-loop) → In c.before.before.loop-observable.q c.before.before.before.before.args.secret
-within c = holds c.before.member.result (not-false _ c.if-not-member.false) c.before.member.ensures
+within : (c : tie.Else-not-member invariant-loop decreases-loop) → In c.loop-observable.q c.args.secret
+within c = holds c.member.result (not-false _ c.if-not-member.false) c.member.ensures
 
 returns : tie.Need-returns-then-not-member invariant-loop decreases-loop
 returns c = λ p steps o e.
-    scan_clear _ _ _ _ _ _ (fails c.before.member.result (not-true _ c.if-not-member.true) c.before.member.ensures)
-    (c.before.before.loop-observable.invariant.2 p steps o e)
+    scan_clear _ _ _ _ _ _ (fails c.member.result (not-true _ c.if-not-member.true) c.member.ensures)
+    (c.loop-observable.invariant.2 p steps o e)
 
 sub-if2 : tie.Need-overflow_sub-pairs invariant-loop decreases-loop
-sub-if2 c = c.before.before.loop-observable.invariant.0
+sub-if2 c = c.loop-observable.invariant.0
 
 returns-2 : tie.Need-returns-then-pairs-at-lt2 invariant-loop decreases-loop
 returns-2 c = λ p steps o e.
-    let l = c.before.before.before.loop-observable in
-    let pairs = c.before.before.before.before.before.args.pairs.now in
+    let l = c.loop-observable in
+    let pairs = c.args.pairs.now in
     scan_end _ _ _ _ _ _ (within c.before) (omega (arith, c.if-pairs-at-lt2.true, length-drop l.at pairs)) (l.invariant.2 p steps o e)
 
 shared-slice-read-member : tie.Need-bounds-pairs-at invariant-loop decreases-loop
-shared-slice-read-member c = omega (arith, c.before.if-pairs-at-lt2.false, c.before.before.before.before.loop-observable.invariant.0)
+shared-slice-read-member c = omega (arith, c.if-pairs-at-lt2.false, c.loop-observable.invariant.0)
 
 cast-member-2 : tie.Need-overflow_cast-pairs invariant-loop decreases-loop
-cast-member-2 c = omega (arith, (c.shared_slice_known-in-loop-observable-1.given c.before.before.before.before.loop-observable.at).fits)
+cast-member-2 c = omega (arith, (c.shared_slice_known-in-loop-observable-1.given c.loop-observable.at).fits)
 
 member-requires-2 : tie.Need-member-requires-in-loop-observable invariant-loop decreases-loop
 member-requires-2 c κs = search rules
 
 returns-3 : tie.Need-returns-then-member invariant-loop decreases-loop
 returns-3 c = λ p steps o e.
-    let w = c.before.before.before in
-    let l = w.before.before.before.loop-observable in
-    let pairs = w.before.before.before.before.before.args.pairs.now in
-    scan_shown _ _ _ _ _ o _ _ _ _ (within w.before) (holds c.before.member-in-loop-observable.result c.if-member.true c.before.member-in-loop-observable.ensures)
-    (subst (Scanned _ _ _ _ _) (pair-at pairs l.at (omega (arith, w.if-pairs-at-lt2.false, l.invariant.0))) (l.invariant.2 p steps o e))
+    let l = c.loop-observable in
+    let pairs = c.args.pairs.now in
+    scan_shown _ _ _ _ _ o _ _ _ _ (within c.before.before.before.before) (holds c.member-in-loop-observable.result c.if-member.true c.member-in-loop-observable.ensures)
+    (subst (Scanned _ _ _ _ _) (pair-at pairs l.at (omega (arith, c.if-pairs-at-lt2.false, l.invariant.0))) (l.invariant.2 p steps o e))
 
 add-q : tie.Need-overflow_add-q invariant-loop decreases-loop
 add-q c = omega arith
@@ -78,15 +77,14 @@ loop-less c = omega arith
 
 loop-again : tie.Need-loop-observable-preserved invariant-loop decreases-loop
 loop-again c =
-    let w = c.before.before.before.before in
-    let l = w.before.before.before.loop-observable in
-    let pairs = w.before.before.before.before.before.args.pairs.now in
-    let m = c.before.before.member-in-loop-observable in (
-      omega (arith, w.if-pairs-at-lt2.false, l.invariant.0),
+    let l = c.loop-observable in
+    let pairs = c.args.pairs.now in
+    let m = c.member-in-loop-observable in (
+      omega (arith, c.if-pairs-at-lt2.false, l.invariant.0),
       omega (arith, (c.shared_slice_known-in-loop-observable-2-1.given (l.at + 1)).fits),
-      λ p steps o e. scan_turn _ _ _ _ _ o _ _ _ _ (within w.before)
-          (fails m.result c.before.if-member.false m.ensures)
-          (subst (Scanned _ _ _ _ _) (pair-at pairs l.at (omega (arith, w.if-pairs-at-lt2.false, l.invariant.0))) (l.invariant.2 p steps o e)),
+      λ p steps o e. scan_turn _ _ _ _ _ o _ _ _ _ (within c.before.before.before.before.before)
+          (fails m.result c.if-member.false m.ensures)
+          (subst (Scanned _ _ _ _ _) (pair-at pairs l.at (omega (arith, c.if-pairs-at-lt2.false, l.invariant.0))) (l.invariant.2 p steps o e)),
     )
 
 pub has_clear_spec : {M : Type 1} → statement M

@@ -25,25 +25,25 @@ decreases-loop table observable symbols last k allowed start pairs q₀ left₀ 
 
 -- the bytes at the place, where two are left
 pair : (c : tie.Else-pairs-at-lt2 invariant-loop decreases-loop)
-    → ◌≡◌ {A = List ℕ} (drop c.before.before.loop-at.at c.before.before.before.before.before.args.pairs.now)
-    (get_or c.before.before.before.before.before.args.pairs.now c.before.before.loop-at.at 0
-    ∷ get_or c.before.before.before.before.before.args.pairs.now (c.before.before.loop-at.at + 1) 0
-    ∷ drop (c.before.before.loop-at.at + 2) c.before.before.before.before.before.args.pairs.now)
+    → ◌≡◌ {A = List ℕ} (drop c.loop-at.at c.args.pairs.now)
+    (get_or c.args.pairs.now c.loop-at.at 0
+    ∷ get_or c.args.pairs.now (c.loop-at.at + 1) 0
+    ∷ drop (c.loop-at.at + 2) c.args.pairs.now)
 pair c =
-    let l = c.before.before.loop-at in
-    pair-at c.before.before.before.before.before.args.pairs.now l.at (omega (arith, c.if-pairs-at-lt2.false, c.before.loop-at-test.true))
+    let l = c.loop-at in
+    pair-at c.args.pairs.now l.at (omega (arith, c.if-pairs-at-lt2.false, c.loop-at-test.true))
 
 loop-holds : tie.Need-loop-at-init invariant-loop decreases-loop
 loop-holds c = (omega arith, omega arith, λ initial. read_start _ _ _ _ _)
 
 sub-if1 : tie.Need-overflow_sub-pairs invariant-loop decreases-loop
-sub-if1 c = c.before.loop-at.invariant.0
+sub-if1 c = c.loop-at.invariant.0
 
 returns : tie.Need-returns-then-pairs-at-lt2 invariant-loop decreases-loop
 returns c = λ initial.
-    let l = c.before.before.loop-at in
-    let pairs = c.before.before.before.before.before.args.pairs.now in
-    read_odd _ _ _ _ _ _ _ _ (l.invariant.2 initial) (omega (arith, c.if-pairs-at-lt2.true, c.before.loop-at-test.true, length-drop l.at pairs))
+    let l = c.loop-at in
+    let pairs = c.args.pairs.now in
+    read_odd _ _ _ _ _ _ _ _ (l.invariant.2 initial) (omega (arith, c.if-pairs-at-lt2.true, c.loop-at-test.true, length-drop l.at pairs))
 
 shared-slice-read-event : tie.Need-bounds-pairs-at invariant-loop decreases-loop
 shared-slice-read-event c = omega arith
@@ -55,30 +55,27 @@ shared-slice-read-to : tie.Need-bounds-pairs-at-in-loop-at invariant-loop decrea
 shared-slice-read-to c = omega arith
 
 transition-requires : tie.Need-transition-requires invariant-loop decreases-loop
-transition-requires c κs = c.before.before.before.before.before.before.before.requires.0
+transition-requires c κs = c.requires.0
 
 returns-2 : tie.Need-returns-then-not-transition invariant-loop decreases-loop
 returns-2 c = λ initial.
-    let e = c.before.before.before.before in
-    read_no_transition _ _ _ _ _ _ _ _ (e.before.before.loop-at.invariant.2 initial) _ _ _ (pair e)
-    (fails c.before.transition.result (not-true _ c.if-not-transition.true) c.before.transition.ensures)
+    read_no_transition _ _ _ _ _ _ _ _ (c.loop-at.invariant.2 initial) _ _ _ (pair c.before.before.before.before)
+    (fails c.transition.result (not-true _ c.if-not-transition.true) c.transition.ensures)
 
 cast-member : tie.Need-overflow_cast-to invariant-loop decreases-loop
-cast-member c = omega (arith, (c.before.before.shared_slice_known-in-loop-at-2-1.given (c.before.before.before.before.before.before.loop-at.at + 1)).fits)
+cast-member c = omega (arith, (c.shared_slice_known-in-loop-at-2-1.given (c.loop-at.at + 1)).fits)
 
 member-requires : tie.Need-member-requires invariant-loop decreases-loop
 member-requires c κs = search rules
 
 returns-3 : tie.Need-returns-then-not-member invariant-loop decreases-loop
 returns-3 c = λ initial.
-    let e = c.before.before.before.before.before.before in
-    read_outside _ _ _ _ _ _ _ _ (e.before.before.loop-at.invariant.2 initial) _ _ _ (pair e)
-    (fails c.before.member.result (not-true _ c.if-not-member.true) c.before.member.ensures)
+    read_outside _ _ _ _ _ _ _ _ (c.loop-at.invariant.2 initial) _ _ _ (pair c.before.before.before.before.before.before)
+    (fails c.member.result (not-true _ c.if-not-member.true) c.member.ensures)
 
 left-after-requires : tie.Need-left_after-requires invariant-loop decreases-loop
 left-after-requires c κs =
-    let e = c.before.before.before.before.before.before in
-    omega (arith, e.before.before.loop-at.invariant.1, e.before.before.before.before.before.requires.1)
+    omega (arith, c.loop-at.invariant.1, c.requires.1)
 
 enum-known-l : tie.Need-enum_known-l invariant-loop decreases-loop
 enum-known-l c = search rules
@@ -88,11 +85,9 @@ enum_told c = search rules
 
 returns-4 : tie.Need-returns-in_default invariant-loop decreases-loop
 returns-4 c = λ initial.
-    let e = c.before.before.before.before.before.before.before.before.before in
-    let s = e.before.before.before.before.before in
-    let f = c.before.before.left_After in
-    read_wrong _ _ _ _ _ _ _ _ (e.before.before.loop-at.invariant.2 initial) _ _ _ (pair e)
-    (subst (LeftAfter _ _ _ _) c.enum_told-1.given.1 (f.ensures s.args.table.now initial))
+    let f = c.left_After in
+    read_wrong _ _ _ _ _ _ _ _ (c.loop-at.invariant.2 initial) _ _ _ (pair c.before.before.before.before.before.before.before.before)
+    (subst (LeftAfter _ _ _ _) c.in_default.is (f.ensures c.args.table.now initial))
 
 abbrev up : tie.In-Symbols invariant-loop decreases-loop → tie.Else-pairs-at-lt2 invariant-loop decreases-loop
 up c = c.before.before.before.before.before.before.before.before.before.before
@@ -100,33 +95,33 @@ up c = c.before.before.before.before.before.before.before.before.before.before
 add_at : tie.Need-overflow_add-at invariant-loop decreases-loop
 add_at c =
     let e = up c in
-    omega (arith, e.if-pairs-at-lt2.left, e.before.loop-at-test.taken)
+    omega (arith, e.if1.left, e.before.loop-test.taken)
 
 loop-less : tie.Need-loop-at-smaller invariant-loop decreases-loop
 loop-less c =
     let e = up c in
-    omega (arith, e.if-pairs-at-lt2.left, e.before.loop-at-test.taken)
+    omega (arith, e.if1.left, e.before.loop-test.taken)
 
 -- what is left after the event
 after : (c : tie.In-Symbols invariant-loop decreases-loop) (initial : ℕ)
     → (let a = (up c).before.before.before.before.before.args in
-    LeftAfter (automaton_with a.table.now initial a.observable a.symbols) a.last (up c).before.before.loop-at.left
-    (get_or a.pairs.now (up c).before.before.loop-at.at 0) (left.Symbols c.before.l-1.given.0.0))
+    LeftAfter (automaton_with a.table.now initial a.observable a.symbols) a.last (up c).before.before.loop.left
+    (get_or a.pairs.now (up c).before.before.loop.at 0) (left.Symbols c.in-Symbols.l))
 after c initial =
-    let f = c.before.before.before.left_After in
-    subst (LeftAfter _ _ _ _) c.before.l-1.given.1 (f.ensures (up c).before.before.before.before.before.args.table.now initial)
+    let f = c.left_After in
+    subst (LeftAfter _ _ _ _) c.in-Symbols.is (f.ensures (up c).before.before.before.before.before.args.table.now initial)
 
 loop-again : tie.Need-loop-at-preserved invariant-loop decreases-loop
 loop-again c =
     let e = up c in
-    let l = e.before.before.loop-at in
-    let m = c.before.before.before.before.before.member in
-    let t = c.before.before.before.before.before.before.before.transition in (
-      omega (arith, e.if-pairs-at-lt2.left, e.before.loop-at-test.taken),
+    let l = e.before.before.loop in
+    let m = c.member in
+    let t = c.transition in (
+      omega (arith, e.if1.left, e.before.loop-test.taken),
       omega (arith, (after c 0).0, l.inv.1),
       λ initial. read_turn _ _ _ _ _ _ _ _ (l.inv.2 initial) _ _ _ (pair e) _
-          (holds t.result (not-false _ c.before.before.before.before.before.before.if-not-transition.false) t.ensures)
-          (holds m.result (not-false _ c.before.before.before.before.if-not-member.false) m.ensures)
+          (holds t.result (not-false _ c.if-not-transition.false) t.ensures)
+          (holds m.result (not-false _ c.if-not-member.false) m.ensures)
           (after c initial).1,
     )
 
@@ -145,16 +140,14 @@ none_left last (suc n) e = let z : ◌≡◌ {A = ℕ} 0 1 = cc in absurd (omega
 
 returns-5 : tie.Need-returns-then-left-ne0 invariant-loop decreases-loop
 returns-5 c = λ initial.
-    let l = c.before.before.loop-at in
-    let s = c.before.before.before.before.before in
-    read_short _ _ _ _ _ _ _ _ (l.invariant.2 initial) (all_read s.args.pairs.now l.at l.invariant.0 (λ h. omega (arith, c.before.loop-at-test.false)))
+    let l = c.loop-at in
+    read_short _ _ _ _ _ _ _ _ (l.invariant.2 initial) (all_read c.args.pairs.now l.at l.invariant.0 (λ h. omega (arith, c.loop-at-test.false)))
     (λ e. c.if-left-ne0.true (none_left _ l.left e))
 
 returns-6 : tie.Need-returns invariant-loop decreases-loop
 returns-6 c = λ initial.
-    let l = c.before.before.loop-at in
-    let s = c.before.before.before.before.before in
-    read_end _ _ _ _ _ _ _ _ (l.invariant.2 initial) (all_read s.args.pairs.now l.at l.invariant.0 (λ h. omega (arith, c.before.loop-at-test.false)))
+    let l = c.loop-at in
+    read_end _ _ _ _ _ _ _ _ (l.invariant.2 initial) (all_read c.args.pairs.now l.at l.invariant.0 (λ h. omega (arith, c.loop-at-test.false)))
     (last_none _ l.left (omega arith))
 
 pub is_run_spec : {M : Type 1} → statement M

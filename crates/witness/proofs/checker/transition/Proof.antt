@@ -29,12 +29,12 @@ member-requires c κs = search rules
 
 returns-3 : tie.Need-returns
 returns-3 c =
-    let a = c.before.before.before.before.before.args in
+    let a = c.args in
     decided_as c.member.result
     (λ i. record {
       from_small = omega arith;
       event_small = omega arith;
-      to_small = in_lt 64 a.to _ (c.before.shared_slice_known-2-1.given _).fits i;
+      to_small = in_lt 64 a.to _ (c.shared_slice_known-2-1.given _).fits i;
       listed = i;
     })
     (λ t. t.listed)

@@ -35,10 +35,10 @@ pick c = let x = c.loop-events.invariant.2.listed in taken c.loop-events.todo (f
 
 -- the event that is tried
 event : (c : tie.At-loop-events invariant-loop decreases-loop) → count_trailing_zeros 64 c.loop-events.todo < 32
-event c = c.before.requires.1 _ (c.loop-events.invariant.1 _ (pick c).inside)
+event c = c.requires.1 _ (c.loop-events.invariant.1 _ (pick c).inside)
 
 -- the state from which it is tried
-state : (c : tie.At-loop-events invariant-loop decreases-loop) → c.before.args.from < 64
+state : (c : tie.At-loop-events invariant-loop decreases-loop) → c.args.from < 64
 state c = c.loop-events.invariant.2.listed.2.from_small
 
 loop-holds : tie.Need-loop-events-init invariant-loop decreases-loop
@@ -57,24 +57,22 @@ mul-if1-2 : tie.Need-offset_bounds-table-e invariant-loop decreases-loop
 mul-if1-2 c = omega (arith, event c, state c)
 
 shared-slice-read-if1 : tie.Need-bounds-table-e invariant-loop decreases-loop
-shared-slice-read-if1 c = omega (arith, event c.before, state c.before, c.before.before.requires.0)
+shared-slice-read-if1 c = omega (arith, event c.before, state c.before, c.requires.0)
 
 cast-result : tie.Need-overflow_cast-result invariant-loop decreases-loop
 cast-result c = omega (arith, event c.before.before)
 
 returns : tie.Need-returns-then-table-e-ne0 invariant-loop decreases-loop
 returns c =
-    let w = c.before.before in
-    let s = w.before in
-    let m = meet (get_or s.args.table.now (64 * count_trailing_zeros 64 w.loop-events.todo + s.args.from) 0) s.args.into s.ranges.into.fits
+    let m = meet (get_or c.args.table.now (64 * count_trailing_zeros 64 c.loop-events.todo + c.args.from) 0) c.args.into c.ranges.into.fits
     c.if-table-e-ne0.true in (
-      w.loop-events.invariant.1 _ (pick w).inside,
-      (m.0, m.2, record { from_small = state w; event_small = event w; to_small = in_lt 64 _ _ s.ranges.into.fits m.2; listed = m.1 }),
+      c.loop-events.invariant.1 _ (pick c.before.before).inside,
+      (m.0, m.2, record { from_small = state c.before.before; event_small = event c.before.before; to_small = in_lt 64 _ _ c.ranges.into.fits m.2; listed = m.1 }),
     )
 
 sub-todo : tie.Need-overflow_sub-todo invariant-loop decreases-loop
 sub-todo c =
-    let l = c.before.before.loop-events in
+    let l = c.loop-events in
     let x = l.invariant.2.listed in
     omega (arith, full l.todo x.0 x.1)
 
@@ -93,10 +91,10 @@ left t todo e rest from into k none x = go (k.left x.listed.0 x.listed.1)
 
 loop-again : tie.Need-loop-events-preserved invariant-loop decreases-loop
 loop-again c =
-    let w = c.before.before in (
-      omega (arith, (pick w).less, w.loop-events.invariant.0),
-      λ e i. w.loop-events.invariant.1 e ((pick w).kept e i),
-      left _ _ _ _ _ _ (pick w) c.if-table-e-ne0.false w.loop-events.invariant.2,
+    (
+      omega (arith, (pick c.before.before).less, c.loop-events.invariant.0),
+      λ e i. c.loop-events.invariant.1 e ((pick c.before.before).kept e i),
+      left _ _ _ _ _ _ (pick c.before.before) c.if-table-e-ne0.false c.loop-events.invariant.2,
     )
 
 pub event_into_spec : {M : Type 1} → statement M

@@ -17,35 +17,34 @@ decreases-loop layers state d₀ d = 64 - d
 
 loop-holds : tie.Need-loop-state-init invariant-loop decreases-loop
 loop-holds c =
-    let x = c.before.requires.1 in
+    let x = c.requires.1 in
     (x.0, omega arith, x.1, x.2)
 
 mul-member : tie.Need-offset_bounds-layers-d invariant-loop decreases-loop
 mul-member c = omega (arith, c.loop-state.invariant.1, c.loop-state.invariant.2)
 
 shared-slice-read-member : tie.Need-bounds-layers-d invariant-loop decreases-loop
-shared-slice-read-member c = omega (arith, c.before.loop-state.invariant.1, c.before.loop-state.invariant.2, c.before.before.before.requires.0)
+shared-slice-read-member c = omega (arith, c.loop-state.invariant.1, c.loop-state.invariant.2, c.requires.0)
 
 member-requires : tie.Need-member-requires invariant-loop decreases-loop
 member-requires c κs = search rules
 
 returns : tie.Need-returns-then-member invariant-loop decreases-loop
 returns c =
-    let l = c.before.before.before.loop-state in
-    (omega (arith, l.invariant.1, l.invariant.2), holds c.before.member.result c.if-member.true c.before.member.ensures)
+    let l = c.loop-state in
+    (omega (arith, l.invariant.1, l.invariant.2), holds c.member.result c.if-member.true c.member.ensures)
 
 add-d : tie.Need-overflow_add-d invariant-loop decreases-loop
-add-d c = omega (arith, c.before.before.before.loop-state.invariant.1, c.before.before.before.loop-state.invariant.2)
+add-d c = omega (arith, c.loop-state.invariant.1, c.loop-state.invariant.2)
 
 loop-less : tie.Need-loop-state-smaller invariant-loop decreases-loop
-loop-less c = omega (arith, c.before.before.before.loop-state.invariant.1, c.before.before.before.loop-state.invariant.2)
+loop-less c = omega (arith, c.loop-state.invariant.1, c.loop-state.invariant.2)
 
 loop-again : tie.Need-loop-state-preserved invariant-loop decreases-loop
 loop-again c =
-    let l = c.before.before.before.loop-state in
-    let s = c.before.before.before.before.before in
-    let other : l.d ≡ l.invariant.0 → ⊥ = λ e. fails c.before.member.result c.if-member.false c.before.member.ensures
-    (subst (λ (n : ℕ). In s.args.state (get_or s.args.layers.now n 0)) (sym e) l.invariant.3) in
+    let l = c.loop-state in
+    let other : l.d ≡ l.invariant.0 → ⊥ = λ e. fails c.member.result c.if-member.false c.member.ensures
+    (subst (λ (n : ℕ). In c.args.state (get_or c.args.layers.now n 0)) (sym e) l.invariant.3) in
     (l.invariant.0, omega (arith, l.invariant.1), l.invariant.2, l.invariant.3)
 
 pub layer_of_spec : {M : Type 1} → statement M

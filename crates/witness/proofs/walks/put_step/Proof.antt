@@ -34,13 +34,13 @@ common a b q h i j =
 
 -- the state that the step leads to
 step : (c : tie.After-event_into-event)
-    → Common (get_or c.before.before.before.args.table.now (64 * c.event_into-event.result + c.before.before.before.args.state) 0)
-    c.before.before.before.args.into
-    (count_trailing_zeros 64 (bit_and (get_or c.before.before.before.args.table.now (64 * c.event_into-event.result + c.before.before.before.args.state) 0)
-    c.before.before.before.args.into))
+    → Common (get_or c.args.table.now (64 * c.event_into-event.result + c.args.state) 0)
+    c.args.into
+    (count_trailing_zeros 64 (bit_and (get_or c.args.table.now (64 * c.event_into-event.result + c.args.state) 0)
+    c.args.into))
 step c =
     let x = c.event_into-event.ensures.1 in
-    common _ _ x.0 c.before.before.before.ranges.into.fits x.2.listed x.1
+    common _ _ x.0 c.ranges.into.fits x.2.listed x.1
 
 event-into-requires : tie.Need-event_into-event-requires
 event-into-requires c κs = search rules
@@ -59,8 +59,8 @@ mul-to-2 c = search rules
 
 shared-slice-read-to : tie.Need-bounds-table-event
 shared-slice-read-to c =
-    let x = c.before.event_into-event.ensures.1.2 in
-    omega (arith, x.from_small, x.event_small, c.before.before.before.before.requires.0)
+    let x = c.event_into-event.ensures.1.2 in
+    omega (arith, x.from_small, x.event_small, c.requires.0)
 
 cast-to-2 : tie.Need-overflow_cast-to-2
 cast-to-2 c = omega (arith, (step c.before).small)
@@ -76,13 +76,12 @@ same_length c = search rules
 
 returns : tie.Need-returns
 returns c =
-    let e = c.before.before.before.before.before in
-    let x = e.event_into-event.ensures in
-    let y = step e in (
+    let x = c.event_into-event.ensures in
+    let y = step c.before.before.before.before.before in (
       (λ p allowed out same shows sub. moved_shows p allowed _ out _ _ _ _ _ _ (shows _ x.0)
           (moved_one p allowed _ _ _ _ _ _
           (rw same (record { from_small = x.1.2.from_small; event_small = x.1.2.event_small; to_small = y.small; listed = y.first }))
-          (sub _ y.second) c.before.before.put-pair.ensures)),
+          (sub _ y.second) c.put_pair.ensures)),
       y.second,
     )
 

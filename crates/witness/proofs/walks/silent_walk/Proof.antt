@@ -25,36 +25,36 @@ slice-aggregate-layers-to : tie.Need-slice_bounds-layers_to-end invariant-loop d
 slice-aggregate-layers-to c = search rules
 
 layers-to-requires : tie.Need-layers_to-requires invariant-loop decreases-loop
-layers-to-requires c κs = (c.before.before.before.before.requires.1.1.entered.size, refl)
+layers-to-requires c κs = (c.requires.1.1.entered.size, refl)
 
 slice-aggregate-layer-of : tie.Need-slice_bounds-layer_of-end invariant-loop decreases-loop
 slice-aggregate-layer-of c = search rules
 
 layer-of-requires : tie.Need-layer_of-d-requires invariant-loop decreases-loop
 layer-of-requires c κs =
-    let s = c.before.before.before.before.before.before.before.requires.1 in
-    let x = c.before.before.layers-to.ensures s.0 s.1.entered in
+    let s = c.requires.1 in
+    let x = c.layers_to.ensures s.0 s.1.entered in
     (x.size, in_layer _ _ _ _ _ _ x s.2)
 
 loop-holds : tie.Need-loop-d-init invariant-loop decreases-loop
 loop-holds c = λ p P.
-    walk_begin p _ _ _ _ _ _ _ _ (c.before.before.before.layers-to.ensures p P.entered) c.layer_of-d.ensures.0 c.layer_of-d.ensures.1
+    walk_begin p _ _ _ _ _ _ _ _ (c.layers_to.ensures p P.entered) c.layer_of-d.ensures.0 c.layer_of-d.ensures.1
 
 sub-d : tie.Need-overflow_sub-d invariant-loop decreases-loop
 sub-d c = omega arith
 
 mul-put-step : tie.Need-offset_bounds-layers-d invariant-loop decreases-loop
-mul-put-step c = let x = (begin c.before).pre.1 in omega (arith, (c.before.loop-d.invariant x.0 x.1).low)
+mul-put-step c = let x = (begin c.before).pre.1 in omega (arith, (c.loop-d.invariant x.0 x.1).low)
 
 array-read-put-step : tie.Need-bounds-layers-d invariant-loop decreases-loop
-array-read-put-step c = let x = (begin c.before).pre.1 in omega (arith, (c.before.loop-d.invariant x.0 x.1).low)
+array-read-put-step c = let x = (begin c.before).pre.1 in omega (arith, (c.loop-d.invariant x.0 x.1).low)
 
 put-step-requires : tie.Need-put_step-next-requires invariant-loop decreases-loop
 put-step-requires c κs =
     let s = begin c.before.before in
     let x = s.pre.1 in
-    let w = c.before.before.loop-d.invariant x.0 x.1 in
-    let h = c.before.loop-d-test.true in (
+    let w = c.loop-d.invariant x.0 x.1 in
+    let h = c.loop-d-test.true in (
       s.pre.0,
       (λ e i. (x.1.silent_are.sound e i).0),
       silent_onward x.0 _ _ _ x.1 _ _ (walk_down _ _ _ _ _ _ _ _ _ _ _ w h),
@@ -66,19 +66,19 @@ loop-less c = omega arith
 
 loop-again : tie.Need-loop-d-preserved invariant-loop decreases-loop
 loop-again c = λ p P.
-    let w = c.before.before.before.before.before.loop-d.invariant p P in
-    let q = c.before.before.put_step-next in
-    walk_turn _ _ _ _ _ _ _ _ _ _ _ w _ q.result c.before.before.before.before.loop-d-test.true
+    let w = c.loop-d.invariant p P in
+    let q = c.put_step-next in
+    walk_turn _ _ _ _ _ _ _ _ _ _ _ w _ q.result c.loop-d-test.true
     (λ allowed sub. q.ensures.0 p allowed [] P.table_is (λ e i. (P.silent_are.sound e i).1) sub) q.ensures.1
 
 same_length : tie.Need-shape_of-output invariant-loop decreases-loop
-same_length c = let x = (begin c.before).pre.1 in walk_size _ _ _ _ _ _ _ _ _ _ _ (c.before.loop-d.invariant x.0 x.1)
+same_length c = let x = (begin c.before).pre.1 in walk_size _ _ _ _ _ _ _ _ _ _ _ (c.loop-d.invariant x.0 x.1)
 
 returns : tie.Need-returns invariant-loop decreases-loop
 returns c =
     let x = (begin c.before).pre.1 in (
-      (λ p P. (walk_done _ _ _ _ _ _ _ _ _ _ _ (c.before.loop-d.invariant p P) (λ h. omega (arith, c.loop-d-test.false))).0),
-      (walk_done _ _ _ _ _ _ _ _ _ _ _ (c.before.loop-d.invariant x.0 x.1) (λ h. omega (arith, c.loop-d-test.false))).1,
+      (λ p P. (walk_done _ _ _ _ _ _ _ _ _ _ _ (c.loop-d.invariant p P) (λ h. omega (arith, c.loop-d-test.false))).0),
+      (walk_done _ _ _ _ _ _ _ _ _ _ _ (c.loop-d.invariant x.0 x.1) (λ h. omega (arith, c.loop-d-test.false))).1,
     )
 
 pub silent_walk_spec : {M : Type 1} → statement M

@@ -25,7 +25,7 @@ low u =
     omega (arith, (u.loop-i.invariant x.0 x.1 x.2).low, (begin u).requires.1)
 
 loop-holds : tie.Need-loop-i-init invariant-loop decreases-loop
-loop-holds c = λ p P L. go_begin p _ _ _ _ _ _ _ c.before.before.before.before.requires.3
+loop-holds c = λ p P L. go_begin p _ _ _ _ _ _ _ c.requires.3
 
 sub-i : tie.Need-overflow_sub-i invariant-loop decreases-loop
 sub-i c = omega arith
@@ -47,14 +47,13 @@ array-read-observable-walk c = omega (arith, low c.before.before)
 
 observable-walk-requires : tie.Need-observable_walk-next-requires invariant-loop decreases-loop
 observable-walk-requires c κs =
-    let u = c.before.before.before in
-    let s = begin u in
+    let s = begin c.before.before.before in
     let x = s.pre.2 in
     let P = x.1 in
-    let g = u.loop-i.invariant x.0 P x.2 in
-    let h = c.before.before.loop-i-test.true in (
+    let g = c.loop-i.invariant x.0 P x.2 in
+    let h = c.loop-i-test.true in (
       s.pre.0,
-      (x.0, P.silently, (_, c.before.events_with-events.ensures x.0 P.symbols_small P.sets_are, go_ahead _ _ _ _ _ _ _ _ _ _ _ _ g x.2 h)),
+      (x.0, P.silently, (_, c.events_with-events.ensures x.0 P.symbols_small P.sets_are, go_ahead _ _ _ _ _ _ _ _ _ _ _ _ g x.2 h)),
       go_room _ _ _ _ _ _ _ _ _ _ _ _ g h s.pre.4,
     )
 
@@ -63,19 +62,18 @@ loop-less c = omega arith
 
 loop-again : tie.Need-loop-i-preserved invariant-loop decreases-loop
 loop-again c = λ p P L.
-    let u = c.before.before.before.before.before.before in
-    let g = u.loop-i.invariant p P L in
-    let h = c.before.before.before.before.before.loop-i-test.true in
-    let w = c.before.before.observable_walk-next in
+    let g = c.loop-i.invariant p P L in
+    let h = c.loop-i-test.true in
+    let w = c.observable_walk-next in
     go_turn _ _ _ _ _ _ _ _ _ _ _ _ g _ w.result h
-    (w.ensures.0 p _ P.silently (c.before.before.before.before.events_with-events.ensures p P.symbols_small P.sets_are)
+    (w.ensures.0 p _ P.silently (c.events_with-events.ensures p P.symbols_small P.sets_are)
     (go_ahead _ _ _ _ _ _ _ _ _ _ _ _ g L h).among) w.ensures.1
 
 same_length : tie.Need-shape_of-output invariant-loop decreases-loop
-same_length c = let x = (begin c.before).pre.2 in go_size _ _ _ _ _ _ _ _ _ _ _ _ (c.before.loop-i.invariant x.0 x.1 x.2)
+same_length c = let x = (begin c.before).pre.2 in go_size _ _ _ _ _ _ _ _ _ _ _ _ (c.loop-i.invariant x.0 x.1 x.2)
 
 returns : tie.Need-returns invariant-loop decreases-loop
-returns c = λ p P L. go_done _ _ _ _ _ _ _ _ _ _ _ _ (c.before.loop-i.invariant p P L) (λ h. omega (arith, c.loop-i-test.false))
+returns c = λ p P L. go_done _ _ _ _ _ _ _ _ _ _ _ _ (c.loop-i.invariant p P L) (λ h. omega (arith, c.loop-i-test.false))
 
 pub follow_symbols_spec : {M : Type 1} → statement M
 follow_symbols_spec =

@@ -9,7 +9,7 @@ slice-aggregate-silent-rows : tie.Need-slice_bounds-silent_rows-end
 slice-aggregate-silent-rows c = search rules
 
 silent-rows-requires : tie.Need-silent_rows-near-requires
-silent-rows-requires c κs = (c.before.before.before.before.requires.0.words, known_none _ _)
+silent-rows-requires c κs = (c.requires.0.words, known_none _ _)
 
 slice-aggregate-silent-back : tie.Need-slice_bounds-silent_back-end
 slice-aggregate-silent-back c = search rules
@@ -28,10 +28,9 @@ same-length-2 c = search rules
 
 returns : tie.Need-returns
 returns c =
-    let s = c.before.before.before.before.before.before.before.before.before.before.before.before.before.before.before in
-    let r = c.before.before.before.before.before.before.before.before.before.before.silent_rows-near in
-    prepared s.args.table.now s.args.header _ _ _ r.result (search rules) s.requires.0.symbols_small r.ensures
-    (λ k. c.before.before.before.before.before.before.silent-back.ensures _ k) (c.before.before.by-symbol.ensures _)
+    let r = c.silent_rows-near in
+    prepared c.args.table.now c.args.header _ _ _ r.result (search rules) c.requires.0.symbols_small r.ensures
+    (λ k. c.silent_back.ensures _ k) (c.by_symbol.ensures _)
 
 pub prepare_spec : {M : Type 1} → statement M
 prepare_spec =

@@ -15,46 +15,40 @@ array-read-target : tie.Need-bounds-then-n
 array-read-target c = search rules
 
 closure-requires : tie.Need-closure-reached-requires
-closure-requires c κs = c.before.before.before.before.requires.2.1.silently.entered.size
+closure-requires c κs = c.requires.2.1.silently.entered.size
 
 returns : tie.Need-returns-then-starts-eq0
 returns c = λ p P L.
-    let s = c.before.before.before.before.before.before in
-    no_run (no_start p _ _ s.ranges.allowed.fits s.ranges.secret.fits _ _ (L s.args.k (omega arith)) _
-    (closure_leads p _ P.silently.entered _ _ _ s.ranges.allowed.fits c.before.closure-reached.ensures) _ c.if-starts-eq0.true)
+    no_run (no_start p _ _ c.ranges.allowed.fits c.ranges.secret.fits _ _ (L c.args.k (omega arith)) _
+    (closure_leads p _ P.silently.entered _ _ _ c.ranges.allowed.fits c.closure-reached.ensures) _ c.if-starts-eq0.true)
 
 cast-start : tie.Need-overflow_cast-start
 cast-start c =
-    let s = c.before.before.before.before.before.before in
-    let a = s.requires.2 in
-    let x = some_start a.0 _ _ s.ranges.allowed.fits s.ranges.secret.fits _ _ (a.2 s.args.k (omega arith)) _
-    (closure_leads a.0 _ a.1.silently.entered _ _ _ s.ranges.allowed.fits c.before.closure-reached.ensures) _ s.ranges.entry.fits c.if-starts-eq0.false
+    let a = c.requires.2 in
+    let x = some_start a.0 _ _ c.ranges.allowed.fits c.ranges.secret.fits _ _ (a.2 c.args.k (omega arith)) _
+    (closure_leads a.0 _ a.1.silently.entered _ _ _ c.ranges.allowed.fits c.closure-reached.ensures) _ c.ranges.entry.fits c.if-starts-eq0.false
     (omega arith) in
     omega (arith, x.small)
 
 silent-walk-requires : tie.Need-silent_walk-clear-requires
 silent-walk-requires c κs =
-    let e = c.before in
-    let s = e.before.before.before.before.before.before in
-    let a = s.requires.2 in
-    let x = some_start a.0 _ _ s.ranges.allowed.fits s.ranges.secret.fits _ _ (a.2 s.args.k (omega arith)) _
-    (closure_leads a.0 _ a.1.silently.entered _ _ _ s.ranges.allowed.fits e.before.closure-reached.ensures) _ s.ranges.entry.fits e.if-starts-eq0.false
+    let a = c.requires.2 in
+    let x = some_start a.0 _ _ c.ranges.allowed.fits c.ranges.secret.fits _ _ (a.2 c.args.k (omega arith)) _
+    (closure_leads a.0 _ a.1.silently.entered _ _ _ c.ranges.allowed.fits c.closure-reached.ensures) _ c.ranges.entry.fits c.if-starts-eq0.false
     (omega arith) in
-    (s.requires.0, (a.0, a.1.silently, x.leads), omega (arith, s.requires.3))
+    (c.requires.0, (a.0, a.1.silently, x.leads), omega (arith, c.requires.3))
 
 follow-symbols-requires : tie.Need-follow_symbols-last-requires
 follow-symbols-requires c κs =
-    let e = c.before.before.before.before.before in
-    let s = e.before.before.before.before.before.before in
-    let a = s.requires.2 in
-    let w = c.before.before.before.silent_walk-clear in
+    let a = c.requires.2 in
+    let w = c.silent_walk-clear in
     let m = w.ensures.0 a.0 a.1.silently in (
-      s.requires.0,
-      s.requires.1,
+      c.requires.0,
+      c.requires.1,
       (a.0, a.1, a.2),
-      (clear_state a.0 _ _ s.ranges.allowed.fits s.ranges.secret.fits _ _ (a.2 s.args.k (omega arith)) _
-          (closure_leads a.0 _ a.1.silently.entered _ _ _ s.ranges.allowed.fits e.before.closure-reached.ensures) s.args.entry _ w.ensures.1).0,
-      omega (arith, s.requires.1, s.requires.3, moved_size _ _ _ _ _ _ _ _ _ m, moved_place _ _ _ _ _ _ _ _ _ m),
+      (clear_state a.0 _ _ c.ranges.allowed.fits c.ranges.secret.fits _ _ (a.2 c.args.k (omega arith)) _
+          (closure_leads a.0 _ a.1.silently.entered _ _ _ c.ranges.allowed.fits c.closure-reached.ensures) c.args.entry _ w.ensures.1).0,
+      omega (arith, c.requires.1, c.requires.3, moved_size _ _ _ _ _ _ _ _ _ m, moved_place _ _ _ _ _ _ _ _ _ m),
     )
 
 same_length : tie.Need-shape_of-output
@@ -62,15 +56,13 @@ same_length c = search rules
 
 returns-2 : tie.Need-returns
 returns-2 c = λ p P L.
-    let e = c.before.before.before.before.before.before.before.before.before in
-    let s = e.before.before.before.before.before.before in
-    let T = L s.args.k (omega arith) in
-    let found = closure_leads p _ P.silently.entered _ _ _ s.ranges.allowed.fits e.before.closure-reached.ensures in
-    let x = some_start p _ _ s.ranges.allowed.fits s.ranges.secret.fits _ _ T _ found _ s.ranges.entry.fits e.if-starts-eq0.false (omega arith) in
-    let w = c.before.before.before.before.before.before.before.silent_walk-clear in
-    let f = c.before.before.before.follow_symbols-last in
-    run_started p _ _ s.ranges.allowed.fits s.ranges.secret.fits _ _ T _ found _ s.args.k _ _ _ _ w.result f.result
-    s.requires.1 s.requires.3 x.inside x.leads (w.ensures.0 p P.silently) w.ensures.1 (f.ensures p P L)
+    let T = L c.args.k (omega arith) in
+    let found = closure_leads p _ P.silently.entered _ _ _ c.ranges.allowed.fits c.closure-reached.ensures in
+    let x = some_start p _ _ c.ranges.allowed.fits c.ranges.secret.fits _ _ T _ found _ c.ranges.entry.fits c.if-starts-eq0.false (omega arith) in
+    let w = c.silent_walk-clear in
+    let f = c.follow_symbols-last in
+    run_started p _ _ c.ranges.allowed.fits c.ranges.secret.fits _ _ T _ found _ c.args.k _ _ _ _ w.result f.result
+    c.requires.1 c.requires.3 x.inside x.leads (w.ensures.0 p P.silently) w.ensures.1 (f.ensures p P L)
 
 pub write_run_spec : {M : Type 1} → statement M
 write_run_spec =

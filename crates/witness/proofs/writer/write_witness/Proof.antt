@@ -41,11 +41,11 @@ begin x = x.before.before.before.before.before.before.before.before.before.befor
 few : (x : tie.After-sets-3-1) → (begin x).args.k ≤ 15
 few x =
     let s = begin x in
-    omega (arith, look_back_small s.args.header s.args.estimator.further s.pre.0.back-1 s.pre.1.allowed, s.pre.1.few, s.pre.2)
+    omega (arith, look_back_small s.args.header s.args.estimator.further s.pre.0.back s.pre.1.allowed, s.pre.1.few, s.pre.2)
 
 look-back-requires : tie.Need-look_back-then-requires
 look-back-requires c κs =
-    let P = c.before.before.before.before.before.prepare.ensures in
+    let P = c.prepare.ensures in
     ((begin c).requires.0.words, P.silently.entered.size, P.sets_are.size, few c, (_, _, P))
 
 slice-aggregate-write-run : tie.Need-slice_bounds-write_run-end
@@ -56,23 +56,21 @@ slice-aggregate-write-run-2 c = search rules
 
 write-run-requires : tie.Need-write_run-requires
 write-run-requires c κs =
-    let x = c.before.before.before.before in
-    let s = begin x in
-    let P = x.before.before.before.before.before.prepare.ensures in
-    (s.pre.0.words, few x, (_, P, c.before.before.before.look_back-then.ensures _ _ P), s.pre.3)
+    let s = begin c.before.before.before.before in
+    let P = c.prepare.ensures in
+    (s.pre.0.words, few c.before.before.before.before, (_, P, c.look_back-then.ensures _ _ P), s.pre.3)
 
 same_length : tie.Need-shape_of-output
 same_length c = search rules
 
 returns : tie.Need-returns
 returns c =
-    let x = c.before.before.before.before.before.before.before in
-    let s = begin x in
-    let P = x.before.before.before.before.before.prepare.ensures in
-    let e = x.before.before.before.before.before.before.before.before.before.word_at-entry in
+    let s = begin c.before.before.before.before.before.before.before in
+    let P = c.prepare.ensures in
+    let e = c.word_at-entry in
     candidate_written _ s.args.estimator s.args.notion _ _ s.fits.secret.fits _ e.ensures.0 e.ensures.1 _
-    x.before.before.allowed_by-allowed.ensures _ _ _
-    (c.before.before.write-run.ensures _ P (c.before.before.before.before.before.before.look_back-then.ensures _ _ P))
+    c.allowed_by-allowed.ensures _ _ _
+    (c.write_run.ensures _ P (c.look_back-then.ensures _ _ P))
 
 pub write_witness_spec : {M : Type 1} → statement M
 write_witness_spec =

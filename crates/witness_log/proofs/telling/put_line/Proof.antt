@@ -53,10 +53,10 @@ mul-n c = omega (arith, (room c).0)
 sub-witness : tie.Need-overflow-sub-witness
 sub-witness c = search rules
 
-part-witness-start : tie.Need-slice_bounds-witness-start
+part-witness-start : tie.Need-slice-bounds-witness-start
 part-witness-start c = search rules
 
-part-witness-end : tie.Need-slice_bounds-witness-end
+part-witness-end : tie.Need-slice-bounds-witness-end
 part-witness-end c = (room c.before.before).1
 
 witness-requires-2 : tie.Need-witness-requires-2

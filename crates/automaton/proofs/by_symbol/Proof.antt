@@ -31,7 +31,7 @@ seen : (c : tie.In-loop-todo invariant-loop decreases-loop) → In (count_traili
 seen c = c.loop-todo.invariant.3 _ (next c).inside
 
 abbrev symbol_in : tie.In-loop-todo invariant-loop decreases-loop → ℕ
-symbol_in c = get_or c.before.before.before.before.args.header.symbols (count_trailing_zeros 64 c.before.loop.todo) 0
+symbol_in c = get_or c.args.header.symbols (count_trailing_zeros 64 c.loop-todo.todo) 0
 
 small : (c : tie.In-loop-todo invariant-loop decreases-loop) → symbol_in c ≤ 31
 small c = c.requires.0 _ (seen c)
@@ -45,12 +45,12 @@ loop-holds c =
     (omega arith, ap length empty ∙ refl, omega arith, λ e i. i, λ k h. sort_start _ _ k _ (ap (λ (l : List ℕ). get_or l k 0) empty ∙ zeros 32 k))
 
 cast-e : tie.Need-overflow_cast-e invariant-loop decreases-loop
-cast-e c = omega (arith, (next c).small)
+cast-e c = omega (arith, (taken c.loop-todo.todo (omega arith) c.loop-todo.invariant.0).small)
 
 array-read-s : tie.Need-bounds-symbols-e invariant-loop decreases-loop
 array-read-s c =
     let v = c.loop-todo.invariant in
-    omega (arith, in_lt 32 _ _ v.2 (v.3 _ (next c).inside))
+    omega (arith, in_lt 32 _ _ v.2 (v.3 _ (taken c.loop-todo.todo (omega arith) v.0).inside))
 
 cast-s : tie.Need-overflow_cast-s invariant-loop decreases-loop
 cast-s c = omega (arith, small c)

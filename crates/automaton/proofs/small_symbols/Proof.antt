@@ -33,12 +33,12 @@ loop-holds : tie.Need-loop-untested-init invariant-loop decreases-loop
 loop-holds c = (test_start _ _ (omega arith), omega arith)
 
 cast-e : tie.Need-overflow_cast-e invariant-loop decreases-loop
-cast-e c = omega (arith, (next c).small)
+cast-e c = omega (arith, (taken c.loop-untested.untested (omega arith) c.loop-untested.invariant.1).small)
 
 array-read-if2 : tie.Need-bounds-symbols-e invariant-loop decreases-loop
 array-read-if2 c =
     let g = c.loop-untested.invariant.0 in
-    omega (arith, in_lt 32 _ _ g.small (g.sub _ (next c).inside))
+    omega (arith, in_lt 32 _ _ g.small (g.sub _ (taken c.loop-untested.untested (omega arith) c.loop-untested.invariant.1).inside))
 
 returns-2 : tie.Need-returns-then-symbols-e-gt31 invariant-loop decreases-loop
 returns-2 c = λ all.

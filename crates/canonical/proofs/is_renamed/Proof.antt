@@ -14,14 +14,14 @@ abbrev symbols : tie.Start → ℕ → ℕ
 symbols s x = get_or s.args.symbols.now x 0
 
 observable : (c : tie.Else-not-member) → In c.args.e c.args.observable
-observable c = holds c.member.result (not-false _ c.if-not-member.false) c.member.ensures
+observable c = holds c.member.result c.if-not-member.false c.member.ensures
 
 member-requires : tie.Need-member-requires
 member-requires c κs = search rules
 
 returns : tie.Need-returns-then-not-member
 returns c =
-    not_observable c.args.observable (symbols c.before.before.before) c.args.e (fails c.member.result (not-true _ c.if-not-member.true) c.member.ensures)
+    not_observable c.args.observable (symbols c.before.before.before) c.args.e (fails c.member.result c.if-not-member.true c.member.ensures)
 
 shared-slice-read-if2 : tie.Need-bounds-symbols-e
 shared-slice-read-if2 c = search rules

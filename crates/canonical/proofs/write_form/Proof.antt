@@ -25,16 +25,16 @@ start c = c.before.before.before.before.before.before.before.before.before.befor
 
 found : (c : tie.After-size_of-size)
     → Found (start c).args.bytes.now (start c).args.front c.with_flag-form.result
-    c.symbols_of-symbols.result c.type_size.result
+    c.symbols_of-symbols.result c.size_of-size.result
 found c =
     let s = start c in
     let symbols = c.symbols_of-symbols.ensures in
     let needed = needed_is s.args.bytes.now s.args.front _ _ (small s) symbols c.some_renamed-needed.ensures in
     record {
-      accepted = s.pre;
+      accepted = s.requires;
       symbols_are = symbols;
       form_is = c.with_flag-form.ensures ∙ ap (with_flag s.args.front) (c.number_of.ensures ∙ ap one_if needed);
-      size_is = c.type_size.ensures;
+      size_is = c.size_of-size.ensures;
     }
 
 symbols-of-requires : tie.Need-symbols_of-symbols-requires
@@ -78,8 +78,7 @@ slice-aggregate-write c = search rules
 write-requires : tie.Need-write-requires
 write-requires c κs =
     let x = found c.before.before.before.before in
-    let at = c.preamble_end-at.ensures in
-    (
+    let at = c.preamble_end-at.ensures in (
       flagged_small _ _ _ c.some_renamed-needed.result (small (start c.before.before.before.before)) c.number_of.ensures
           c.with_flag-form.ensures,
       found_stand _ x at,

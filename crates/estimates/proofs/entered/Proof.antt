@@ -40,7 +40,7 @@ loop-less c = omega arith
 loop-again : tie.Need-loop-l-preserved invariant-loop decreases-loop
 loop-again c =
     let l = c.loop-l in
-    (omega arith, λ k q h i. more c.args.t1 l.r l.l k q l.invariant.1 (ℕ_discrete k l.l) (omega arith) i)
+    (omega arith, λ k q h i. more c.args.entries l.r l.l k q l.invariant.1 (ℕ_discrete k l.l) (omega arith) i)
 
 returns : tie.Need-returns invariant-loop decreases-loop
 returns c = λ k q h i. c.loop-l.invariant.1 k q (omega arith) i

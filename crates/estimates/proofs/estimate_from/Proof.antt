@@ -22,11 +22,10 @@ same_length c = search rules
 
 returns : tie.Need-returns
 returns c =
-    let s = u.before.before.before.before.before.before.before.before in
-    estimated _ s.args.from s.args.entry _ c.silent-rows.result c.unobservable_reach-states.result c.size.result
-    s.requires.1 s.ranges.entry.fits
-    (omega arith) c.silent-rows.ensures c.unobservable_reach-states.ensures.0
-    (λ trace closed sub E. c.unobservable_reach-states.ensures.1 _ trace s.requires.1 closed sub E) c.size.ensures
+    estimated _ c.args.from c.args.entry _ c.silent_rows-reach.result c.unobservable_reach-states.result c.size.result
+    c.requires.1 c.ranges.entry.fits
+    (omega arith) c.silent_rows-reach.ensures c.unobservable_reach-states.ensures.0
+    (λ trace closed sub E. c.unobservable_reach-states.ensures.1 _ trace c.requires.1 closed sub E) c.size.ensures
 
 pub estimate_from_spec : {M : Type 1} → statement M
 estimate_from_spec =

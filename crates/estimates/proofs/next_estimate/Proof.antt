@@ -14,25 +14,21 @@ use Rattle.estimates.proofs.Estimating.{stepping}
 use Rattle.estimates.proofs.next_estimate.Statement.{statement}
 use Rattle.estimates.proofs.next_estimate.Tie as tie
 
--- the way back to where the call began
-abbrev begin : tie.After-observable_reach-after → tie.Start
-begin c = c.before.before.before.before.before
-
 -- the states right after one more symbol
 next_entry : (c : tie.After-observable_reach-after) (symbol : ℕ)
-    → Showing (automaton_of (begin c).args.table.now (begin c).args.header) symbol (begin c).args.events → (trace : List ℕ)
-    → Is (begin c).args.entry (Enters (automaton_of (begin c).args.table.now (begin c).args.header) trace)
-    → Is c.observable_reach-after.result (Enters (automaton_of (begin c).args.table.now (begin c).args.header) (trace ++ symbol ∷ []))
+    → Showing (automaton_of c.args.table.now c.args.header) symbol c.args.events → (trace : List ℕ)
+    → Is c.args.entry (Enters (automaton_of c.args.table.now c.args.header) trace)
+    → Is c.observable_reach-after.result (Enters (automaton_of c.args.table.now c.args.header) (trace ++ symbol ∷ []))
 next_entry c symbol shown trace E =
-    let s = begin c in
-    let g = s.pre.3 in
-    c.observable_reach-after.ensures _ trace symbol refl shown (c.unobservable_reach-estimate.ensures.1 _ trace s.pre.1 (gained_closed _ _ _ _ g) g.more E)
+    let s = c in
+    let g = s.requires.3 in
+    c.observable_reach-after.ensures _ trace symbol refl shown (c.unobservable_reach-estimate.ensures.1 _ trace s.requires.1 (gained_closed _ _ _ _ g) g.more E)
 
 unobservable-reach-requires : tie.Need-unobservable_reach-estimate-requires
-unobservable-reach-requires c κs = (gained_closed _ _ _ _ c.before.before.before.requires.3).size
+unobservable-reach-requires c κs = (gained_closed _ _ _ _ c.requires.3).size
 
 observable-reach-requires : tie.Need-observable_reach-after-requires
-observable-reach-requires c κs = let s = c.before.before.before.before in (s.requires.0, s.requires.2)
+observable-reach-requires c κs = let s = c in (s.requires.0, s.requires.2)
 
 same_length : tie.Need-shape_of-silent-then-after-eq0
 same_length c = search rules
@@ -41,7 +37,7 @@ returns : tie.Need-returns-then-after-eq0
 returns c = λ symbol shown. no_run (λ trace E. entry_impossible _ (trace ++ symbol ∷ []) _ c.if-after-eq0.true (next_entry c.before symbol shown trace E))
 
 estimate-from-requires : tie.Need-estimate_from-next-requires
-estimate-from-requires c κs = let s = c.before.before.before.before.before.before.before in (s.requires.0, s.requires.1, s.requires.3.known_are)
+estimate-from-requires c κs = let s = c in (s.requires.0, s.requires.1, s.requires.3.known_are)
 
 same-length-2 : tie.Need-shape_of-silent
 same-length-2 c = search rules

@@ -30,12 +30,11 @@ loop-less : tie.Need-loop-i-smaller invariant-loop decreases-loop
 loop-less c = omega arith
 
 loop-again : tie.Need-loop-i-preserved invariant-loop decreases-loop
-loop-again c =
-    (
-      omega arith,
-      same (take_one c.args.s.now c.loop-i.i (omega arith)) (omega arith)
-          (then c.loop-i.invariant.1 c.put-next.ensures),
-    )
+loop-again c = (
+  omega arith,
+  same (take_one c.args.s.now c.loop-i.i (omega arith)) (omega arith)
+      (then c.loop-i.invariant.1 c.put-next.ensures),
+)
 
 same_length : tie.Need-shape_of-out invariant-loop decreases-loop
 same_length c = search rules

@@ -21,7 +21,7 @@ given s = symbols_at (bits_of s.args.bytes.now) s.args.at s.args.n
 seen : (c : tie.Else-not-member) → symbol_for c.args.observable (given c.before.before.before) c.args.e
     ≡ given_symbol (given c.before.before.before) c.args.e
 seen c =
-    symbol_observable c.args.observable (given c.before.before.before) c.args.e (holds c.member.result (not-false _ c.if-not-member.false) c.member.ensures)
+    symbol_observable c.args.observable (given c.before.before.before) c.args.e (holds c.member.result c.if-not-member.false c.member.ensures)
 
 member-requires : tie.Need-member-requires
 member-requires c κs = search rules
@@ -29,7 +29,7 @@ member-requires c κs = search rules
 returns : tie.Need-returns-then-not-member
 returns c =
     sym (symbol_unobservable c.args.observable (given c.before.before.before) c.args.e
-    (fails c.member.result (not-true _ c.if-not-member.true) c.member.ensures))
+    (fails c.member.result c.if-not-member.true c.member.ensures))
 
 cast-result : tie.Need-overflow_cast-result
 cast-result c = search rules

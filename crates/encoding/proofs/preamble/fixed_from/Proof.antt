@@ -9,22 +9,6 @@ use borrow.Author.Rules.{rules}
 use Rattle.encoding.proofs.preamble.fixed_from.Statement.{statement}
 use Rattle.encoding.proofs.preamble.fixed_from.Tie as tie
 
--- the place after each earlier field
-abbrev up2 : tie.In-Value-events → tie.In-Value
-up2 c = c.before.before.before
-
-abbrev up3 : tie.In-Value-back → tie.In-Value-events
-up3 c = c.before.before.before
-
-abbrev up4 : tie.In-Value-first → tie.In-Value-back
-up4 c = c.before.before.before
-
-abbrev up5 : tie.In-Value-number → tie.In-Value-first
-up5 c = c.before.before.before.before
-
-abbrev up6 : tie.In-Value-follow → tie.In-Value-number
-up6 c = c.before.before.before
-
 enum-known-states : tie.Need-enum_known-states
 enum-known-states c = search rules
 
@@ -56,10 +40,9 @@ enum-told-3 c = search rules
 returns-3 : tie.Need-returns-in_default-back
 unfolding fixed
 returns-3 c =
-    let k1 = up2 c.before in
     λ bits h1 h2 h3 h4 h5 h6.
     let cut : field 4 bits 11 ≡ refused Truncated = ended 15 h3 c.in_default-back.is in
-    rw (got h1 k1.before.states.given.1, got h2 c.in-Value-events.is, cut)
+    rw (got h1 c.in-Value.is, got h2 c.in-Value-events.is, cut)
 
 enum-known-first : tie.Need-enum_known-first
 enum-known-first c = search rules
@@ -70,21 +53,16 @@ enum-told-4 c = search rules
 returns-4 : tie.Need-returns-in_default-first
 unfolding fixed
 returns-4 c =
-    let k2 = up3 c.before in
-    let k1 = up2 k2 in
     λ bits h1 h2 h3 h4 h5 h6. rw
-    (got h1 k1.before.states.given.1, got h2 k2.before.events.given.1, got h3 c.in-Value-back.is, ended 21 h4 c.in_default-first.is)
+    (got h1 c.in-Value.is, got h2 c.in-Value-events.is, got h3 c.in-Value-back.is, ended 21 h4 c.in_default-first.is)
 
 returns-5 : tie.Need-returns-then-topstate-initial
 unfolding fixed
 returns-5 c =
-    let k3 = up4 c.before in
-    let k2 = up3 k3 in
-    let k1 = up2 k2 in
     λ bits h1 h2 h3 h4 h5 h6. rw (
-      got h1 k1.before.states.given.1,
-      got h2 k2.before.events.given.1,
-      got h3 k3.before.back.given.1,
+      got h1 c.in-Value.is,
+      got h2 c.in-Value-events.is,
+      got h3 c.in-Value-back.is,
       got h4 c.in-Value-first.is,
       lt-leb _ _ c.if-topstate-initial.true,
     )
@@ -98,13 +76,10 @@ enum-told-5 c = search rules
 returns-6 : tie.Need-returns-in_default-number
 unfolding fixed
 returns-6 c =
-    let k3 = up4 c.before.before in
-    let k2 = up3 k3 in
-    let k1 = up2 k2 in
     λ bits h1 h2 h3 h4 h5 h6. rw (
-      got h1 k1.before.states.given.1,
-      got h2 k2.before.events.given.1,
-      got h3 k3.before.back.given.1,
+      got h1 c.in-Value.is,
+      got h2 c.in-Value-events.is,
+      got h3 c.in-Value-back.is,
       got h4 c.in-Value-first.is,
       le-leb _ _ c.if-topstate-initial.false,
       ended 31 h5 c.in_default-number.is,
@@ -119,15 +94,11 @@ enum-told-6 c = search rules
 returns-7 : tie.Need-returns-in_default-follow
 unfolding fixed
 returns-7 c =
-    let k4 = up5 c.before in
-    let k3 = up4 k4 in
-    let k2 = up3 k3 in
-    let k1 = up2 k2 in
     λ bits h1 h2 h3 h4 h5 h6. rw (
-      got h1 k1.before.states.given.1,
-      got h2 k2.before.events.given.1,
-      got h3 k3.before.back.given.1,
-      got h4 k4.before.first.given.1,
+      got h1 c.in-Value.is,
+      got h2 c.in-Value-events.is,
+      got h3 c.in-Value-back.is,
+      got h4 c.in-Value-first.is,
       le-leb _ _ c.if-topstate-initial.false,
       got h5 c.in-Value-number.is,
       ended 32 h6 c.in_default-follow.is,
@@ -136,18 +107,13 @@ returns-7 c =
 returns-8 : tie.Need-returns
 unfolding fixed
 returns-8 c =
-    let k5 = up6 c in
-    let k4 = up5 k5 in
-    let k3 = up4 k4 in
-    let k2 = up3 k3 in
-    let k1 = up2 k2 in
     λ bits h1 h2 h3 h4 h5 h6. rw (
-      got h1 k1.before.states.given.1,
-      got h2 k2.before.events.given.1,
-      got h3 k3.before.back.given.1,
-      got h4 k4.before.first.given.1,
-      le-leb _ _ k5.before.before.before.if1.left,
-      got h5 k5.before.number.given.1,
+      got h1 c.in-Value.is,
+      got h2 c.in-Value-events.is,
+      got h3 c.in-Value-back.is,
+      got h4 c.in-Value-first.is,
+      le-leb _ _ c.if-topstate-initial.false,
+      got h5 c.in-Value-number.is,
       got h6 c.in-Value-follow.is,
     )
 

@@ -7,10 +7,6 @@ use borrow.Author.Rules.{rules}
 use Rattle.encoding.proofs.preamble.front_from.Statement.{statement}
 use Rattle.encoding.proofs.preamble.front_from.Tie as tie
 
--- the place where the fixed fields were read, from where the secret states were
-abbrev up : tie.In-Value-secret → tie.In-Value
-up c = c.before.before.before.before
-
 enum-known-answer : tie.Need-enum_known-answer
 enum-known-answer c = search rules
 
@@ -37,12 +33,11 @@ enum-told-2 c = search rules
 returns-2 : tie.Need-returns-in_default-observable
 unfolding front
 returns-2 c =
-    let k = up c.before in
     λ bits h1 h2 h3. rw (
-      told fixed_means h1 k.answer2.given.1,
-      told (flags_means _) (rw k.answer2.given.1 at h2) c.in-Value-secret.is,
+      told fixed_means h1 c.in-Value.is,
+      told (flags_means _) (rw c.in-Value.is at h2) c.in-Value-secret.is,
       told (flags_means _)
-          (rw k.answer2.given.1 at h3) c.in_default-observable.is,
+          (rw c.in-Value.is at h3) c.in_default-observable.is,
     )
 
 returns-3 : tie.Need-returns-in-Refused
@@ -52,12 +47,11 @@ returns-3 c = λ bits h1 h2 h3. rw (told fixed_means h1 c.in-Refused.is)
 returns-4 : tie.Need-returns-in-Value-observable
 unfolding front
 returns-4 c =
-    let k = up c.before in
     λ bits h1 h2 h3. rw (
-      told fixed_means h1 k.answer2.given.1,
-      told (flags_means _) (rw k.answer2.given.1 at h2) c.in-Value-secret.is,
+      told fixed_means h1 c.in-Value.is,
+      told (flags_means _) (rw c.in-Value.is at h2) c.in-Value-secret.is,
       told (flags_means _)
-          (rw k.answer2.given.1 at h3) c.in-Value-observable.is,
+          (rw c.in-Value.is at h3) c.in-Value-observable.is,
     )
 
 pub front_from_spec : {M : Type 1} → statement M

@@ -11,10 +11,6 @@ use borrow.Author.Rules.{rules}
 use Rattle.encoding.proofs.transitions.repeat_at.Statement.{statement}
 use Rattle.encoding.proofs.transitions.repeat_at.Tie as tie
 
--- where both answers are that nothing was refused
-abbrev start : tie.In-Valid-one → tie.Start
-start c = c.before.before.before.before.before
-
 enum-known-earlier : tie.Need-enum_known-earlier
 enum-known-earlier c = search rules
 
@@ -29,14 +25,14 @@ enum-told-2 c = search rules
 
 repeated-requires : tie.Need-repeated-requires
 repeated-requires c κs =
-    let s = start c in
+    let s = c in
     let a = s.args in
-    let there = subst (λ (x : Checked). Reaches x (a.at + a.n * 17 + 17) (bits_of a.bytes.now)) c.in-Valid-one.is s.pre.2 in
-    (s.pre.0, s.pre.1, there)
+    let there = subst (λ (x : Checked). Reaches x (a.at + a.n * 17 + 17) (bits_of a.bytes.now)) c.in-Valid-one.is s.requires.2 in
+    (s.requires.0, s.requires.1, there)
 
 returns : tie.Need-returns-then-repeated
 returns c =
-    let a = (start c.before.before).args in
+    let a = c.args in
     λ s e h1 h2. rw (add-one a.n)
     (sym
     (transitions_repeated s e (bits_of a.bytes.now) a.at a.n (told (checked_means _ _) h1 c.in-Valid.is)
@@ -57,7 +53,7 @@ returns-3 c =
 
 returns-4 : tie.Need-returns-else-repeated
 returns-4 c =
-    let a = (start c.before.before).args in
+    let a = c.args in
     λ s e h1 h2. rw (add-one a.n)
     (sym
     (transitions_more s e (bits_of a.bytes.now) a.at a.n (told (checked_means _ _) h1 c.in-Valid.is)

@@ -8,10 +8,6 @@ use borrow.Author.Rules.{rules}
 use Rattle.encoding.proofs.transitions.transition_from.Statement.{statement}
 use Rattle.encoding.proofs.transitions.transition_from.Tie as tie
 
--- the place after each earlier test
-abbrev up2 : tie.Else-topevent-event → tie.Else-topstate-from
-up2 c = c.before.before.before.before
-
 enum-known-source : tie.Need-enum_known-source
 enum-known-source c = search rules
 
@@ -58,10 +54,9 @@ enum-told-3 c = search rules
 returns-5 : tie.Need-returns-in_default-target
 unfolding transition
 returns-5 c =
-    let e1 = up2 c.before in
     λ bits at h1 h2 h3. rw (
-      got h1 e1.before.before.source.given.1,
-      le-leb _ _ e1.if1.left,
+      got h1 c.in-Value.is,
+      le-leb _ _ c.if-topstate-from.false,
       got h2 c.in-Value-label.is,
       le-leb _ _ c.if-topevent-event.false,
       ended
@@ -71,10 +66,9 @@ returns-5 c =
 returns-6 : tie.Need-returns-then-topstate-to
 unfolding transition
 returns-6 c =
-    let e1 = up2 c.before.before in
     λ bits at h1 h2 h3. rw (
-      got h1 e1.before.before.source.given.1,
-      le-leb _ _ e1.if1.left,
+      got h1 c.in-Value.is,
+      le-leb _ _ c.if-topstate-from.false,
       got h2 c.in-Value-label.is,
       le-leb _ _ c.if-topevent-event.false,
       got h3
@@ -85,12 +79,11 @@ returns-6 c =
 returns-7 : tie.Need-returns
 unfolding transition
 returns-7 c =
-    let e1 = up2 c.before.before in
     λ bits at h1 h2 h3.
-    let f1 = got h1 e1.before.before.source.given.1 in
+    let f1 = got h1 c.in-Value.is in
     let f2 = got h2 c.in-Value-label.is in
     let f3 = got h3 c.in-Value-target.is in
-    rw (f1, le-leb _ _ e1.if1.left, f2, le-leb _ _ c.if-topevent-event.false, f3, le-leb _ _ c.if-topstate-to.false)
+    rw (f1, le-leb _ _ c.if-topstate-from.false, f2, le-leb _ _ c.if-topevent-event.false, f3, le-leb _ _ c.if-topstate-to.false)
     (same-transition _ (field_in 6 bits at f1).1 (field_in 5 bits (at + 6) f2).1 (field_in 6 bits (at + 6 + 5) f3).1)
 
 pub transition_from_spec : {M : Type 1} → statement M

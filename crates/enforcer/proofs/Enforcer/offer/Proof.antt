@@ -25,40 +25,34 @@ use Rattle.enforcer.proofs.Enforcer.offer.Statement.{statement}
 use Rattle.enforcer.proofs.Enforcer.offer.Tie as tie
 
 -- the second test decides whether the pending symbols are within their limits, by the largest K
-abbrev begin : tie.After-pending_within → tie.Start
-begin u = u.before.before.before.before.before.before.before
-
 pending_test : (u : tie.After-pending_within) → Decided u.pending_within.result
-    (PendingWithin (look_back_of (begin u).args.header (begin u).args.self.estimator.further) (begin u).args.self)
+    (PendingWithin (look_back_of u.args.header u.args.self.estimator.further) u.args.self)
 pending_test u =
-    subst (λ (k : ℕ). Decided u.pending_within.result (PendingWithin k (begin u).args.self)) u.look_back-k.ensures u.pending_within.ensures
+    subst (λ (k : ℕ). Decided u.pending_within.result (PendingWithin k u.args.self)) u.look_back-k.ensures u.pending_within.ensures
 
 -- past it they are
-pending : (x : tie.Else-not-pending_within) → PendingWithin (look_back_of (begin x.before).args.header (begin x.before).args.self.estimator.further)
-    (begin x.before).args.self
-pending x = holds x.pending_within.result (not-false _ x.if-not-pending_within.left) (pending_test x.before)
+pending : (x : tie.Else-not-pending_within) → PendingWithin (look_back_of x.args.header x.args.self.estimator.further)
+    x.args.self
+pending x = holds x.pending_within.result x.if-not-pending_within.false (pending_test x.before)
 
 -- and where the verifier has accepted the symbol, it has tested the rest
-abbrev asked : tie.In-Accepted → tie.Start
-asked x = begin x.before.before.before.before
-
-all : (x : tie.In-Accepted) → Moved (asked x).args.table.now (asked x).args.header (asked x).args.self.estimator (asked x).args.byte
+all : (x : tie.In-Accepted) → Moved x.args.table.now x.args.header x.args.self.estimator x.args.byte
     x.in-Accepted.judgement.size
     x.accept_by-reply.result.estimator
-    × ForEach (secrets_in (asked x).args.header (asked x).args.self)
-    (λ i c. TellsBy (asked x).args.self.notion (asked x).args.table.now (asked x).args.header
-    (asked x).args.self.estimator (asked x).args.byte c
-    (get_or (steps_each (asked x).args.self.estimator.further x.in-Accepted.judgement.verdicts) i none))
+    × ForEach (secrets_in x.args.header x.args.self)
+    (λ i c. TellsBy x.args.self.notion x.args.table.now x.args.header
+    x.args.self.estimator x.args.byte c
+    (get_or (steps_each x.args.self.estimator.further x.in-Accepted.judgement.verdicts) i none))
 all x =
-    let a = (asked x).args in
+    let a = x.args in
     accepted-of
     (subst (λ (y : AnswerBy). AcceptingBy a.self.notion a.table.now a.header a.self.estimator a.byte (said_by a.self.estimator.further y)
     x.accept_by-reply.result.estimator)
     x.in-Accepted.is x.accept_by-reply.ensures.0)
 
 -- so the largest K is at most 15
-small : (x : tie.In-Accepted) → look_back_of (asked x).args.header (asked x).args.self.estimator.further ≤ 15
-small x = let m = (all x).0 in look_back_small (asked x).args.header (asked x).args.self.estimator.further m.well_formed.back m.limits.allowed
+small : (x : tie.In-Accepted) → look_back_of x.args.header x.args.self.estimator.further ≤ 15
+small x = let m = (all x).0 in look_back_small x.args.header x.args.self.estimator.further m.well_formed.back m.limits.allowed
 
 well-formed-requires : tie.Need-well_formed-requires
 well-formed-requires c κs = search rules
@@ -69,8 +63,8 @@ refused-requires c κs = search rules
 returns : tie.Need-returns-then-not-well_formed
 returns c =
     let r = c.refused.ensures in
-    let s = c.well_formed in
-    refused_given _ _ _ _ _ refusal.Malformed _ r.0 r.1 (Offering.malformed (fails s.result (not-true _ c.if-not-well_formed.taken) s.ensures))
+    let s = c.well_formed-then-output-lt17 in
+    refused_given _ _ _ _ _ refusal.Malformed _ r.0 r.1 (Offering.malformed (fails s.result c.if-not-well_formed.true s.ensures))
 
 refused-requires-2 : tie.Need-refused-requires-then-output-lt17
 refused-requires-2 c κs = search rules
@@ -78,9 +72,9 @@ refused-requires-2 c κs = search rules
 returns-2 : tie.Need-returns-then-output-lt17
 returns-2 c =
     let r = c.refused-then-output-lt17.ensures in
-    let s = c.well_formed in
-    let good = holds s.result (not-false _ c.if-not-well_formed.left) s.ensures in
-    refused_given _ _ _ _ _ refusal.OutputTooSmall _ r.0 r.1 (output_too_small good.0 good.1 c.if-output-lt17.taken)
+    let s = c.well_formed-then-output-lt17 in
+    let good = holds s.result c.if-not-well_formed.false s.ensures in
+    refused_given _ _ _ _ _ refusal.OutputTooSmall _ r.0 r.1 (output_too_small good.0 good.1 c.if-output-lt17.true)
 
 look-back-requires : tie.Need-look_back-k-requires
 look-back-requires c κs = search rules
@@ -94,7 +88,7 @@ refused-requires-3 c κs = search rules
 returns-3 : tie.Need-returns-then-not-pending_within
 returns-3 c =
     let r = c.refused-then-not-pending_within.ensures in
-    let bad = fails c.pending_within.result (not-true _ c.if-not-pending_within.taken) (pending_test c.before.before) in
+    let bad = fails c.pending_within.result c.if-not-pending_within.true (pending_test c.before.before) in
     refused_given _ _ _ _ _ refusal.Malformed _ r.0 r.1 (Offering.malformed (λ both. bad (record { few = both.1.few; small = both.1.small })))
 
 accept-by-requires : tie.Need-accept_by-reply-requires
@@ -112,7 +106,7 @@ largest-wait-requires c κs = let m = (all c.before.before).0 in (m.well_formed.
 take-in-requires : tie.Need-take_in-requires
 take-in-requires c κs =
     let k = c.look_back-k.ensures in
-    (omega (arith, k, small c.before.before.before.before), omega (arith, k, (pending c.before.before.before.before.before.before).few), c.if-output-lt17.left)
+    (omega (arith, k, small c.before.before.before.before), omega (arith, k, (pending c.before.before.before.before.before.before).few), c.if-output-lt17.false)
 
 refused-requires-4 : tie.Need-refused-requires-in-Refused
 refused-requires-4 c κs = search rules
@@ -120,33 +114,32 @@ refused-requires-4 c κs = search rules
 returns-4 : tie.Need-returns-in-Refused
 returns-4 c =
     let r = c.refused-in-Refused.ensures in
-    let told = c.answer-1.given in
-    let a = (begin c.before.before.before.before).args in
-    refused_given _ _ _ _ _ told.0.0 _ r.0 r.1
-    (refused_outcome a.table.now a.header a.self a.byte a.output.now (number_of told.0.0) c.accept_by-reply.result.estimator
-    (pending c.before.before.before) c.if-output-lt17.left
+    let a = c.args in
+    refused_given _ _ _ _ _ c.in-Refused.refusal _ r.0 r.1
+    (refused_outcome a.table.now a.header a.self a.byte a.output.now (number_of c.in-Refused.refusal) c.accept_by-reply.result.estimator
+    (pending c.before.before.before) c.if-output-lt17.false
     (refused_of
     (subst (λ (x : AnswerBy). AcceptingBy a.self.notion a.table.now a.header a.self.estimator a.byte (said_by a.self.estimator.further x)
     c.accept_by-reply.result.estimator)
-    told.1 c.accept_by-reply.ensures.0)))
+    c.in-Refused.is c.accept_by-reply.ensures.0)))
 
 same_length : tie.Need-shape_of-output
 same_length c = search rules
 
 returns-5 : tie.Need-returns-in-Accepted
 returns-5 c =
-    let a = (begin c.before.before.before.before.before.before.before.before.before.before).args in
+    let a = c.args in
     let taken = c.take_in in
     let j = c.in-Accepted.judgement in
     let moved = (all c.before.before.before.before.before.before.before).0 in
     taken_outcome a.table.now a.header a.self a.byte a.output.now (steps_each a.self.estimator.further j.verdicts)
     c.largest_wait-w.result j.size
-    c.accept_by-reply.result.estimator taken.result.answer taken.result.enforcer taken.last.1.1.1.1.1.1.0 moved.well_formed
-    (limits_joined _ a.self moved.limits (pending c.before.before.before.before.before.before.before.before.before)) c.if-output-lt17.left moved (all c.before.before.before.before.before.before.before).1
+    c.accept_by-reply.result.estimator taken.result.answer taken.result.enforcer taken.new.output moved.well_formed
+    (limits_joined _ a.self moved.limits (pending c.before.before.before.before.before.before.before.before.before)) c.if-output-lt17.false moved (all c.before.before.before.before.before.before.before).1
     c.largest_wait-w.ensures
     (subst (λ (k : ℕ). Enqueues k a.self c.accept_by-reply.result.estimator c.largest_wait-w.result j.size a.byte a.output.now
     taken.result.answer
-    taken.result.enforcer taken.last.1.1.1.1.1.1.0) c.look_back-k.ensures taken.ensures)
+    taken.result.enforcer taken.new.output) c.look_back-k.ensures taken.ensures)
 
 pub offer_spec : {M : Type 1} → statement M
 offer_spec =

@@ -21,7 +21,7 @@ in-range-requires c κs = search rules
 returns-2 : tie.Need-returns
 returns-2 c =
     let a = c.args in
-    pending_decide a.k a.self c.in_range.result (⊎_elim (λ w. omega arith) (λ w. omega arith) c.if-k-count.branch) c.in_range.ensures
+    pending_decide a.k a.self c.in_range.result (⊎_elim (λ w. omega arith) (λ w. omega arith) c.if-k-count.branch-raw) c.in_range.ensures
 
 pub pending_within_spec : {M : Type 1} → statement M
 pending_within_spec = tie.close (tie.spec add-if2 returns slice-aggregate-in-range in-range-requires returns-2)

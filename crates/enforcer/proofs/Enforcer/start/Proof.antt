@@ -26,15 +26,12 @@ enum-known-answer-2 c = search rules
 choose-each-requires : tie.Need-choose_each-verdicts-requires
 choose-each-requires c κs = search rules
 
-abbrev begin : tie.After-choose_each-verdicts → tie.Start
-begin u = u.before.before.before.before.before.before.before
-
 -- the opening, where the verifier gave verdicts
-opening : (u : tie.After-choose_each-verdicts) → Opening (begin u).args.table.now (begin u).args.header (begin u).args.further
-    (verifier.verdicts (findings (begin u).args.further u.in-Accepted.judgement))
+opening : (u : tie.After-choose_each-verdicts) → Opening u.args.table.now u.args.header u.args.further
+    (verifier.verdicts (findings u.args.further u.in-Accepted.judgement))
     u.fresh-reply.result.estimator
 opening u =
-    let a = (begin u).args in
+    let a = u.args in
     let called = u.fresh-reply in
     subst (λ (x : Answer). Opening a.table.now a.header a.further (verifier.said a.further x) called.result.estimator)
     u.in-Accepted.is
@@ -44,11 +41,11 @@ largest-wait-requires : tie.Need-largest_wait-largest-requires
 largest-wait-requires c κs = let j = c.in-Accepted.judgement in opened_given _ _ _ j _ (opening c)
 
 -- the largest wait of the verdicts by the notion
-largest : (u : tie.After-largest_wait-largest) → LargestWait (secrets_of (begin u.before).args.header (begin u.before).args.further)
-    (steps_each (begin u.before).args.further (chosen_each (begin u.before).args.notion u.in-Accepted.judgement.verdicts))
+largest : (u : tie.After-largest_wait-largest) → LargestWait (secrets_of u.args.header u.args.further)
+    (steps_each u.args.further (chosen_each u.args.notion u.in-Accepted.judgement.verdicts))
     u.largest_wait-largest.result
 largest u =
-    let a = (begin u.before).args in
+    let a = u.args in
     subst (λ (v : VerdictsBy). LargestWait (secrets_of a.header a.further) (steps_each a.further v) u.largest_wait-largest.result)
     u.choose_each-verdicts.ensures
     u.largest_wait-largest.ensures

@@ -14,7 +14,7 @@ well-formed-requires : tie.Need-well_formed-requires
 well-formed-requires c κs = search rules
 
 returns : tie.Need-returns-then-not-well_formed
-returns c = λ both. fails c.well-formed-2.result (not-true _ c.if-not-well_formed.true) c.well-formed-2.ensures (both.0, both.1.estimator)
+returns c = λ both. fails c.well_formed-2.result c.if-not-well_formed.true c.well_formed-2.ensures (both.0, both.1.estimator)
 
 look-back-requires : tie.Need-look_back-k-requires
 look-back-requires c κs = search rules
@@ -24,7 +24,7 @@ pending-within-requires c κs = search rules
 
 returns-2 : tie.Need-returns
 returns-2 c =
-    let good = holds c.well-formed-2.result (not-false _ c.if-not-well_formed.false) c.well-formed-2.ensures in
+    let good = holds c.well_formed-2.result c.if-not-well_formed.false c.well_formed-2.ensures in
     let a = c.args in
     limits_decide a.table.now a.header a.self c.pending_within.result good.0 good.1
     (subst (λ (k : ℕ). Decided c.pending_within.result (PendingWithin k a.self)) c.look_back-k.ensures c.pending_within.ensures)

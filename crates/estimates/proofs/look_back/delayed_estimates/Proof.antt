@@ -54,14 +54,13 @@ slice-write-past : tie.Need-bounds-past-0 invariant-loop decreases-loop
 slice-write-past c = omega (arith, c.requires.2)
 
 loop-holds : tie.Need-loop-l-init invariant-loop decreases-loop
-loop-holds c =
-    (
-      λ p trace g m. follows_start p _ trace,
-      past_start _ _ _ _ _ _ _ _ (set c.args.past.now 0 c.args.estimate.states),
-      omega arith,
-      c.requires.0.few,
-      length-set c.args.past.now 0 c.args.estimate.states ∙ c.requires.2,
-    )
+loop-holds c = (
+  λ p trace g m. follows_start p _ trace,
+  past_start _ _ _ _ _ _ _ _ (set c.args.past.now 0 c.args.estimate.states),
+  omega arith,
+  c.requires.0.few,
+  length-set c.args.past.now 0 c.args.estimate.states ∙ c.requires.2,
+)
 
 cast-events-with : tie.Need-overflow_cast-l invariant-loop decreases-loop
 cast-events-with c = search rules
@@ -70,14 +69,14 @@ array-read-events-with : tie.Need-bounds-symbols-l invariant-loop decreases-loop
 array-read-events-with c = omega (arith, c.loop-l.invariant.3)
 
 events-with-requires : tie.Need-events_with-shown-requires invariant-loop decreases-loop
-events-with-requires c κs = (begin c.before).pre.0.looks.sets_are.size
+events-with-requires c κs = (begin c.before).requires.0.looks.sets_are.size
 
 backward-reach-requires : tie.Need-backward_reach-then-requires invariant-loop decreases-loop
 backward-reach-requires c κs =
     let a = begin c.before.before in (
-      a.pre.0.words,
-      (a.pre.0.looks.back_are (omega (arith, c.loop-l.invariant.2))).size,
-      λ e i. ((showing c _ a.pre.0.looks).sound e i).0,
+      a.requires.0.words,
+      (a.requires.0.looks.back_are (omega (arith, c.loop-l.invariant.2))).size,
+      λ e i. ((showing c _ a.requires.0.looks).sound e i).0,
     )
 
 add-l : tie.Need-overflow_add-l invariant-loop decreases-loop
@@ -93,7 +92,7 @@ array-read-unobservable-reach : tie.Need-bounds-entries-at invariant-loop decrea
 array-read-unobservable-reach c = omega (arith, c.loop-l.invariant.3)
 
 unobservable-reach-requires : tie.Need-unobservable_reach-requires invariant-loop decreases-loop
-unobservable-reach-requires c κs = (begin c.before.before.before).pre.0.looks.near.closed.size
+unobservable-reach-requires c κs = (begin c.before.before.before).requires.0.looks.near.closed.size
 
 mul-past : tie.Need-offset_bounds-past-at invariant-loop decreases-loop
 mul-past c = omega (arith, c.loop-l.invariant.3)
@@ -121,18 +120,18 @@ loop-again c =
     )
 
 same_length : tie.Need-shape_of-past invariant-loop decreases-loop
-same_length c = c.loop-l.invariant.4 ∙ sym (begin c.before).pre.2
+same_length c = c.loop-l.invariant.4 ∙ sym (begin c.before).requires.2
 
 returns : tie.Need-returns invariant-loop decreases-loop
 returns c =
     let s = c.loop-l in
     let a = begin c.before in
     let first : get_or (set a.args.past.now 0 a.args.estimate.states) 0 0 ≡ a.args.estimate.states =
-    get_or-set_same a.args.past.now 0 _ 0 (omega (arith, a.pre.2)) in
+    get_or-set_same a.args.past.now 0 _ 0 (omega (arith, a.requires.2)) in
     record {
       size = s.invariant.4;
-      are = λ trace l h m. s.invariant.1 _ trace l a.pre.0.looks
-          (subst (UnobservableReach (automaton_of a.args.table.now a.args.header) (get_or a.args.remembered.entries 0 0)) (sym first) a.pre.1)
+      are = λ trace l h m. s.invariant.1 _ trace l a.requires.0.looks
+          (subst (UnobservableReach (automaton_of a.args.table.now a.args.header) (get_or a.args.remembered.entries 0 0)) (sym first) a.requires.1)
           (omega arith) m;
     }
 

@@ -75,10 +75,10 @@ clear c p symbols entries n trace d few m =
     (λ w. absurd (omega arith))
     (λ v.
     let t = taken w (omega arith) c.states.invariant.small in
-    decided_clear _ _ trace _ _ (past_by _ _ a.secret s.l s.inv.1 p symbols entries n trace d few m) (count_trailing_zeros 64 w)
+    decided_clear _ _ trace _ _ (past_by _ _ a.secret s.l s.invariant.1 p symbols entries n trace d few m) (count_trailing_zeros 64 w)
     (c.states.invariant.kept (count_trailing_zeros 64 w) t.inside)
-    (λ i. omega (arith, in_test (count_trailing_zeros 64 w) a.secret, v.1.taken)))
-    c.states-test.branch
+    (λ i. omega (arith, in_test (count_trailing_zeros 64 w) a.secret, v.if-secret-q-eq0.true)))
+    c.states-test.branch-raw
 
 -- so that, with what was known below l, no step below l + 1 is a leak
 below_next : (c : tie.Else-todo-eq0 invariant-states decreases-states invariant-steps decreases-steps)

@@ -36,14 +36,13 @@ decreases-steps table sets silent back states secret symbols entries last clear 
 -- Start: step 0, and there is no smaller one
 
 steps-holds : tie.Need-steps-init invariant-steps decreases-steps
-steps-holds c =
-    (
-      λ p trace g m. below_start Strong p (secret_of c.args.secret c.args.remembered.count) trace,
-      λ p trace g m. follows_start p _ trace,
-      omega arith,
-      c.requires.few,
-      omega (arith, and_le_r c.args.states (complement c.args.secret)),
-    )
+steps-holds c = (
+  λ p trace g m. below_start Strong p (secret_of c.args.secret c.args.remembered.count) trace,
+  λ p trace g m. follows_start p _ trace,
+  omega arith,
+  c.requires.few,
+  omega (arith, and_le_r c.args.states (complement c.args.secret)),
+)
 
 -- One step
 
@@ -108,7 +107,7 @@ returns : tie.Need-returns-then-entries-at-eq0 invariant-steps decreases-steps
 returns c =
     let a = begin c.before in
     let s = c.steps in
-    let g = a.pre.looks in
+    let g = a.requires.looks in
     record {
       bounded = s.invariant.2;
       exact = λ trace m.
@@ -122,7 +121,7 @@ returns c =
 
 returns-2 : tie.Need-returns-then-l-last invariant-steps decreases-steps
 returns-2 c =
-    let g = (begin c.before.before).pre.looks in
+    let g = (begin c.before.before).requires.looks in
     record {
       bounded = tt;
       exact = λ trace m. below_last Strong _ (sought c.before.before) trace _ (omega arith) (below_next c.before _ trace g m);
@@ -143,12 +142,12 @@ array-read-events-with : tie.Need-bounds-symbols-at invariant-steps decreases-st
 array-read-events-with c = omega arith
 
 events-with-requires : tie.Need-events_with-shown-requires invariant-steps decreases-steps
-events-with-requires c κs = (begin c.before.before).pre.looks.sets_are.size
+events-with-requires c κs = (begin c.before.before).requires.looks.sets_are.size
 
 backward-reach-requires : tie.Need-backward_reach-then-requires invariant-steps decreases-steps
 backward-reach-requires c κs =
     let a = begin c.before.before.before in
-    (a.pre.words, (a.pre.looks.back_are (omega arith)).size, λ e i. ((showing c _ a.pre.looks).sound e i).0)
+    (a.requires.words, (a.requires.looks.back_are (omega arith)).size, λ e i. ((showing c _ a.requires.looks).sound e i).0)
 
 add-l : tie.Need-overflow_add-l invariant-steps decreases-steps
 add-l c = omega arith

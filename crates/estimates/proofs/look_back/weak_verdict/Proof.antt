@@ -116,8 +116,8 @@ clear c p trace g m r =
     (λ v.
     let t = taken w (omega arith) c.states.invariant.small in
     decided_clear _ _ trace _ _ (c.steps.invariant.2 p trace g m r) (count_trailing_zeros 64 w) (c.states.invariant.kept (count_trailing_zeros 64 w) t.inside)
-    (λ i. omega (arith, in_test (count_trailing_zeros 64 w) (begin c.before.before.before).args.secret, v.1.taken)))
-    c.states-test.branch
+    (λ i. omega (arith, in_test (count_trailing_zeros 64 w) (begin c.before.before.before).args.secret, v.if-secret-q-eq0.true)))
+    c.states-test.branch-raw
 
 -- so that, with what was known below l, no step below l + 1 is a leak
 below_next : (c : tie.Else-todo-eq0 invariant-states decreases-states invariant-steps decreases-steps)
@@ -204,12 +204,12 @@ array-read-events-with : tie.Need-bounds-symbols-l invariant-states decreases-st
 array-read-events-with c = omega arith
 
 events-with-requires : tie.Need-events_with-shown-requires invariant-states decreases-states invariant-steps decreases-steps
-events-with-requires c κs = (begin c.before.before.before.before).pre.0.looks.sets_are.size
+events-with-requires c κs = (begin c.before.before.before.before).requires.0.looks.sets_are.size
 
 backward-reach-requires : tie.Need-backward_reach-then-requires invariant-states decreases-states invariant-steps decreases-steps
 backward-reach-requires c κs =
     let a = begin c.before.before.before.before.before in
-    (a.pre.0.words, (a.pre.0.looks.back_are (omega arith)).size, λ e i. ((showing c _ a.pre.0.looks).sound e i).0)
+    (a.requires.0.words, (a.requires.0.looks.back_are (omega arith)).size, λ e i. ((showing c _ a.requires.0.looks).sound e i).0)
 
 add-l : tie.Need-overflow_add-l invariant-states decreases-states invariant-steps decreases-steps
 add-l c = omega arith
@@ -226,7 +226,7 @@ array_read_possible_states c = omega arith
 
 possible_states_requires :
     tie.Need-possible_states-possible-requires invariant-states decreases-states invariant-steps decreases-steps
-possible_states_requires c κs = (begin c.before.before.before.before.before.before).pre.0.looks.near.closed.size
+possible_states_requires c κs = (begin c.before.before.before.before.before.before).requires.0.looks.near.closed.size
 
 steps-less : tie.Need-steps-smaller invariant-states decreases-states invariant-steps decreases-steps
 steps-less c = omega arith

@@ -21,11 +21,11 @@ within-requires : tie.Need-within-requires invariant-loop decreases-loop
 within-requires c κs = search rules
 
 returns : tie.Need-returns-then-not-within invariant-loop decreases-loop
-returns c = Advancing.malformed (fails c.within.result (not-true _ c.if-not-within.true) c.within.ensures)
+returns c = Advancing.malformed (fails c.within.result c.if-not-within.true c.within.ensures)
 
 loop-holds : tie.Need-loop-i-init invariant-loop decreases-loop
 loop-holds c =
-    along_start _ _ _ _ (holds c.within.result (not-false _ c.if-not-within.false) c.within.ensures)
+    along_start _ _ _ _ (holds c.within.result c.if-not-within.false c.within.ensures)
 
 shared-slice-read-step : tie.Need-bounds-bytes-i invariant-loop decreases-loop
 shared-slice-read-step c = omega arith
@@ -58,8 +58,8 @@ returns-2 c =
     rw c.answer-answer.ensures
     (⊎_elim
     (λ w. along_end a.table.now a.header a.self a.bytes.now l.now l.i l.invariant (inl (omega arith)))
-    (λ w. along_end a.table.now a.header a.self a.bytes.now l.now l.i l.invariant (inr w.1.taken))
-    c.loop-i-test.branch)
+    (λ w. along_end a.table.now a.header a.self a.bytes.now l.now l.i l.invariant (inr w.if-now.true))
+    c.loop-i-test.branch-raw)
 
 pub advance_spec : {M : Type 1} → statement M
 advance_spec =

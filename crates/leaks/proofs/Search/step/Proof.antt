@@ -32,14 +32,13 @@ returns c =
 
 returns-2 : tie.Need-returns-in-Accepted
 returns-2 c =
-    let told = c.answer-1 in
     let called = c.accept_by-reply in
     let a = c.args in
-    step_accepted a.table.now a.header a.self a.byte c.requires.0 c.requires.1 told.given.0.0 called.result.estimator
+    step_accepted a.table.now a.header a.self a.byte c.requires.0 c.requires.1 c.in-Accepted.judgement called.result.estimator
     c.any_leak.result
     (subst (λ (x : AnswerBy). AcceptingBy a.self.notion a.table.now a.header a.self.estimator a.byte
-    (said_by a.self.estimator.further x) called.result.estimator) told.given.1 called.ensures.0)
-    (subst (OthersBy a.self.estimator.further) told.given.1 called.ensures.1)
+    (said_by a.self.estimator.further x) called.result.estimator) c.in-Accepted.is called.ensures.0)
+    (subst (OthersBy a.self.estimator.further) c.in-Accepted.is called.ensures.1)
     c.any_leak.ensures
 
 pub step_spec : {M : Type 1} → statement M

@@ -11,15 +11,15 @@ well-formed-requires : tie.Need-well_formed-requires
 well-formed-requires c κs = search rules
 
 returns : tie.Need-returns-then-not-well_formed
-returns c = λ w. fails c.well-formed-2.result (not-true _ c.if-not-well_formed.true) c.well-formed-2.ensures (w.well_formed, w.limits)
+returns c = λ w. fails c.well_formed-2.result c.if-not-well_formed.true c.well_formed-2.ensures (w.well_formed, w.limits)
 
 returns-2 : tie.Need-returns-then-self-eq0
 returns-2 c = λ w. absurd (omega (arith, w.placed c.if-self.true, c.if-self-eq0.true))
 
 returns-3 : tie.Need-returns-then-self
 returns-3 c =
-    let good = holds c.well-formed-2.result (not-false _ c.if-not-well_formed.false)
-    c.well-formed-2.ensures in
+    let good = holds c.well_formed-2.result c.if-not-well_formed.false
+    c.well_formed-2.ensures in
     record { well_formed = good.0; limits = good.1; placed = λ e. omega (arith, c.if-self-eq0.false); countable = λ e. absent e c.if-self.true }
 
 sub-if4 : tie.Need-overflow_sub-self
@@ -30,8 +30,8 @@ returns-4 c = λ w. absurd (omega (arith, w.countable c.if-self.false))
 
 returns-5 : tie.Need-returns
 returns-5 c =
-    let good = holds c.well-formed-2.result (not-false _ c.if-not-well_formed.false)
-    c.well-formed-2.ensures in
+    let good = holds c.well_formed-2.result c.if-not-well_formed.false
+    c.well_formed-2.ensures in
     record { well_formed = good.0; limits = good.1; placed = λ e. absent c.if-self.false e; countable = λ e. omega arith }
 
 pub within_spec : {M : Type 1} → statement M

@@ -19,30 +19,24 @@ use Rattle.verifier.proofs.Judging.{grown_entry, limits_as, moved_by, judged_by,
 use Rattle.verifier.proofs.Estimator.accept_asked.Statement.{statement}
 use Rattle.verifier.proofs.Estimator.accept_asked.Tie as tie
 
--- the ways back to where the call began, from the first test, from where the events are known that show the symbol, and from the second test
-abbrev tested : tie.Else-not-well_formed → tie.Start
-tested c = c.before.before.before
-
-abbrev begin : tie.After-events_with-shown → tie.Start
-begin c = c.before.before.before.before.before.before.before.before
-
+-- the first test, from the second one
 abbrev first : tie.Else-shown-eq0 → tie.Else-not-well_formed
 first e = e.before.before.before.before.before.before
 
 -- the tests that were passed
-ok : (c : tie.Else-not-well_formed) → WellFormed (tested c).args.table.now (tested c).args.header × InLimits (tested c).args.header (tested c).args.t1
-ok c = holds c.well-formed-2.result (not-false _ c.if-not-well_formed.false) c.well-formed-2.ensures
+ok : (c : tie.Else-not-well_formed) → WellFormed c.args.table.now c.args.header × InLimits c.args.header c.args.self
+ok c = holds c.well_formed-2.result c.if-not-well_formed.false c.well_formed-2.ensures
 
 -- the events that show the symbol
 showing : (c : tie.After-events_with-shown)
-    → Showing (automaton_of (begin c).args.table.now (begin c).args.header) (begin c).args.symbol c.events_with-shown.result
+    → Showing (automaton_of c.args.table.now c.args.header) c.args.symbol c.events_with-shown.result
 showing c =
     c.events_with-shown.ensures _ (ok c.before.before.before.before.before).0.symbols_small
-    (c.by_symbol.ensures (begin c).args.table.now)
+    (c.by_symbol.ensures c.args.table.now)
 
-observed : (c : tie.Else-shown-eq0) → Observable (begin c.before).args.header (begin c.before).args.symbol
+observed : (c : tie.Else-shown-eq0) → Observable c.args.header c.args.symbol
 observed c =
-    let a = (begin c.before).args in
+    let a = c.args in
     some_observable a.table.now a.header _ _ (showing c.before) (omega arith) c.if-shown-eq0.false
 
 well-formed-requires : tie.Need-well_formed-requires
@@ -55,7 +49,7 @@ returns : tie.Need-returns-then-not-well_formed
 returns c =
     let r = c.refused.ensures in
     refused_asked _ _ _ _ _ refusal.Malformed _ r.0 r.1
-    (Accepting.malformed (fails c.well-formed-2.result (not-true _ c.if-not-well_formed.true) c.well-formed-2.ensures))
+    (Accepting.malformed (fails c.well_formed-2.result c.if-not-well_formed.true c.well_formed-2.ensures))
 
 slice-aggregate-by-symbol : tie.Need-slice_bounds-by_symbol-end
 slice-aggregate-by-symbol c = search rules
@@ -76,7 +70,7 @@ returns-2 : tie.Need-returns-then-shown-eq0
 returns-2 c =
     let r = c.refused-then-shown-eq0.ensures in
     let o = ok c.before.before.before.before.before.before.before in
-    let a = (begin c.before.before).args in
+    let a = c.args in
     refused_asked _ _ _ _ _ refusal.NotObservable _ r.0 r.1
     (not_observable o.0 o.1 (none_observable a.table.now a.header _ _ (showing c.before.before) c.if-shown-eq0.true))
 
@@ -128,11 +122,11 @@ look-back-requires c κs = search rules
 push-requires : tie.Need-push-after-requires
 push-requires c κs =
     let o = ok (first c.before.before.before.before.before.before.before.before.before.before.before.before) in
-    let a = (begin c.before.before.before.before.before.before.before.before.before.before.before.before.before).args in
+    let a = c.args in
     let K = c.look_back-k.ensures in (
-      omega (arith, K, look_back_small a.header a.t1.further o.0.back o.1.allowed),
+      omega (arith, K, look_back_small a.header a.self.further o.0.back o.1.allowed),
       observable_small a.table.now _ _ o.0 (observed c.before.before.before.before.before.before.before.before.before.before.before.before),
-      subst (λ (n : ℕ). Limits n a.t1) (sym K) o.1,
+      subst (λ (n : ℕ). Limits n a.self) (sym K) o.1,
     )
 
 slice-aggregate-assess : tie.Need-slice_bounds-assess-end
@@ -148,14 +142,14 @@ slice-aggregate-assess-3 c = search rules
 assess-requires : tie.Need-assess-judgement-requires
 assess-requires c κs =
     let o = ok (first c.before.before.before.before.before.before.before.before.before.before.before.before.before.before.before.before) in
-    let a = (begin c.before.before.before.before.before.before.before.before.before.before.before.before.before.before.before.before.before).args in
+    let a = c.args in
     let x = some_left (c.next_estimate-next.ensures _ (showing c.before.before.before.before.before.before.before.before.before.before.before.before.before.before.before.before.before)) c.in-States.is in
     let after = c.push-after.ensures in (
       record {
         well_formed = o.0;
-        limits = limits_as a.header a.t1 _ _ c.look_back-k.ensures after.0 after.1;
+        limits = limits_as a.header a.self _ _ c.look_back-k.ensures after.0 after.1;
         sets_are = c.by_symbol.ensures _;
-        c.before.before.before.before.before.before.before.before.before.before.before.before = record {
+        near = record {
           closed = x.estimated.closed;
           inside = after.3 _ x.estimated.new (λ l q h i. x.estimated.old q (c.silent_rows-near.ensures.more q (c.entered-from.ensures l q h i)));
         };
@@ -166,11 +160,11 @@ assess-requires c κs =
 
 returns-4 : tie.Need-returns
 returns-4 c =
-    let a = (begin c.before.before.before.before.before.before.before.before.before.before.before.before.before.before.before.before.before.before.before).args in
+    let a = c.args in
     let o = ok (first c.before.before.before.before.before.before.before.before.before.before.before.before.before.before.before.before.before.before) in
     let x = some_left (c.next_estimate-next.ensures _ (showing c.before.before.before.before.before.before.before.before.before.before.before.before.before.before.before.before.before.before.before)) c.in-States.is in
     let after = c.push-after.ensures in
-    let moved : Moved a.table.now a.header a.t1 a.symbol c.assess-judgement.result.size c.push-after.result =
+    let moved : Moved a.table.now a.header a.self a.symbol c.assess-judgement.result.size c.push-after.result =
     moved_by _ _ _ _ _ _ _ _ _ _ o.0 o.1 (observed c.before.before.before.before.before.before.before.before.before.before.before.before.before.before.before.before.before.before) x c.assess-judgement.ensures.1 c.look_back-k.ensures after.0 after.1
     (λ trace g E y. after.4 _ trace g E y) in
     judged_by _ _ _ _ _ c.assess-judgement.result _ moved c.assess-judgement.ensures.0

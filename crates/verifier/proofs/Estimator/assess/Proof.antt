@@ -11,20 +11,19 @@ backward-rows-requires c κs = let x = c.requires in (x.0.near.closed.size, x.1)
 
 judge-all-requires : tie.Need-judge_all-verdicts-requires
 judge-all-requires c κs =
-    let u = c.before.before.before.before.before.before.before.before.before in
-    let x = u.requires.0 in (
+    let x = c.requires.0 in (
       record {
         limits = x.limits;
         prepared = record {
           words = x.well_formed.words;
-          few = omega (arith, x.limits.few, look_back_small u.args.header u.args.self.further x.well_formed.back x.limits.allowed);
+          few = omega (arith, x.limits.few, look_back_small c.args.header c.args.self.further x.well_formed.back x.limits.allowed);
           looks = record {
             table_is = refl;
             start = x.well_formed.start;
             symbols_small = x.well_formed.symbols_small;
             sets_are = x.sets_are;
             near = x.near;
-            back_are = λ some. c.backward-rows.ensures some _ x.near.closed;
+            back_are = λ some. c.backward_rows.ensures some _ x.near.closed;
           };
         };
       },

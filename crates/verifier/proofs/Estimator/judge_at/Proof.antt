@@ -20,15 +20,14 @@ secret-at-requires : tie.Need-secret_at-secret-requires
 secret-at-requires c κs = search rules
 
 judge-requires : tie.Need-judge-requires
-judge-requires c κs =
-    (
-      c.requires.0,
-      c.requires.2,
-      c.requires.3,
-      subst (λ (x : Secret). StrongGiven c.args.table.now c.args.header c.args.self c.args.asked x c.args.found)
-          (sym c.secret_at-secret.ensures)
-          (c.requires.4 (omega (arith, c.if-self-i.false))),
-    )
+judge-requires c κs = (
+  c.requires.0,
+  c.requires.2,
+  c.requires.3,
+  subst (λ (x : Secret). StrongGiven c.args.table.now c.args.header c.args.self c.args.asked x c.args.found)
+      (sym c.secret_at-secret.ensures)
+      (c.requires.4 (omega (arith, c.if-self-i.false))),
+)
 
 returns-2 : tie.Need-returns
 returns-2 c =

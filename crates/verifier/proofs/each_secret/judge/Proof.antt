@@ -26,13 +26,13 @@ returns c =
     let x = c.requires in
     judged_both _ a.header a.estimator a.secret a.asked _ _
     (record {
-      found = λ asks. ⊎_elim (λ w. rw w.2 (found_last n (w.1.ensures _ _ _ _ (x.2 asks) (omega (arith, n)))))
-          (λ w. absurd (not_both _ asks w.0.left)) c.if-asked.branch;
-      silent = λ not. ⊎_elim (λ w. absurd (not w.0.taken)) (λ w. w.1) c.if-asked.branch;
+      found = λ asks. ⊎_elim (λ w. rw w.weak-is (found_last n (w.first_secret-weak.ensures _ _ _ _ (x.2 asks) (omega (arith, n)))))
+          (λ w. absurd (not_both _ asks w.if-asked.false)) c.if-asked.branch-raw;
+      silent = λ not. ⊎_elim (λ w. absurd (not w.if-asked.true)) (λ w. w.weak-is) c.if-asked.branch-raw;
     })
     (record {
-      found = λ asks. found_last n (c.up_to_lem.ensures.1 Strong _ _ _ _ _ (omega (arith, n)) (x.3.found asks));
-      silent = λ not. c.up_to_lem.ensures.0 (x.3.silent not);
+      found = λ asks. found_last n (c.up_to-strong.ensures.1 Strong _ _ _ _ _ (omega (arith, n)) (x.3.found asks));
+      silent = λ not. c.up_to-strong.ensures.0 (x.3.silent not);
     })
 
 pub judge_spec : {M : Type 1} → statement M

@@ -30,9 +30,9 @@ returns : tie.Need-returns-then-asked-2
 returns c =
     judged_both _ c.args.header c.args.estimator (own c.args.header) c.args.asked _ _
     (record {
-      found = λ asks. ⊎_elim (λ w. rw w.2 (found_last (all c.before.before.before.before.before.before.before.before) (found_of c.args.estimator c.remembered_of-remembered.ensures w.1.ensures)))
-          (λ w. absurd (not_both _ asks w.0.left)) c.if-asked.branch;
-      silent = λ not. ⊎_elim (λ w. absurd (not w.0.taken)) (λ w. w.1) c.if-asked.branch;
+      found = λ asks. ⊎_elim (λ w. rw w.weak-is (found_last (all c.before.before.before.before.before.before.before.before) (found_of c.args.estimator c.remembered_of-remembered.ensures w.weak_verdict-weak.ensures)))
+          (λ w. absurd (not_both _ asks w.if-asked.false)) c.if-asked.branch-raw;
+      silent = λ not. ⊎_elim (λ w. absurd (not w.if-asked.true)) (λ w. w.weak-is) c.if-asked.branch-raw;
     })
     (record {
       found = λ asks. found_last (all c.before.before.before.before.before.before.before.before) (found_of c.args.estimator c.remembered_of-remembered.ensures c.strong_verdict-strong.ensures);
@@ -43,9 +43,9 @@ returns-2 : tie.Need-returns-else-asked-2
 returns-2 c =
     judged_both _ c.args.header c.args.estimator (own c.args.header) c.args.asked _ _
     (record {
-      found = λ asks. ⊎_elim (λ w. rw w.2 (found_last (all c.before.before.before.before.before.before.before) (found_of c.args.estimator c.remembered_of-remembered.ensures w.1.ensures)))
-          (λ w. absurd (not_both _ asks w.0.left)) c.if-asked.branch;
-      silent = λ not. ⊎_elim (λ w. absurd (not w.0.taken)) (λ w. w.1) c.if-asked.branch;
+      found = λ asks. ⊎_elim (λ w. rw w.weak-is (found_last (all c.before.before.before.before.before.before.before) (found_of c.args.estimator c.remembered_of-remembered.ensures w.weak_verdict-weak.ensures)))
+          (λ w. absurd (not_both _ asks w.if-asked.false)) c.if-asked.branch-raw;
+      silent = λ not. ⊎_elim (λ w. absurd (not w.if-asked.true)) (λ w. w.weak-is) c.if-asked.branch-raw;
     })
     (record { found = λ asks. absurd (not_both _ asks c.if-asked-2.false); silent = λ not. refl })
 

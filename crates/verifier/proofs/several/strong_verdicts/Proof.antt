@@ -42,20 +42,19 @@ none-found-requires : tie.Need-none_found-found-requires invariant-steps decreas
 none-found-requires c κs = search rules
 
 steps-holds : tie.Need-steps-init invariant-steps decreases-steps
-steps-holds c =
-    (
-      λ i secret h small e. (
-        omega (arith, e, and_le_r c.args.states (complement secret)),
-        λ p trace g m. (
-          subst (λ (v : Verdict). Searched Strong p (secret_of secret c.args.estimator.count) trace 0 v) (sym (c.none_found-found.ensures i h))
-              (below_start Strong p (secret_of secret c.args.estimator.count) trace),
-          subst (λ (x : ℕ). Follows p (bit_and c.args.states (complement secret)) trace 0 x) (sym e) (follows_start p _ trace),
-        ),
-      ),
-      λ i h. subst (λ (v : Verdict). Bounded c.args.estimator.count (steps_of v)) (sym (c.none_found-found.ensures i h)) tt,
-      omega arith,
-      c.requires.few,
-    )
+steps-holds c = (
+  λ i secret h small e. (
+    omega (arith, e, and_le_r c.args.states (complement secret)),
+    λ p trace g m. (
+      subst (λ (v : Verdict). Searched Strong p (secret_of secret c.args.estimator.count) trace 0 v) (sym (c.none_found-found.ensures i h))
+          (below_start Strong p (secret_of secret c.args.estimator.count) trace),
+      subst (λ (x : ℕ). Follows p (bit_and c.args.states (complement secret)) trace 0 x) (sym e) (follows_start p _ trace),
+    ),
+  ),
+  λ i h. subst (λ (v : Verdict). Bounded c.args.estimator.count (steps_of v)) (sym (c.none_found-found.ensures i h)) tt,
+  omega arith,
+  c.requires.few,
+)
 
 -- One step
 
@@ -114,7 +113,7 @@ returns c i secret h small e =
       exact = λ trace m.
           searched_end Strong (automaton_of a.args.table.now a.args.header) (secret_of secret a.args.estimator.count) trace
           c.steps.l
-          (verdict_at c.with_steps-found.result i) (omega arith) (tested c.before i secret h small e _ trace a.pre.looks m);
+          (verdict_at c.with_steps-found.result i) (omega arith) (tested c.before i secret h small e _ trace a.requires.looks m);
     }
 
 -- the events that show the symbol before
@@ -126,12 +125,12 @@ array-read-events-with : tie.Need-bounds-symbols-at invariant-steps decreases-st
 array-read-events-with c = omega arith
 
 events-with-requires : tie.Need-events_with-shown-requires invariant-steps decreases-steps
-events-with-requires c κs = (begin c.before.before).pre.looks.sets_are.size
+events-with-requires c κs = (begin c.before.before).requires.looks.sets_are.size
 
 backward-reaches-requires : tie.Need-backward_reaches-then-requires invariant-steps decreases-steps
 backward-reaches-requires c κs =
     let a = begin c.before.before.before in
-    (a.pre.words, (a.pre.looks.back_are (omega arith)).size, λ e i. ((showing c _ a.pre.looks).sound e i).0)
+    (a.requires.words, (a.requires.looks.back_are (omega arith)).size, λ e i. ((showing c _ a.requires.looks).sound e i).0)
 
 add-l : tie.Need-overflow_add-l invariant-steps decreases-steps
 add-l c = omega arith

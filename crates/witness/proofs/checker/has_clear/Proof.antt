@@ -31,11 +31,11 @@ member-requires : tie.Need-member-requires invariant-loop decreases-loop
 member-requires c κs = search rules
 
 within : (c : tie.Else-not-member invariant-loop decreases-loop) → In c.loop-observable.q c.args.secret
-within c = holds c.member.result (not-false _ c.if-not-member.false) c.member.ensures
+within c = holds c.member.result c.if-not-member.false c.member.ensures
 
 returns : tie.Need-returns-then-not-member invariant-loop decreases-loop
 returns c = λ p steps o e.
-    scan_clear _ _ _ _ _ _ (fails c.member.result (not-true _ c.if-not-member.true) c.member.ensures)
+    scan_clear _ _ _ _ _ _ (fails c.member.result c.if-not-member.true c.member.ensures)
     (c.loop-observable.invariant.2 p steps o e)
 
 sub-if2 : tie.Need-overflow_sub-pairs invariant-loop decreases-loop

@@ -60,7 +60,7 @@ transition-requires c κs = c.requires.0
 returns-2 : tie.Need-returns-then-not-transition invariant-loop decreases-loop
 returns-2 c = λ initial.
     read_no_transition _ _ _ _ _ _ _ _ (c.loop-at.invariant.2 initial) _ _ _ (pair c.before.before.before.before)
-    (fails c.transition.result (not-true _ c.if-not-transition.true) c.transition.ensures)
+    (fails c.transition.result c.if-not-transition.true c.transition.ensures)
 
 cast-member : tie.Need-overflow_cast-to invariant-loop decreases-loop
 cast-member c = omega (arith, (c.shared_slice_known-in-loop-at-2-1.given (c.loop-at.at + 1)).fits)
@@ -71,7 +71,7 @@ member-requires c κs = search rules
 returns-3 : tie.Need-returns-then-not-member invariant-loop decreases-loop
 returns-3 c = λ initial.
     read_outside _ _ _ _ _ _ _ _ (c.loop-at.invariant.2 initial) _ _ _ (pair c.before.before.before.before.before.before)
-    (fails c.member.result (not-true _ c.if-not-member.true) c.member.ensures)
+    (fails c.member.result c.if-not-member.true c.member.ensures)
 
 left-after-requires : tie.Need-left_after-requires invariant-loop decreases-loop
 left-after-requires c κs =
@@ -85,43 +85,37 @@ enum_told c = search rules
 
 returns-4 : tie.Need-returns-in_default invariant-loop decreases-loop
 returns-4 c = λ initial.
-    let f = c.left_After in
+    let f = c.left_after in
     read_wrong _ _ _ _ _ _ _ _ (c.loop-at.invariant.2 initial) _ _ _ (pair c.before.before.before.before.before.before.before.before)
-    (subst (LeftAfter _ _ _ _) c.in_default.is (f.ensures c.args.table.now initial))
-
-abbrev up : tie.In-Symbols invariant-loop decreases-loop → tie.Else-pairs-at-lt2 invariant-loop decreases-loop
-up c = c.before.before.before.before.before.before.before.before.before.before
+    (subst (LeftAfter (automaton_with c.args.table.now initial c.args.observable c.args.symbols) _ _ _) c.in_default.is (f.ensures c.args.table.now initial))
 
 add_at : tie.Need-overflow_add-at invariant-loop decreases-loop
 add_at c =
-    let e = up c in
-    omega (arith, e.if1.left, e.before.loop-test.taken)
+    omega (arith, c.if-pairs-at-lt2.false, c.loop-at-test.true)
 
 loop-less : tie.Need-loop-at-smaller invariant-loop decreases-loop
 loop-less c =
-    let e = up c in
-    omega (arith, e.if1.left, e.before.loop-test.taken)
+    omega (arith, c.if-pairs-at-lt2.false, c.loop-at-test.true)
 
 -- what is left after the event
 after : (c : tie.In-Symbols invariant-loop decreases-loop) (initial : ℕ)
-    → (let a = (up c).before.before.before.before.before.args in
-    LeftAfter (automaton_with a.table.now initial a.observable a.symbols) a.last (up c).before.before.loop.left
-    (get_or a.pairs.now (up c).before.before.loop.at 0) (left.Symbols c.in-Symbols.l))
+    → (let a = c.args in
+    LeftAfter (automaton_with a.table.now initial a.observable a.symbols) a.last c.loop-at.left
+    (get_or a.pairs.now c.loop-at.at 0) (left.Symbols c.in-Symbols.l))
 after c initial =
-    let f = c.left_After in
-    subst (LeftAfter _ _ _ _) c.in-Symbols.is (f.ensures (up c).before.before.before.before.before.args.table.now initial)
+    let f = c.left_after in
+    subst (LeftAfter (automaton_with c.args.table.now initial c.args.observable c.args.symbols) _ _ _) c.in-Symbols.is (f.ensures c.args.table.now initial)
 
 loop-again : tie.Need-loop-at-preserved invariant-loop decreases-loop
 loop-again c =
-    let e = up c in
-    let l = e.before.before.loop in
+    let l = c.loop-at in
     let m = c.member in
     let t = c.transition in (
-      omega (arith, e.if1.left, e.before.loop-test.taken),
-      omega (arith, (after c 0).0, l.inv.1),
-      λ initial. read_turn _ _ _ _ _ _ _ _ (l.inv.2 initial) _ _ _ (pair e) _
-          (holds t.result (not-false _ c.if-not-transition.false) t.ensures)
-          (holds m.result (not-false _ c.if-not-member.false) m.ensures)
+      omega (arith, c.if-pairs-at-lt2.false, c.loop-at-test.true),
+      omega (arith, (after c 0).0, l.invariant.1),
+      λ initial. read_turn _ _ _ _ _ _ _ _ (l.invariant.2 initial) _ _ _ (pair c.before.before.before.before.before.before.before.before) _
+          (holds t.result c.if-not-transition.false t.ensures)
+          (holds m.result c.if-not-member.false m.ensures)
           (after c initial).1,
     )
 

@@ -14,11 +14,8 @@ use Rattle.witness.proofs.Allowing.{not_allowed, not_run, run_found}
 use Rattle.witness.proofs.checker.is_witness.Statement.{statement}
 use Rattle.witness.proofs.checker.is_witness.Tie as tie
 
-abbrev up : tie.After-word_at-entry → tie.Start
-up c = c.before.before.before.before.before.before.before
-
 -- the entry set, a word
-word : (c : tie.After-word_at-entry) → get_or (up c).args.estimator.entries (up c).args.k 0 < 2 ^ 64
+word : (c : tie.After-word_at-entry) → get_or c.args.estimator.entries c.args.k 0 < 2 ^ 64
 word c = subst (λ (w : ℕ). w < 2 ^ 64) c.word_at-entry.ensures.0 c.word_at-entry.ensures.1
 
 slice-aggregate-word-at : tie.Need-slice_bounds-word_at-end
@@ -32,8 +29,8 @@ member-requires c κs = search rules
 
 returns : tie.Need-returns-then-not-member
 returns c = λ x.
-    fails c.member.result (not-true _ c.if-not-member.true) c.member.ensures
-    (subst (λ (w : ℕ). In (up c.before.before).args.start w) (sym c.word_at-entry.ensures.0) x.holds.starts)
+    fails c.member.result c.if-not-member.true c.member.ensures
+    (subst (λ (w : ℕ). In c.args.start w) (sym c.word_at-entry.ensures.0) x.holds.starts)
 
 allowed-by-requires : tie.Need-allowed_by-allowed-requires
 allowed-by-requires c κs = search rules
@@ -43,41 +40,41 @@ member-requires-2 c κs = search rules
 
 returns-2 : tie.Need-returns-then-not-member-2
 returns-2 c =
-    not_allowed _ _ _ (up c.before.before.before.before.before).ranges.secret.fits _ (word c.before.before.before.before.before) _ _ _ _ c.allowed_by-allowed.ensures
-    (fails c.member-2.result (not-true _ c.if-not-member-2.true) c.member-2.ensures)
+    not_allowed _ _ _ c.ranges.secret.fits _ (word c.before.before.before.before.before) _ _ _ _ c.allowed_by-allowed.ensures
+    (fails c.member-2.result c.if-not-member-2.true c.member-2.ensures)
 
 is-run-requires : tie.Need-is_run-requires
 is-run-requires c κs =
-    let s = up c.before.before.before.before.before in
-    let far = look_back_small s.args.header s.args.estimator.further s.pre.0.back s.pre.1.allowed in
-    (s.pre.0.words, omega (arith, far, s.pre.1.few, s.pre.2))
+    let s = c in
+    let far = look_back_small s.args.header s.args.estimator.further s.requires.0.back s.requires.1.allowed in
+    (s.requires.0.words, omega (arith, far, s.requires.1.few, s.requires.2))
 
 returns-3 : tie.Need-returns-then-not-is_run
 returns-3 c =
-    let a = (up c.before.before.before.before.before.before.before).args in
-    not_run (automaton_of a.table.now a.header) _ _ (up c.before.before.before.before.before.before.before).ranges.secret.fits _ (word c.before.before.before.before.before.before.before) (recent a.k a.estimator.symbols) _ a.pairs.now _
+    let a = c.args in
+    not_run (automaton_of a.table.now a.header) _ _ c.ranges.secret.fits _ (word c.before.before.before.before.before.before.before) (recent a.k a.estimator.symbols) _ a.pairs.now _
     c.allowed_by-allowed.ensures
-    (fails c.is_run.result (not-true _ c.if-not-is_run.true) (c.is_run.ensures (up c.before.before.before.before.before.before.before).args.header.initial))
+    (fails c.is_run.result c.if-not-is_run.true (c.is_run.ensures c.args.header.initial))
 
 has-clear-requires : tie.Need-has_clear-requires
 has-clear-requires c κs = search rules
 
 returns-4 : tie.Need-returns
 returns-4 c =
-    let s = up c.before.before.before.before.before.before.before.before in
+    let s = c in
     let one = c.member in
     let two = c.member-2 in
     let run = c.is_run in
     let a = s.args in
     let p = automaton_of a.table.now a.header in
-    run_found p _ _ s.fits.secret.fits _ (word c.before.before.before.before.before.before.before.before) (recent a.k a.estimator.symbols) _ a.pairs.now _
+    run_found p _ _ s.ranges.secret.fits _ (word c.before.before.before.before.before.before.before.before) (recent a.k a.estimator.symbols) _ a.pairs.now _
     c.allowed_by-allowed.ensures
     c.has_clear.result
     (subst (λ (w : ℕ). In s.args.start w) c.word_at-entry.ensures.0
-    (holds one.result (not-false _ c.if-not-member.false) one.ensures))
-    (holds two.result (not-false _ c.if-not-member-2.false) two.ensures)
-    (holds run.result (not-false _ c.if-not-is_run.false) (run.ensures s.args.header.initial))
-    (λ steps c.before.before.before.before.before.before.before.before. c.has_clear.ensures p steps refl c.before.before.before.before.before.before.before.before)
+    (holds one.result c.if-not-member.false one.ensures))
+    (holds two.result c.if-not-member-2.false two.ensures)
+    (holds run.result c.if-not-is_run.false (run.ensures s.args.header.initial))
+    (λ steps e. c.has_clear.ensures p steps refl e)
 
 pub is_witness_spec : {M : Type 1} → statement M
 is_witness_spec =

@@ -11,19 +11,19 @@ use Rattle.witness.proofs.checker.left_after.Statement.{statement}
 use Rattle.witness.proofs.checker.left_after.Tie as tie
 
 seen : (c : tie.Else-not-member) → In c.args.event c.args.observable
-seen c = holds c.member.result (not-false _ c.if-not-member.false) c.member.ensures
+seen c = holds c.member.result c.if-not-member.false c.member.ensures
 
 member-requires : tie.Need-member-requires
 member-requires c κs = search rules
 
 returns : tie.Need-returns-then-not-member
 returns c = λ t initial.
-    left_same (automaton_with t initial _ c.args.t2) _ _ _
-    (fails c.member.result (not-true _ c.if-not-member.true) c.member.ensures)
+    left_same (automaton_with t initial _ c.args.symbols) _ _ _
+    (fails c.member.result c.if-not-member.true c.member.ensures)
 
 returns-2 : tie.Need-returns-then-left-eq0
 returns-2 c = λ t initial rest h.
-    left_none (automaton_with t initial _ c.args.t2) _ _ (seen c.before) _ c.if-left-eq0.true rest h
+    left_none (automaton_with t initial _ c.args.symbols) _ _ (seen c.before) _ c.if-left-eq0.true rest h
 
 sub-next : tie.Need-overflow_sub-next
 sub-next c = search rules
@@ -41,12 +41,12 @@ array-read-if3-2 c =
 
 returns-3 : tie.Need-returns-then-last-next
 returns-3 c = λ t initial rest h.
-    left_other (automaton_with t initial _ c.args.t2) _ _ (seen c.before.before) _
+    left_other (automaton_with t initial _ c.args.symbols) _ _ (seen c.before.before) _
     c.if-left-eq0.false c.if-last-next.true rest h
 
 returns-4 : tie.Need-returns
 returns-4 c = λ t initial.
-    left_next (automaton_with t initial _ c.args.t2) _ _ (seen c.before.before) _ c.if-left-eq0.false (omega arith)
+    left_next (automaton_with t initial _ c.args.symbols) _ _ (seen c.before.before) _ c.if-left-eq0.false (omega arith)
 
 pub left_after_spec : {M : Type 1} → statement M
 left_after_spec =

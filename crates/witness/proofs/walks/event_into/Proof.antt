@@ -90,12 +90,11 @@ left t todo e rest from into k none x = go (k.left x.listed.0 x.listed.1)
     go (inr i) = record { to = x.to; inside = x.inside; listed = (x.listed.0, i, x.listed.2) }
 
 loop-again : tie.Need-loop-events-preserved invariant-loop decreases-loop
-loop-again c =
-    (
-      omega (arith, (pick c.before.before).less, c.loop-events.invariant.0),
-      λ e i. c.loop-events.invariant.1 e ((pick c.before.before).kept e i),
-      left _ _ _ _ _ _ (pick c.before.before) c.if-table-e-ne0.false c.loop-events.invariant.2,
-    )
+loop-again c = (
+  omega (arith, (pick c.before.before).less, c.loop-events.invariant.0),
+  λ e i. c.loop-events.invariant.1 e ((pick c.before.before).kept e i),
+  left _ _ _ _ _ _ (pick c.before.before) c.if-table-e-ne0.false c.loop-events.invariant.2,
+)
 
 pub event_into_spec : {M : Type 1} → statement M
 event_into_spec =

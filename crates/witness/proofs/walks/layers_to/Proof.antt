@@ -34,8 +34,7 @@ loop-less c = omega arith
 
 loop-again : tie.Need-loop-d-preserved invariant-loop decreases-loop
 loop-again c =
-    let l = c.loop-d in
-    (
+    let l = c.loop-d in (
       length-set l.layers l.d l.wave ∙ l.invariant.0,
       omega arith,
       layer_turn _ _ _ c.ranges.allowed.fits _ _ _ _ _ (omega (arith, l.invariant.0)) c.image.ensures l.invariant.2,

@@ -18,9 +18,6 @@ abbrev decreases-loop : tie.decreases-loop-d
 decreases-loop table silent back allowed target state from output₀ layers q₀ at₀ d₀ output q at d = d
 
 -- the call, of whose automaton the invariant is used
-abbrev begin : tie.At-loop-d invariant-loop decreases-loop → tie.Start invariant-loop decreases-loop
-begin u = u.before.before.before.before.before.before.before.before.before
-
 slice-aggregate-layers-to : tie.Need-slice_bounds-layers_to-end invariant-loop decreases-loop
 slice-aggregate-layers-to c = search rules
 
@@ -44,21 +41,21 @@ sub-d : tie.Need-overflow_sub-d invariant-loop decreases-loop
 sub-d c = omega arith
 
 mul-put-step : tie.Need-offset_bounds-layers-d invariant-loop decreases-loop
-mul-put-step c = let x = (begin c.before).pre.1 in omega (arith, (c.loop-d.invariant x.0 x.1).low)
+mul-put-step c = let x = c.requires.1 in omega (arith, (c.loop-d.invariant x.0 x.1).low)
 
 array-read-put-step : tie.Need-bounds-layers-d invariant-loop decreases-loop
-array-read-put-step c = let x = (begin c.before).pre.1 in omega (arith, (c.loop-d.invariant x.0 x.1).low)
+array-read-put-step c = let x = c.requires.1 in omega (arith, (c.loop-d.invariant x.0 x.1).low)
 
 put-step-requires : tie.Need-put_step-next-requires invariant-loop decreases-loop
 put-step-requires c κs =
-    let s = begin c.before.before in
-    let x = s.pre.1 in
+    let s = c in
+    let x = s.requires.1 in
     let w = c.loop-d.invariant x.0 x.1 in
     let h = c.loop-d-test.true in (
-      s.pre.0,
+      s.requires.0,
       (λ e i. (x.1.silent_are.sound e i).0),
       silent_onward x.0 _ _ _ x.1 _ _ (walk_down _ _ _ _ _ _ _ _ _ _ _ w h),
-      walk_room _ _ _ _ _ _ _ _ _ _ _ w h s.pre.2,
+      walk_room _ _ _ _ _ _ _ _ _ _ _ w h s.requires.2,
     )
 
 loop-less : tie.Need-loop-d-smaller invariant-loop decreases-loop
@@ -72,11 +69,11 @@ loop-again c = λ p P.
     (λ allowed sub. q.ensures.0 p allowed [] P.table_is (λ e i. (P.silent_are.sound e i).1) sub) q.ensures.1
 
 same_length : tie.Need-shape_of-output invariant-loop decreases-loop
-same_length c = let x = (begin c.before).pre.1 in walk_size _ _ _ _ _ _ _ _ _ _ _ (c.loop-d.invariant x.0 x.1)
+same_length c = let x = c.requires.1 in walk_size _ _ _ _ _ _ _ _ _ _ _ (c.loop-d.invariant x.0 x.1)
 
 returns : tie.Need-returns invariant-loop decreases-loop
 returns c =
-    let x = (begin c.before).pre.1 in (
+    let x = c.requires.1 in (
       (λ p P. (walk_done _ _ _ _ _ _ _ _ _ _ _ (c.loop-d.invariant p P) (λ h. omega (arith, c.loop-d-test.false))).0),
       (walk_done _ _ _ _ _ _ _ _ _ _ _ (c.loop-d.invariant x.0 x.1) (λ h. omega (arith, c.loop-d-test.false))).1,
     )

@@ -16,13 +16,10 @@ abbrev decreases-loop : tie.decreases-loop-i
 decreases-loop table silent back sets allowed k state from output₀ symbols then q₀ at₀ i₀ output q at i = i
 
 -- the call, of whose automaton the invariant is used
-abbrev begin : tie.At-loop-i invariant-loop decreases-loop → tie.Start invariant-loop decreases-loop
-begin u = u.before.before.before.before.before
-
 low : (u : tie.At-loop-i invariant-loop decreases-loop) → u.loop-i.i < 16
 low u =
-    let x = (begin u).requires.2 in
-    omega (arith, (u.loop-i.invariant x.0 x.1 x.2).low, (begin u).requires.1)
+    let x = u.requires.2 in
+    omega (arith, (u.loop-i.invariant x.0 x.1 x.2).low, u.requires.1)
 
 loop-holds : tie.Need-loop-i-init invariant-loop decreases-loop
 loop-holds c = λ p P L. go_begin p _ _ _ _ _ _ _ c.requires.3
@@ -37,7 +34,7 @@ array-read-events-with : tie.Need-bounds-symbols-n invariant-loop decreases-loop
 array-read-events-with c = omega (arith, low c.before)
 
 events-with-requires : tie.Need-events_with-events-requires invariant-loop decreases-loop
-events-with-requires c κs = (begin c.before).pre.2.1.sets_are.size
+events-with-requires c κs = c.requires.2.1.sets_are.size
 
 mul-observable-walk : tie.Need-offset_bounds-then-n invariant-loop decreases-loop
 mul-observable-walk c = omega (arith, low c.before.before)
@@ -47,14 +44,14 @@ array-read-observable-walk c = omega (arith, low c.before.before)
 
 observable-walk-requires : tie.Need-observable_walk-next-requires invariant-loop decreases-loop
 observable-walk-requires c κs =
-    let s = begin c.before.before.before in
-    let x = s.pre.2 in
+    let s = c in
+    let x = s.requires.2 in
     let P = x.1 in
     let g = c.loop-i.invariant x.0 P x.2 in
     let h = c.loop-i-test.true in (
-      s.pre.0,
+      s.requires.0,
       (x.0, P.silently, (_, c.events_with-events.ensures x.0 P.symbols_small P.sets_are, go_ahead _ _ _ _ _ _ _ _ _ _ _ _ g x.2 h)),
-      go_room _ _ _ _ _ _ _ _ _ _ _ _ g h s.pre.4,
+      go_room _ _ _ _ _ _ _ _ _ _ _ _ g h s.requires.4,
     )
 
 loop-less : tie.Need-loop-i-smaller invariant-loop decreases-loop
@@ -70,7 +67,7 @@ loop-again c = λ p P L.
     (go_ahead _ _ _ _ _ _ _ _ _ _ _ _ g L h).among) w.ensures.1
 
 same_length : tie.Need-shape_of-output invariant-loop decreases-loop
-same_length c = let x = (begin c.before).pre.2 in go_size _ _ _ _ _ _ _ _ _ _ _ _ (c.loop-i.invariant x.0 x.1 x.2)
+same_length c = let x = c.requires.2 in go_size _ _ _ _ _ _ _ _ _ _ _ _ (c.loop-i.invariant x.0 x.1 x.2)
 
 returns : tie.Need-returns invariant-loop decreases-loop
 returns c = λ p P L. go_done _ _ _ _ _ _ _ _ _ _ _ _ (c.loop-i.invariant p P L) (λ h. omega (arith, c.loop-i-test.false))

@@ -60,8 +60,7 @@ loop-less c = omega arith
 
 loop-again : tie.Need-loop-i-preserved invariant-loop decreases-loop
 loop-again c =
-    let l = c.loop-i in
-    (
+    let l = c.loop-i in (
       length-set l.then _ _ ∙ l.invariant.0,
       omega arith,
       l.invariant.2,

@@ -35,18 +35,15 @@ slice-aggregate-look-back-2 : tie.Need-slice_bounds-look_back-end-2
 slice-aggregate-look-back-2 c = search rules
 
 -- the call
-abbrev begin : tie.After-sets-3-1 → tie.Start
-begin x = x.before.before.before.before.before.before.before.before.before.before.before.before.before.before.before
-
-few : (x : tie.After-sets-3-1) → (begin x).args.k ≤ 15
+few : (x : tie.After-sets-3-1) → x.args.k ≤ 15
 few x =
-    let s = begin x in
-    omega (arith, look_back_small s.args.header s.args.estimator.further s.pre.0.back s.pre.1.allowed, s.pre.1.few, s.pre.2)
+    let s = x in
+    omega (arith, look_back_small s.args.header s.args.estimator.further s.requires.0.back s.requires.1.allowed, s.requires.1.few, s.requires.2)
 
 look-back-requires : tie.Need-look_back-then-requires
 look-back-requires c κs =
     let P = c.prepare.ensures in
-    ((begin c).requires.0.words, P.silently.entered.size, P.sets_are.size, few c, (_, _, P))
+    (c.requires.0.words, P.silently.entered.size, P.sets_are.size, few c, (_, _, P))
 
 slice-aggregate-write-run : tie.Need-slice_bounds-write_run-end
 slice-aggregate-write-run c = search rules
@@ -56,19 +53,19 @@ slice-aggregate-write-run-2 c = search rules
 
 write-run-requires : tie.Need-write_run-requires
 write-run-requires c κs =
-    let s = begin c.before.before.before.before in
+    let s = c in
     let P = c.prepare.ensures in
-    (s.pre.0.words, few c.before.before.before.before, (_, P, c.look_back-then.ensures _ _ P), s.pre.3)
+    (s.requires.0.words, few c.before.before.before.before, (_, P, c.look_back-then.ensures _ _ P), s.requires.3)
 
 same_length : tie.Need-shape_of-output
 same_length c = search rules
 
 returns : tie.Need-returns
 returns c =
-    let s = begin c.before.before.before.before.before.before.before in
+    let s = c in
     let P = c.prepare.ensures in
     let e = c.word_at-entry in
-    candidate_written _ s.args.estimator s.args.notion _ _ s.fits.secret.fits _ e.ensures.0 e.ensures.1 _
+    candidate_written _ s.args.estimator s.args.notion _ _ s.ranges.secret.fits _ e.ensures.0 e.ensures.1 _
     c.allowed_by-allowed.ensures _ _ _
     (c.write_run.ensures _ P (c.look_back-then.ensures _ _ P))
 

@@ -14,6 +14,7 @@ use Rattle.gateway.proofs.SavedPoints.{saved_length, saved_well_formed}
 -- the bytes of a place where the call answered 0 are what was found: a refusal has no number 0
 pub leak_back : (t header : List ℕ) (notion : ℕ) (further events lent out : List ℕ) → FirstLeakCall t header notion further events lent 0 out
     → Finding (notion_at notion) t (header_at header) (further_at further 0) events (leak_said (first_leak_at out))
+leak_back t header notion further events lent _ (FirstLeakCall.refused _ x5) = elim x5 [ ]
 leak_back t header notion further events lent out (FirstLeakCall.found sizes x saved) =
     subst (λ (p : ℕ). Finding (notion_at notion) t (header_at header) (further_at further 0) events (leak_said p)) (sym saved.back) x
 

@@ -100,6 +100,7 @@ pub saved_second_point : (t header further before lent s told : List ℕ) (cs : 
     → AcceptCalls t header s cs e
     → verifier.VerifierPromise t (header_at header) (further_at further 0) (judgement_at (further_at further 0).count told)
     (calls_of (further_at further 0).count cs) (estimator_at e)
+saved_second_point t header further before lent _ _ cs e (Fresh.refused _ x11) calls = elim x11 [ ]
 saved_second_point t header further before lent s told cs e
     (Fresh.accepted sizes {j = j} {s = x} (Opening.opened so allowed same li many within exact) saved) calls =
     let h = header_at header in
@@ -143,6 +144,7 @@ encoded_second_point encoding table before t header further estimator lent answe
 pub saved_third_point : (t header : List ℕ) (notion : ℕ) (further before s : List ℕ) (cs : List OfferCall) (e : List ℕ)
     → Start t header notion further before 0 s
     → OfferCalls t header s cs e → enforcer.EnforcerPromise (notion_at notion) t (header_at header) (further_at further 0) (offers_of cs) (enforcer_at e)
+saved_third_point t header notion further before _ cs e (Start.refused _ x8) f = elim x8 [ ]
 saved_third_point t header notion further before s cs e (Start.started sizes {s = x} starting saved) f =
     let h = header_at header in
     let calls = offer_calls t header sizes.header-size s cs e (record { size = saved.size; known = saved.notion_known }) f in
@@ -153,6 +155,7 @@ saved_third_point t header notion further before s cs e (Start.started sizes {s 
 -- the further secrets
 pub accept_within : (t header : List ℕ) (symbol : ℕ) (before lent after told : List ℕ) → Accept t header symbol before lent 0 after told
     → (length after ≡ estimator_size) × estimator.InLimits (header_at header) (estimator_at after) × ((estimator_at after).further ≡ (estimator_at before).further)
+accept_within t header symbol before lent _ _ (Accept.refused _ x7) = elim x7 [ ]
 accept_within t header symbol before lent after told (Accept.accepted sizes {s = s} (Accepting.accepted so li ob same limits many b within exact) saved) =
     (saved.size, subst (estimator.InLimits (header_at header)) (sym saved.back) limits, ap (λ (y : Estimator). y.further) saved.back ∙ same)
 
@@ -160,6 +163,7 @@ pub offer_within : (t header : List ℕ) (symbol : ℕ) (before output lent afte
     → Offer t header symbol before output lent 0 after left release
     → (length after ≡ enforcer_size) × (get_or after notion_place 0 ≤ strong_byte) × limits.InLimits (header_at header) (enforcer_at after)
     × ((enforcer_at after).estimator.further ≡ (enforcer_at before).estimator.further)
+offer_within t header symbol before output lent _ _ _ (Offer.refused _ x9) = elim x9 [ ]
 offer_within t header symbol before output lent after left release
     (Offer.released sizes {s = s} (Offering.accepted so li wide ob same within bal front rest size exact) saved) = (
       saved.size,

@@ -35,6 +35,7 @@ use Rattle.gateway.proofs.SavedSteps.{KeepsEnforcer, offer_calls, keeps_after}
 -- the bytes of an exploration that answered 0 are what was explored: a refusal has no number 0
 pub explored_back : (t header further : List ℕ) (budget : ℕ) (lent out : List ℕ) → Explore t header further budget lent 0 out
     → ExploredAll t (header_at header) (further_at further 0) (limit_of budget) (exploration_at out).number (exploration_at out).weak (exploration_at out).strong
+explored_back t header further budget lent _ (Explore.refused _ x5) = elim x5 [ ]
 explored_back t header further budget lent out (Explore.explored sizes (Exploring.explored_all x) saved) =
     subst (λ (e : Exploration). ExploredAll t (header_at header) (further_at further 0) (limit_of budget) e.number e.weak e.strong) (sym saved.back) x
 
@@ -96,6 +97,7 @@ module _ (notion : Notion) (t header : List ℕ) (size : length header ≡ heade
 pub saved_waits : (t header a b : List ℕ) (budget : ℕ) (lent out : List ℕ) (notion : ℕ) (before s : List ℕ)
     → cleared_of (further_at a 0) ≡ cleared_of (further_at b 0) → Explore t header a budget lent 0 out → Start t header notion b before 0 s
     → SavedLongestWait t header s (wait_by (notion_at notion) (exploration_at out).weak (exploration_at out).strong)
+saved_waits t header a b budget lent out notion before _ same x (Start.refused _ x8) = elim x8 [ ]
 saved_waits t header a b budget lent out notion before s same x (Start.started sizes {s = fresh} start saved) = record {
   in_time = λ cs e f. longest.in_time (offers_of cs) (enforcer_at e) (offer_calls t header size s cs e keeps f);
   reached = λ some.

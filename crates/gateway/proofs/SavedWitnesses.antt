@@ -73,13 +73,16 @@ calls_size t header s cs e (next {m = m} {c = c} {cs = rest} a f) size =
 
 -- the header has its length, and with the table it is an automaton
 header-size : (t header further before lent s told : List ℕ) → Fresh t header further before lent 0 s told → length header ≡ header_size
+header-size t header further before lent _ _ (Fresh.refused _ x7) = elim x7 [ ]
 header-size t header further before lent s told (Fresh.accepted sizes x saved) = sizes.verifier.header-size
 
 well_formed : (t header further before lent s told : List ℕ) → Fresh t header further before lent 0 s told → WellFormed t (header_at header)
+well_formed t header further before lent _ _ (Fresh.refused _ x7) = elim x7 [ ]
 well_formed t header further before lent s told (Fresh.accepted sizes (Opening.opened so allowed keeps li many within exact) saved) = so
 
 -- the estimator's bytes have theirs
 fresh_size : (t header further before lent s told : List ℕ) → Fresh t header further before lent 0 s told → length s ≡ estimator_size
+fresh_size t header further before lent _ _ (Fresh.refused _ x7) = elim x7 [ ]
 fresh_size t header further before lent s told (Fresh.accepted sizes x saved) = saved.size
 
 module _ (t header further before lent s told : List ℕ) (cs : List AcceptCall) (e : List ℕ) (fresh : Fresh t header further before lent 0 s told)

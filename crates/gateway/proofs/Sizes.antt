@@ -3,7 +3,6 @@ use Prim.Native.Nat.{ℕ}
 use mathlib.Core.Path.{◌≡◌}
 use mathlib.Core.List.{List}
 use Rattle.automaton.specs.declared.Header.{Header}
-use Rattle.encoding.specs.Encoding.{front, symbols}
 use Rattle.decoding.specs.Decoding.{Decoding, accept}
 use Rattle.encoding.proofs.Ended.{secret_fits, observable_fits, encoding_in}
 use Rattle.encoding.proofs.HeaderSymbols.{header_length}

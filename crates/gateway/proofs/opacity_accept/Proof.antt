@@ -6,82 +6,73 @@ use Rattle.gateway.proofs.opacity_accept.Statement.{statement}
 use Rattle.gateway.proofs.opacity_accept.Tie as tie
 
 -- where every slice has its length: the arguments, and the lengths
-abbrev start : tie.Else3 → tie.Start
+abbrev start : tie.Else-judgement-ne-JUDGEMENT_SIZE → tie.Start
 start x = x.before.before.before.before.before.before.before
 
-sized : (x : tie.Else3) → VerifierSizes (start x).args.header.now (start x).args.estimator.now (start x).args.judgement.now
-sized x = record { header-size = x.before.before.if1.false; estimator-size = x.before.if2.false; judgement-size = x.if3.false }
+sized : (x : tie.Else-judgement-ne-JUDGEMENT_SIZE) → VerifierSizes (start x).args.header.now (start x).args.estimator.now (start x).args.judgement.now
+sized x = record { header-size = x.if-header-ne-HEADER_SIZE.false; estimator-size = x.if-estimator-ne-ESTIMATOR_SIZE.false; judgement-size = x.if-judgement-ne-JUDGEMENT_SIZE.false }
 
-returns : tie.Need-returns
-returns c = Accept.size (λ s. c.if1.true s.header-size)
+returns : tie.Need-returns-then-header-ne-HEADER_SIZE
+returns c = Accept.size (λ s. c.if-header-ne-HEADER_SIZE.true s.header-size)
 
-returns-2 : tie.Need-returns-2
-returns-2 c = Accept.size (λ s. c.if2.true s.estimator-size)
+returns-2 : tie.Need-returns-then-estimator-ne-ESTIMATOR_SIZE
+returns-2 c = Accept.size (λ s. c.if-estimator-ne-ESTIMATOR_SIZE.true s.estimator-size)
 
-returns-3 : tie.Need-returns-3
-returns-3 c = Accept.size (λ s. c.if3.true s.judgement-size)
+returns-3 : tie.Need-returns-then-judgement-ne-JUDGEMENT_SIZE
+returns-3 c = Accept.size (λ s. c.if-judgement-ne-JUDGEMENT_SIZE.true s.judgement-size)
 
-read-estimator-requires : tie.Need-read-estimator-requires
+read-estimator-requires : tie.Need-read_estimator-before-requires
 read-estimator-requires c κs = search rules
 
-read-header-requires : tie.Need-read-header-requires
+read-header-requires : tie.Need-read_header-requires
 read-header-requires c κs = search rules
 
-accept-requires : tie.Need-accept-requires
+accept-requires : tie.Need-accept-reply-requires
 accept-requires c κs = search rules
 
-enum-known-answer : tie.Need-enum-known-answer
+enum-known-answer : tie.Need-enum_known-answer
 enum-known-answer c = search rules
 
 number-requires : tie.Need-number-requires
 number-requires c κs = search rules
 
-enum-known-answer-2 : tie.Need-enum-known-answer-2
+enum-known-answer-2 : tie.Need-enum_known-answer-in-Accepted-1
 enum-known-answer-2 c = search rules
 
-write-estimator-requires : tie.Need-write-estimator-requires
+write-estimator-requires : tie.Need-write_estimator-requires
 write-estimator-requires c κs = search rules
 
-write-judgement-requires : tie.Need-write-judgement-requires
+write-judgement-requires : tie.Need-write_judgement-requires
 write-judgement-requires c κs = search rules
 
-same_length : tie.Need-same-length
+same_length : tie.Need-shape_of-estimator-in-Refused
 same_length c = search rules
 
-returns-4 : tie.Need-returns-4
+returns-4 : tie.Need-returns-in-Refused
 returns-4 c =
-    let called = c.before.before.before.before in
-    let head = called.before in
-    let read = head.before in
-    let tested = read.before.before in
-    let a = (start tested).args in
-    accept_refused a.table.now a.header.now a.estimator.now a.judgement.now head.read-header.result
-    called.accept.result.estimator called.accept.result.answer (sized tested) head.read-header.ensures
-    a.symbol read.read-estimator.result read.read-estimator.ensures called.accept.ensures
-    c.before.before.answer.given.0.0 _ c.before.before.answer.given.1 c.number.ensures
+    let a = (start c.before.before.before.before.before).args in
+    accept_refused a.table.now a.header.now a.estimator.now a.judgement.now c.read_header.result
+    c.accept-reply.result.estimator c.accept-reply.result.answer (sized c.before.before.before.before.before) c.read_header.ensures
+    a.symbol c.read_estimator-before.result c.read_estimator-before.ensures c.accept-reply.ensures
+    c.in-Refused.refusal _ c.in-Refused.is c.number.ensures
 
-same-length-2 : tie.Need-same-length-2
+same-length-2 : tie.Need-shape_of-estimator-in-Accepted
 same-length-2 c = search rules
 
-same-length-3 : tie.Need-same-length-3
+same-length-3 : tie.Need-shape_of-judgement
 same-length-3 c = search rules
 
-returns-5 : tie.Need-returns-5
+returns-5 : tie.Need-returns-in-Accepted
 returns-5 c =
-    let told = c.before.before.before.before.before.before.before.before.before.before in
-    let called = told.before.before in
-    let head = called.before in
-    let read = head.before in
-    let tested = read.before.before in
-    let a = (start tested).args in
-    accept_accepted a.table.now a.header.now a.estimator.now a.judgement.now head.read-header.result
-    called.accept.result.estimator called.accept.result.answer (sized tested) head.read-header.ensures
-    a.symbol read.read-estimator.result read.read-estimator.ensures called.accept.ensures
-    told.answer2.given.0.0 _ _ told.answer2.given.1
-    c.before.before.before.before.before.before.write-estimator.ensures c.before.before.write-judgement.ensures
+    let a = (start c.before.before.before.before.before.before.before.before.before.before.before.before.before).args in
+    accept_accepted a.table.now a.header.now a.estimator.now a.judgement.now c.read_header.result
+    c.accept-reply.result.estimator c.accept-reply.result.answer (sized c.before.before.before.before.before.before.before.before.before.before.before.before.before) c.read_header.ensures
+    a.symbol c.read_estimator-before.result c.read_estimator-before.ensures c.accept-reply.ensures
+    c.in-Accepted.told _ _ c.in-Accepted.is
+    c.write_estimator.ensures c.write_judgement.ensures
 
-pub opacity-accept-spec : {M : Type 1} → statement M
-opacity-accept-spec =
+pub opacity_accept_spec : {M : Type 1} → statement M
+opacity_accept_spec =
     tie.close
     (tie.spec
     returns

@@ -5,53 +5,47 @@ use borrow.Author.Rules.{rules}
 use Rattle.gateway.proofs.opacity_canonical.Statement.{statement}
 use Rattle.gateway.proofs.opacity_canonical.Tie as tie
 
-returns : tie.Need-returns
-returns c = CanonicalCall.size c.if1.true
+returns : tie.Need-returns-then-size-ne-WRITTEN_SIZE
+returns c = CanonicalCall.size c.if-size-ne-WRITTEN_SIZE.true
 
-canonical-requires : tie.Need-canonical-requires
+canonical-requires : tie.Need-canonical-answer-requires
 canonical-requires c κs = search rules
 
-enum-known-answer : tie.Need-enum-known-answer
+enum-known-answer : tie.Need-enum_known-answer
 enum-known-answer c = search rules
 
 number-requires : tie.Need-number-requires
 number-requires c κs = search rules
 
-enum-known-answer-2 : tie.Need-enum-known-answer-2
+enum-known-answer-2 : tie.Need-enum_known-answer-in-Written-1
 enum-known-answer-2 c = search rules
 
-write-number-requires : tie.Need-write-number-requires
+write-number-requires : tie.Need-write_number-requires
 write-number-requires c κs = search rules
 
-same_length : tie.Need-same-length
+same_length : tie.Need-shape_of-output-in-Refused
 same_length c = search rules
 
-returns-2 : tie.Need-returns-2
+returns-2 : tie.Need-returns-in-Refused
 returns-2 c =
-    let called = c.before.before.before.before.before.before in
-    let tested = called.before.before in
-    let a = tested.before.before.before.before.args in
-    let told = c.before.before.answer.given in
-    canonical_refused a.encoding.now a.output.now a.size.now _ called.canonical.result tested.if1.false called.canonical.ensures
-    told.0.0 _ told.1 c.number.ensures
+    let a = c.args in
+    canonical_refused a.encoding.now a.output.now a.size.now _ c.canonical-answer.result c.if-size-ne-WRITTEN_SIZE.false c.canonical-answer.ensures
+    c.in-Refused.refusal _ c.in-Refused.is c.number.ensures
 
-same-length-2 : tie.Need-same-length-2
+same-length-2 : tie.Need-shape_of-output-in-Written
 same-length-2 c = search rules
 
-same-length-3 : tie.Need-same-length-3
+same-length-3 : tie.Need-shape_of-size
 same-length-3 c = search rules
 
-returns-3 : tie.Need-returns-3
+returns-3 : tie.Need-returns-in-Written
 returns-3 c =
-    let told = c.before.before.before.before.before in
-    let called = told.before.before.before.before in
-    let tested = called.before.before in
-    let a = tested.before.before.before.before.args in
-    canonical_written a.encoding.now a.output.now a.size.now _ called.canonical.result tested.if1.false called.canonical.ensures
-    told.answer2.given.0.0 _ told.answer2.given.1 c.before.before.write-number.ensures
+    let a = c.args in
+    canonical_written a.encoding.now a.output.now a.size.now _ c.canonical-answer.result c.if-size-ne-WRITTEN_SIZE.false c.canonical-answer.ensures
+    c.in-Written.written _ c.in-Written.is c.write_number.ensures
 
-pub opacity-canonical-spec : {M : Type 1} → statement M
-opacity-canonical-spec =
+pub opacity_canonical_spec : {M : Type 1} → statement M
+opacity_canonical_spec =
     tie.close
     (tie.spec
     returns

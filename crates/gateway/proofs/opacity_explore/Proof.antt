@@ -6,72 +6,63 @@ use Rattle.gateway.proofs.opacity_explore.Statement.{statement}
 use Rattle.gateway.proofs.opacity_explore.Tie as tie
 
 -- where every slice has its length: the arguments, and the lengths
-abbrev start : tie.Else3 → tie.Start
+abbrev start : tie.Else-exploration-ne-EXPLORATION_SIZE → tie.Start
 start x = x.before.before.before.before.before.before.before
 
-sized : (x : tie.Else3) → ExploreSizes (start x).args.header.now (start x).args.further.now (start x).args.exploration.now
-sized x = record { header-size = x.before.before.if1.false; further-size = x.before.if2.false; exploration-size = x.if3.false }
+sized : (x : tie.Else-exploration-ne-EXPLORATION_SIZE) → ExploreSizes (start x).args.header.now (start x).args.further.now (start x).args.exploration.now
+sized x = record { header-size = x.if-header-ne-HEADER_SIZE.false; further-size = x.if-further-ne-FURTHER_SIZE.false; exploration-size = x.if-exploration-ne-EXPLORATION_SIZE.false }
 
-returns : tie.Need-returns
-returns c = Explore.size (λ s. c.if1.true s.header-size)
+returns : tie.Need-returns-then-header-ne-HEADER_SIZE
+returns c = Explore.size (λ s. c.if-header-ne-HEADER_SIZE.true s.header-size)
 
-returns-2 : tie.Need-returns-2
-returns-2 c = Explore.size (λ s. c.if2.true s.further-size)
+returns-2 : tie.Need-returns-then-further-ne-FURTHER_SIZE
+returns-2 c = Explore.size (λ s. c.if-further-ne-FURTHER_SIZE.true s.further-size)
 
-returns-3 : tie.Need-returns-3
-returns-3 c = Explore.size (λ s. c.if3.true s.exploration-size)
+returns-3 : tie.Need-returns-then-exploration-ne-EXPLORATION_SIZE
+returns-3 c = Explore.size (λ s. c.if-exploration-ne-EXPLORATION_SIZE.true s.exploration-size)
 
-read-header-requires : tie.Need-read-header-requires
+read-header-requires : tie.Need-read_header-requires
 read-header-requires c κs = search rules
 
-read-further-requires : tie.Need-read-further-requires
+read-further-requires : tie.Need-read_further-requires
 read-further-requires c κs = search rules
 
-explore-requires : tie.Need-explore-requires
+explore-requires : tie.Need-explore-answer-requires
 explore-requires c κs = search rules
 
-enum-known-answer : tie.Need-enum-known-answer
+enum-known-answer : tie.Need-enum_known-answer
 enum-known-answer c = search rules
 
 number-requires : tie.Need-number-requires
 number-requires c κs = search rules
 
-enum-known-answer-2 : tie.Need-enum-known-answer-2
+enum-known-answer-2 : tie.Need-enum_known-answer-in-Explored-1
 enum-known-answer-2 c = search rules
 
-write-exploration-requires : tie.Need-write-exploration-requires
+write-exploration-requires : tie.Need-write_exploration-requires
 write-exploration-requires c κs = search rules
 
-returns-4 : tie.Need-returns-4
+returns-4 : tie.Need-returns-in-Refused
 returns-4 c =
-    let called = c.before.before.before.before in
-    let given = called.before in
-    let head = given.before in
-    let tested = head.before in
-    let a = (start tested).args in
-    explore_refused a.table.now a.header.now a.further.now a.budget a.exploration.now head.read-header.result
-    given.read-further.result called.explore.result (sized tested) head.read-header.ensures given.read-further.ensures
-    called.explore.ensures
-    c.before.before.answer.given.0.0 _ c.before.before.answer.given.1 c.number.ensures
+    let a = (start c.before.before.before.before.before).args in
+    explore_refused a.table.now a.header.now a.further.now a.budget a.exploration.now c.read_header.result
+    c.read_further.result c.explore-answer.result (sized c.before.before.before.before.before) c.read_header.ensures c.read_further.ensures
+    c.explore-answer.ensures
+    c.in-Refused.refusal _ c.in-Refused.is c.number.ensures
 
-same_length : tie.Need-same-length
+same_length : tie.Need-shape_of-exploration
 same_length c = search rules
 
-returns-5 : tie.Need-returns-5
+returns-5 : tie.Need-returns-in-Explored
 returns-5 c =
-    let told = c.before.before.before.before.before in
-    let called = told.before.before in
-    let given = called.before in
-    let head = given.before in
-    let tested = head.before in
-    let a = (start tested).args in
-    explore_explored a.table.now a.header.now a.further.now a.budget a.exploration.now head.read-header.result
-    given.read-further.result called.explore.result (sized tested) head.read-header.ensures given.read-further.ensures
-    called.explore.ensures
-    told.answer2.given.0.0 _ told.answer2.given.1 c.before.before.write-exploration.ensures
+    let a = (start c.before.before.before.before.before.before.before.before).args in
+    explore_explored a.table.now a.header.now a.further.now a.budget a.exploration.now c.read_header.result
+    c.read_further.result c.explore-answer.result (sized c.before.before.before.before.before.before.before.before) c.read_header.ensures c.read_further.ensures
+    c.explore-answer.ensures
+    c.in-Explored.found _ c.in-Explored.is c.write_exploration.ensures
 
-pub opacity-explore-spec : {M : Type 1} → statement M
-opacity-explore-spec =
+pub opacity_explore_spec : {M : Type 1} → statement M
+opacity_explore_spec =
     tie.close
     (tie.spec
     returns

@@ -7,109 +7,92 @@ use Rattle.gateway.proofs.opacity_first_leak.Statement.{statement}
 use Rattle.gateway.proofs.opacity_first_leak.Tie as tie
 
 -- where every slice has its length and the notion is one: the arguments, and the lengths
-abbrev start : tie.Else4 → tie.Start
+abbrev start : tie.Else-place-ne-FIRST_LEAK_SIZE → tie.Start
 start x = x.before.before.before.before.before.before.before.before.before
 
-sized : (x : tie.Else4) → FirstLeakSizes (start x).args.header.now (start x).args.notion (start x).args.further.now (start x).args.place.now
+sized : (x : tie.Else-place-ne-FIRST_LEAK_SIZE) → FirstLeakSizes (start x).args.header.now (start x).args.notion (start x).args.further.now (start x).args.place.now
 sized x =
     record {
-      header-size = x.before.before.before.if1.false;
-      notion_known = omega (arith, x.before.before.if2.false);
-      further-size = x.before.if3.false;
-      place_size = x.if4.false;
+      header-size = x.if-header-ne-HEADER_SIZE.false;
+      notion_known = omega (arith, x.if-notion-gt-STRONG_BYTE.false);
+      further-size = x.if-further-ne-FURTHER_SIZE.false;
+      place_size = x.if-place-ne-FIRST_LEAK_SIZE.false;
     }
 
-returns : tie.Need-returns
-returns c = FirstLeakCall.size (λ s. c.if1.true s.header-size)
+returns : tie.Need-returns-then-header-ne-HEADER_SIZE
+returns c = FirstLeakCall.size (λ s. c.if-header-ne-HEADER_SIZE.true s.header-size)
 
-returns-2 : tie.Need-returns-2
-returns-2 c = FirstLeakCall.size (λ s. omega (arith, c.if2.true, s.notion_known))
+returns-2 : tie.Need-returns-then-notion-gt-STRONG_BYTE
+returns-2 c = FirstLeakCall.size (λ s. omega (arith, c.if-notion-gt-STRONG_BYTE.true, s.notion_known))
 
-returns-3 : tie.Need-returns-3
-returns-3 c = FirstLeakCall.size (λ s. c.if3.true s.further-size)
+returns-3 : tie.Need-returns-then-further-ne-FURTHER_SIZE
+returns-3 c = FirstLeakCall.size (λ s. c.if-further-ne-FURTHER_SIZE.true s.further-size)
 
-returns-4 : tie.Need-returns-4
-returns-4 c = FirstLeakCall.size (λ s. c.if4.true s.place_size)
+returns-4 : tie.Need-returns-then-place-ne-FIRST_LEAK_SIZE
+returns-4 c = FirstLeakCall.size (λ s. c.if-place-ne-FIRST_LEAK_SIZE.true s.place_size)
 
-read-header-requires : tie.Need-read-header-requires
+read-header-requires : tie.Need-read_header-requires
 read-header-requires c κs = search rules
 
-read-further-requires : tie.Need-read-further-requires
+read-further-requires : tie.Need-read_further-requires
 read-further-requires c κs = search rules
 
-notion-of-requires : tie.Need-notion-of-requires
+notion-of-requires : tie.Need-notion_of-requires
 notion-of-requires c κs = search rules
 
-first-leak-requires : tie.Need-first-leak-requires
+first-leak-requires : tie.Need-first_leak-answer-requires
 first-leak-requires c κs = search rules
 
-enum-known-answer : tie.Need-enum-known-answer
+enum-known-answer : tie.Need-enum_known-answer
 enum-known-answer c = search rules
 
 number-requires : tie.Need-number-requires
 number-requires c κs = search rules
 
-enum_told : tie.Need-enum-told
+enum_told : tie.Need-enum_told-1
 enum_told c = search rules
 
-write-number-requires : tie.Need-write-number-requires
+write-number-requires : tie.Need-write_number-requires
 write-number-requires c κs = search rules
 
-enum-known-answer-2 : tie.Need-enum-known-answer-2
+enum-known-answer-2 : tie.Need-enum_known-answer-in-At-1
 enum-known-answer-2 c = search rules
 
-write-number-requires-2 : tie.Need-write-number-requires-2
+write-number-requires-2 : tie.Need-write_number-requires-in-At
 write-number-requires-2 c κs = search rules
 
-returns-5 : tie.Need-returns-5
+returns-5 : tie.Need-returns-in-Refused
 returns-5 c =
-    let called = c.before.before.before.before in
-    let by = called.before in
-    let given = by.before in
-    let head = given.before in
-    let tested = head.before in
-    let a = (start tested).args in
-    leak_refused a.table.now a.header.now a.notion a.further.now a.events.now a.place.now head.read-header.result
-    given.read-further.result by.notion-of.result called.first-leak.result (sized tested) head.read-header.ensures
-    given.read-further.ensures by.notion-of.ensures called.first-leak.ensures
-    c.before.before.answer.given.0.0 _ c.before.before.answer.given.1 c.number.ensures
+    let a = (start c.before.before.before.before.before.before).args in
+    leak_refused a.table.now a.header.now a.notion a.further.now a.events.now a.place.now c.read_header.result
+    c.read_further.result c.notion_of.result c.first_leak-answer.result (sized c.before.before.before.before.before.before) c.read_header.ensures
+    c.read_further.ensures c.notion_of.ensures c.first_leak-answer.ensures
+    c.in-Refused.refusal _ c.in-Refused.is c.number.ensures
 
-same_length : tie.Need-same-length
+same_length : tie.Need-shape_of-place-in-Nowhere
 same_length c = search rules
 
-returns-6 : tie.Need-returns-6
+returns-6 : tie.Need-returns-in-Nowhere
 returns-6 c =
-    let told = c.before.before.before.before in
-    let called = told.before.before in
-    let by = called.before in
-    let given = by.before in
-    let head = given.before in
-    let tested = head.before in
-    let a = (start tested).args in
-    leak_nowhere a.table.now a.header.now a.notion a.further.now a.events.now a.place.now head.read-header.result
-    given.read-further.result by.notion-of.result called.first-leak.result (sized tested) head.read-header.ensures
-    given.read-further.ensures by.notion-of.ensures called.first-leak.ensures
-    _ told.enum_told.given.1 c.before.before.write-number.ensures
+    let a = (start c.before.before.before.before.before.before.before.before.before).args in
+    leak_nowhere a.table.now a.header.now a.notion a.further.now a.events.now a.place.now c.read_header.result
+    c.read_further.result c.notion_of.result c.first_leak-answer.result (sized c.before.before.before.before.before.before.before.before.before) c.read_header.ensures
+    c.read_further.ensures c.notion_of.ensures c.first_leak-answer.ensures
+    _ c.in-Nowhere.is c.write_number.ensures
 
-same-length-2 : tie.Need-same-length-2
+same-length-2 : tie.Need-shape_of-place-in-At
 same-length-2 c = search rules
 
-returns-7 : tie.Need-returns-7
+returns-7 : tie.Need-returns-in-At
 returns-7 c =
-    let told = c.before.before.before.before.before in
-    let called = told.before.before in
-    let by = called.before in
-    let given = by.before in
-    let head = given.before in
-    let tested = head.before in
-    let a = (start tested).args in
-    leak_found a.table.now a.header.now a.notion a.further.now a.events.now a.place.now head.read-header.result
-    given.read-further.result by.notion-of.result called.first-leak.result (sized tested) head.read-header.ensures
-    given.read-further.ensures by.notion-of.ensures called.first-leak.ensures
-    told.answer2.given.0.0 _ (omega (arith, (start tested).well_formed)) told.answer2.given.1 c.before.before.write-number2.ensures
+    let a = (start c.before.before.before.before.before.before.before.before.before).args in
+    leak_found a.table.now a.header.now a.notion a.further.now a.events.now a.place.now c.read_header.result
+    c.read_further.result c.notion_of.result c.first_leak-answer.result (sized c.before.before.before.before.before.before.before.before.before) c.read_header.ensures
+    c.read_further.ensures c.notion_of.ensures c.first_leak-answer.ensures
+    c.in-At.found _ (omega (arith, (start c.before.before.before.before.before.before.before.before.before).well_formed)) c.in-At.is c.write_number-in-At.ensures
 
-pub opacity-first-leak-spec : {M : Type 1} → statement M
-opacity-first-leak-spec =
+pub opacity_first_leak_spec : {M : Type 1} → statement M
+opacity_first_leak_spec =
     tie.close
     (tie.spec
     returns

@@ -6,90 +6,81 @@ use Rattle.gateway.proofs.opacity_fresh.Statement.{statement}
 use Rattle.gateway.proofs.opacity_fresh.Tie as tie
 
 -- where every slice has its length: the arguments, and the lengths
-abbrev start : tie.Else4 → tie.Start
+abbrev start : tie.Else-further-ne-FURTHER_SIZE → tie.Start
 start x = x.before.before.before.before.before.before.before.before.before
 
-sized : (x : tie.Else4)
+sized : (x : tie.Else-further-ne-FURTHER_SIZE)
     → FreshSizes (start x).args.header.now (start x).args.further.now (start x).args.estimator.now (start x).args.judgement.now
 sized x =
     record {
       verifier =
-          record { header-size = x.before.before.before.if1.false; estimator-size = x.before.before.if2.false; judgement-size = x.before.if3.false };
-      further-size = x.if4.false;
+          record { header-size = x.if-header-ne-HEADER_SIZE.false; estimator-size = x.if-estimator-ne-ESTIMATOR_SIZE.false; judgement-size = x.if-judgement-ne-JUDGEMENT_SIZE.false };
+      further-size = x.if-further-ne-FURTHER_SIZE.false;
     }
 
-returns : tie.Need-returns
-returns c = Fresh.size (λ s. c.if1.true s.verifier.header-size)
+returns : tie.Need-returns-then-header-ne-HEADER_SIZE
+returns c = Fresh.size (λ s. c.if-header-ne-HEADER_SIZE.true s.verifier.header-size)
 
-returns-2 : tie.Need-returns-2
-returns-2 c = Fresh.size (λ s. c.if2.true s.verifier.estimator-size)
+returns-2 : tie.Need-returns-then-estimator-ne-ESTIMATOR_SIZE
+returns-2 c = Fresh.size (λ s. c.if-estimator-ne-ESTIMATOR_SIZE.true s.verifier.estimator-size)
 
-returns-3 : tie.Need-returns-3
-returns-3 c = Fresh.size (λ s. c.if3.true s.verifier.judgement-size)
+returns-3 : tie.Need-returns-then-judgement-ne-JUDGEMENT_SIZE
+returns-3 c = Fresh.size (λ s. c.if-judgement-ne-JUDGEMENT_SIZE.true s.verifier.judgement-size)
 
-returns-4 : tie.Need-returns-4
-returns-4 c = Fresh.size (λ s. c.if4.true s.further-size)
+returns-4 : tie.Need-returns-then-further-ne-FURTHER_SIZE
+returns-4 c = Fresh.size (λ s. c.if-further-ne-FURTHER_SIZE.true s.further-size)
 
-read-header-requires : tie.Need-read-header-requires
+read-header-requires : tie.Need-read_header-requires
 read-header-requires c κs = search rules
 
-read-further-requires : tie.Need-read-further-requires
+read-further-requires : tie.Need-read_further-requires
 read-further-requires c κs = search rules
 
-fresh-requires : tie.Need-fresh-requires
+fresh-requires : tie.Need-fresh-reply-requires
 fresh-requires c κs = search rules
 
-enum-known-answer : tie.Need-enum-known-answer
+enum-known-answer : tie.Need-enum_known-answer
 enum-known-answer c = search rules
 
 number-requires : tie.Need-number-requires
 number-requires c κs = search rules
 
-enum-known-answer-2 : tie.Need-enum-known-answer-2
+enum-known-answer-2 : tie.Need-enum_known-answer-in-Accepted-1
 enum-known-answer-2 c = search rules
 
-write-estimator-requires : tie.Need-write-estimator-requires
+write-estimator-requires : tie.Need-write_estimator-requires
 write-estimator-requires c κs = search rules
 
-write-judgement-requires : tie.Need-write-judgement-requires
+write-judgement-requires : tie.Need-write_judgement-requires
 write-judgement-requires c κs = search rules
 
-returns-5 : tie.Need-returns-5
+returns-5 : tie.Need-returns-in-Refused
 returns-5 c =
-    let called = c.before.before.before.before in
-    let given = called.before in
-    let head = given.before in
-    let tested = head.before in
-    let a = (start tested).args in
-    let all = sized tested in
-    fresh_refused a.table.now a.header.now a.estimator.now a.judgement.now head.read-header.result
-    called.fresh.result.estimator called.fresh.result.answer all.verifier head.read-header.ensures
-    a.further.now given.read-further.result all given.read-further.ensures called.fresh.ensures
-    c.before.before.answer.given.0.0 _ c.before.before.answer.given.1 c.number.ensures
+    let a = (start c.before.before.before.before.before).args in
+    let all = sized c.before.before.before.before.before in
+    fresh_refused a.table.now a.header.now a.estimator.now a.judgement.now c.read_header.result
+    c.fresh-reply.result.estimator c.fresh-reply.result.answer all.verifier c.read_header.ensures
+    a.further.now c.read_further.result all c.read_further.ensures c.fresh-reply.ensures
+    c.in-Refused.refusal _ c.in-Refused.is c.number.ensures
 
-same_length : tie.Need-same-length
+same_length : tie.Need-shape_of-estimator
 same_length c = search rules
 
-same-length-2 : tie.Need-same-length-2
+same-length-2 : tie.Need-shape_of-judgement
 same-length-2 c = search rules
 
-returns-6 : tie.Need-returns-6
+returns-6 : tie.Need-returns-in-Accepted
 returns-6 c =
-    let told = c.before.before.before.before.before.before.before.before.before.before in
-    let called = told.before.before in
-    let given = called.before in
-    let head = given.before in
-    let tested = head.before in
-    let a = (start tested).args in
-    let all = sized tested in
-    fresh_accepted a.table.now a.header.now a.estimator.now a.judgement.now head.read-header.result
-    called.fresh.result.estimator called.fresh.result.answer all.verifier head.read-header.ensures
-    a.further.now given.read-further.result all given.read-further.ensures called.fresh.ensures
-    told.answer2.given.0.0 _ _ told.answer2.given.1
-    c.before.before.before.before.before.before.write-estimator.ensures c.before.before.write-judgement.ensures
+    let a = (start c.before.before.before.before.before.before.before.before.before.before.before.before.before).args in
+    let all = sized c.before.before.before.before.before.before.before.before.before.before.before.before.before in
+    fresh_accepted a.table.now a.header.now a.estimator.now a.judgement.now c.read_header.result
+    c.fresh-reply.result.estimator c.fresh-reply.result.answer all.verifier c.read_header.ensures
+    a.further.now c.read_further.result all c.read_further.ensures c.fresh-reply.ensures
+    c.in-Accepted.told _ _ c.in-Accepted.is
+    c.write_estimator.ensures c.write_judgement.ensures
 
-pub opacity-fresh-spec : {M : Type 1} → statement M
-opacity-fresh-spec =
+pub opacity_fresh_spec : {M : Type 1} → statement M
+opacity_fresh_spec =
     tie.close
     (tie.spec
     returns

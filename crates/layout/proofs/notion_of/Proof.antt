@@ -4,11 +4,11 @@ use borrow.Author.Rules.{rules}
 use Rattle.layout.proofs.notion_of.Statement.{statement}
 use Rattle.layout.proofs.notion_of.Tie as tie
 
-returns : tie.Need-returns
+returns : tie.Need-returns-then-byte-eq-WEAK_BYTE
 returns c = search rules
 
-returns-2 : tie.Need-returns-2
-returns-2 c = strong c.before.args.byte c.if1.false
+returns-2 : tie.Need-returns
+returns-2 c = strong c.args.byte c.if-byte-eq-WEAK_BYTE.false
 
-pub notion-of-spec : {M : Type 1} → statement M
-notion-of-spec = tie.close (tie.spec returns returns-2)
+pub notion_of_spec : {M : Type 1} → statement M
+notion_of_spec = tie.close (tie.spec returns returns-2)

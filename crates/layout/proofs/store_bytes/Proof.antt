@@ -6,45 +6,45 @@ use Rattle.layout.proofs.Stores.{Storing, store_start, copy_turn, copy_end}
 use Rattle.layout.proofs.store_bytes.Statement.{statement}
 use Rattle.layout.proofs.store_bytes.Tie as tie
 
-abbrev invariant-loop : tie.invariant-loop
+abbrev invariant-loop : tie.invariant-loop-i
 invariant-loop bytes₀ at array n i₀ bytes i = Storing bytes₀ at array (at + i) bytes (drop i array)
 
-abbrev decreases-loop : tie.decreases-loop
+abbrev decreases-loop : tie.decreases-loop-i
 decreases-loop bytes₀ at array n i₀ bytes i = n - i
 
-loop-holds : tie.Need-loop-init invariant-loop decreases-loop
+loop-holds : tie.Need-loop-i-init invariant-loop decreases-loop
 loop-holds c = store_start _ _ _ _ (omega arith)
 
-shared-slice-read-bytes : tie.Need-shared-slice-read-bytes invariant-loop decreases-loop
+shared-slice-read-bytes : tie.Need-bounds-array-i invariant-loop decreases-loop
 shared-slice-read-bytes c = omega arith
 
-add-bytes : tie.Need-overflow-add-bytes invariant-loop decreases-loop
+add-bytes : tie.Need-overflow_add-bytes invariant-loop decreases-loop
 add-bytes c = omega arith
 
-slice-write-bytes : tie.Need-slice-write-bytes invariant-loop decreases-loop
+slice-write-bytes : tie.Need-bounds-bytes-at invariant-loop decreases-loop
 slice-write-bytes c = omega arith
 
-add-i : tie.Need-overflow-add-i invariant-loop decreases-loop
+add-i : tie.Need-overflow_add-i invariant-loop decreases-loop
 add-i c = omega arith
 
-loop-less : tie.Need-loop-smaller invariant-loop decreases-loop
+loop-less : tie.Need-loop-i-smaller invariant-loop decreases-loop
 loop-less c = omega arith
 
-loop-again : tie.Need-loop-preserved invariant-loop decreases-loop
+loop-again : tie.Need-loop-i-preserved invariant-loop decreases-loop
 loop-again c =
-    let l = c.before.before.loop in
-    copy_turn c.before.before.before.args.array.now l.i l.invariant (omega arith) (omega arith)
+    let l = c.loop-i in
+    copy_turn c.args.array.now l.i l.invariant (omega arith) (omega arith)
 
-same_length : tie.Need-same-length invariant-loop decreases-loop
+same_length : tie.Need-shape_of-bytes invariant-loop decreases-loop
 same_length c = omega arith
 
 returns : tie.Need-returns invariant-loop decreases-loop
 returns c =
-    let l = c.before.loop in
-    copy_end c.before.before.args.array.now l.i l.invariant (omega arith)
+    let l = c.loop-i in
+    copy_end c.args.array.now l.i l.invariant (omega arith)
 
-pub store-bytes-spec : {M : Type 1} → statement M
-store-bytes-spec =
+pub store_bytes_spec : {M : Type 1} → statement M
+store_bytes_spec =
     tie.close
     (tie.spec
     invariant-loop

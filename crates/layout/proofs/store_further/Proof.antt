@@ -21,61 +21,56 @@ sized s =
 put-requires : tie.Need-put-requires
 put-requires c κs = search rules
 
-add-store-secret : tie.Need-overflow-add-store-secret
+add-store-secret : tie.Need-overflow_add-at
 add-store-secret c = search rules
 
-array-read-t14 : tie.Need-array-read-t14
+array-read-t14 : tie.Need-bounds-states-0
 array-read-t14 c = search rules
 
-array-read-t17 : tie.Need-array-read-t17
+array-read-t17 : tie.Need-bounds-k-0
 array-read-t17 c = search rules
 
-store-secret-requires : tie.Need-store-secret-requires
+store-secret-requires : tie.Need-store_secret-requires
 store-secret-requires c κs = search rules
 
-add-store-secret-2 : tie.Need-overflow-add-store-secret-2
+add-store-secret-2 : tie.Need-overflow_add-at-2
 add-store-secret-2 c = search rules
 
-array-read-t14-2 : tie.Need-array-read-t14-2
+array-read-t14-2 : tie.Need-bounds-states-1
 array-read-t14-2 c = search rules
 
-array-read-t17-2 : tie.Need-array-read-t17-2
+array-read-t17-2 : tie.Need-bounds-k-1
 array-read-t17-2 c = search rules
 
-store-secret-requires-2 : tie.Need-store-secret-requires-2
+store-secret-requires-2 : tie.Need-store_secret-requires-2
 store-secret-requires-2 c κs = search rules
 
-add-store-secret-3 : tie.Need-overflow-add-store-secret-3
+add-store-secret-3 : tie.Need-overflow_add-at-3
 add-store-secret-3 c = search rules
 
-array-read-t14-3 : tie.Need-array-read-t14-3
+array-read-t14-3 : tie.Need-bounds-states-2
 array-read-t14-3 c = search rules
 
-array-read-t17-3 : tie.Need-array-read-t17-3
+array-read-t17-3 : tie.Need-bounds-k-2
 array-read-t17-3 c = search rules
 
-store-secret-requires-3 : tie.Need-store-secret-requires-3
+store-secret-requires-3 : tie.Need-store_secret-requires-3
 store-secret-requires-3 c κs = search rules
 
-same_length : tie.Need-same-length
+same_length : tie.Need-shape_of-bytes
 same_length c = search rules
 
 returns : tie.Need-returns
 returns c =
-    let third = c.before.before in
-    let second = third.before.before.before.before in
-    let first = second.before.before.before.before in
-    let count = first.before.before.before.before in
-    let start = count.before.before.before.before.before in
-    let f = start.args.further in (
-      sized start,
-      then count.put.ensures (omega arith)
-          (then first.store-secret.ensures (omega (arith, place_length (place_of f 0)))
-          (then second.store-secret2.ensures (omega (arith, place_length (place_of f 1))) third.store-secret3.ensures)),
+    let f = c.args.further in (
+      sized c.before.before.before.before.before.before.before.before.before.before.before.before.before.before.before.before.before.before.before,
+      then c.put.ensures (omega arith)
+          (then c.store_secret.ensures (omega (arith, place_length (place_of f 0)))
+          (then c.store_secret-2.ensures (omega (arith, place_length (place_of f 1))) c.store_secret-3.ensures)),
     )
 
-pub store-further-spec : {M : Type 1} → statement M
-store-further-spec =
+pub store_further_spec : {M : Type 1} → statement M
+store_further_spec =
     tie.close
     (tie.spec
     put-requires

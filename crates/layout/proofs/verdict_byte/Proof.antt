@@ -3,17 +3,17 @@ use borrow.Author.Rules.{rules}
 use Rattle.layout.proofs.verdict_byte.Statement.{statement}
 use Rattle.layout.proofs.verdict_byte.Tie as tie
 
-enum_told : tie.Need-enum-told
+enum_told : tie.Need-enum_told-1
 enum_told c = search rules
 
-enum-known-verdict : tie.Need-enum-known-verdict
+enum-known-verdict : tie.Need-enum_known-verdict
 enum-known-verdict c = search rules
 
-returns : tie.Need-returns
+returns : tie.Need-returns-in-NoLeak
 returns c = search rules
 
-returns-2 : tie.Need-returns-2
+returns-2 : tie.Need-returns-in-Leak
 returns-2 c = search rules
 
-pub verdict-byte-spec : {M : Type 1} → statement M
-verdict-byte-spec = tie.close (tie.spec enum_told enum-known-verdict returns returns-2)
+pub verdict_byte_spec : {M : Type 1} → statement M
+verdict_byte_spec = tie.close (tie.spec enum_told enum-known-verdict returns returns-2)

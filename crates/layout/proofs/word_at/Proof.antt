@@ -8,30 +8,30 @@ use Rattle.layout.proofs.Bytes.{number_lt, number_eight}
 use Rattle.layout.proofs.word_at.Statement.{statement}
 use Rattle.layout.proofs.word_at.Tie as tie
 
-half-at-requires : tie.Need-half-at-requires
+half-at-requires : tie.Need-half_at-requires
 half-at-requires c κs = search rules
 
-add-half-at : tie.Need-overflow-add-half-at
+add-half-at : tie.Need-overflow_add-at
 add-half-at c = search rules
 
-half-at-requires-2 : tie.Need-half-at-requires-2
+half-at-requires-2 : tie.Need-half_at-requires-2
 half-at-requires-2 c κs = search rules
 
-small : (c : tie.After-half-at2) → (at : ℕ) → little_endian_at c.before.before.before.args.bytes.now at half_size < 2 ^ 32
-small c at = number_lt c.before.before.before.args.bytes.now (λ k. omega (arith, c.before.before.shared-slice-known.given k)) half_size at
+small : (c : tie.After-half_at-2) → (at : ℕ) → little_endian_at c.args.bytes.now at half_size < 2 ^ 32
+small c at = number_lt c.args.bytes.now (λ k. omega (arith, c.shared_slice_known-1.given k)) half_size at
 
-mul-result : tie.Need-overflow-mul-result
-mul-result c = omega (arith, c.half-at2.ensures, small c (c.before.before.before.args.at + half_size))
+mul-result : tie.Need-overflow_mul-result
+mul-result c = omega (arith, c.half_at-2.ensures, small c (c.args.at + half_size))
 
-add-result : tie.Need-overflow-add-result
+add-result : tie.Need-overflow_add-result
 add-result c =
-    let at = c.before.before.before.args.at in
-    omega (arith, c.before.half_at.ensures, c.half-at2.ensures, small c at, small c (at + half_size))
+    let at = c.args.at in
+    omega (arith, c.half_at.ensures, c.half_at-2.ensures, small c at, small c (at + half_size))
 
 returns : tie.Need-returns
 returns c =
-    let a = c.before.before.before.args in
-    omega (arith, number_eight a.bytes.now a.at, c.before.half_at.ensures, c.half-at2.ensures)
+    let a = c.args in
+    omega (arith, number_eight a.bytes.now a.at, c.half_at.ensures, c.half_at-2.ensures)
 
-pub word-at-spec : {M : Type 1} → statement M
-word-at-spec = tie.close (tie.spec half-at-requires add-half-at half-at-requires-2 mul-result add-result returns)
+pub word_at_spec : {M : Type 1} → statement M
+word_at_spec = tie.close (tie.spec half-at-requires add-half-at half-at-requires-2 mul-result add-result returns)

@@ -16,10 +16,10 @@ pending_sized s = search rules
 waits_sized : (s : tie.Start) → length s.args.enforcer.waits ≡ most_pending
 waits_sized s = search rules
 
-write-estimator-requires : tie.Need-write-estimator-requires
+write-estimator-requires : tie.Need-write_estimator-requires
 write-estimator-requires c κs = search rules
 
-notion-byte-requires : tie.Need-notion-byte-requires
+notion-byte-requires : tie.Need-notion_byte-requires
 notion-byte-requires c κs = search rules
 
 put-requires : tie.Need-put-requires
@@ -28,50 +28,39 @@ put-requires c κs = search rules
 put-requires-2 : tie.Need-put-requires-2
 put-requires-2 c κs = search rules
 
-slice-aggregate-store-bytes : tie.Need-slice-aggregate-store-bytes
+slice-aggregate-store-bytes : tie.Need-slice_bounds-store_bytes-end
 slice-aggregate-store-bytes c = search rules
 
-store-bytes-requires : tie.Need-store-bytes-requires
+store-bytes-requires : tie.Need-store_bytes-requires
 store-bytes-requires c κs =
-    let estimator = c.before.before.before.before.before.before.before.before.before.before.before.before.before in
-    omega (arith, pending_sized estimator.before.before.before.before.before.before)
+    omega (arith, pending_sized c.before.before.before.before.before.before.before.before.before.before.before.before.before.before.before.before.before.before.before)
 
-slice-aggregate-store-bytes-2 : tie.Need-slice-aggregate-store-bytes-2
+slice-aggregate-store-bytes-2 : tie.Need-slice_bounds-store_bytes-end-2
 slice-aggregate-store-bytes-2 c =
-    let count = c.before.before.before.before.before.before.before.before.before in
-    let estimator = count.before.before.before.before.before.before.before.before.before in
-    sym (waits_sized estimator.before.before.before.before.before.before)
+    sym (waits_sized c.before.before.before.before.before.before.before.before.before.before.before.before.before.before.before.before.before.before.before.before.before.before.before.before)
 
-store-bytes-requires-2 : tie.Need-store-bytes-requires-2
+store-bytes-requires-2 : tie.Need-store_bytes-requires-2
 store-bytes-requires-2 c κs =
-    let count = c.before.before.before.before.before.before.before.before.before in
-    let estimator = count.before.before.before.before.before.before.before.before.before in
-    omega (arith, waits_sized estimator.before.before.before.before.before.before)
+    omega (arith, waits_sized c.before.before.before.before.before.before.before.before.before.before.before.before.before.before.before.before.before.before.before.before.before.before.before.before)
 
-same_length : tie.Need-same-length
+same_length : tie.Need-shape_of-bytes
 same_length c = search rules
 
 returns : tie.Need-returns
 returns c =
-    let waits = c.before.before in
-    let pending = waits.before.before.before.before.before in
-    let count = pending.before.before.before.before.before in
-    let notion = count.before.before.before.before in
-    let estimator = notion.before.before.before.before.before in
-    let start = estimator.before.before.before.before.before.before in
-    let e = start.args.enforcer in
-    let wrote = estimator.write-estimator.ensures in
-    let sized : EnforcerSized e = record { estimator = wrote.0; pending = pending_sized start; waits = waits_sized start } in (
+    let e = c.args.enforcer in
+    let wrote = c.write_estimator.ensures in
+    let sized : EnforcerSized e = record { estimator = wrote.0; pending = pending_sized c.before.before.before.before.before.before.before.before.before.before.before.before.before.before.before.before.before.before.before.before.before.before.before.before.before.before.before; waits = waits_sized c.before.before.before.before.before.before.before.before.before.before.before.before.before.before.before.before.before.before.before.before.before.before.before.before.before.before.before } in (
       sized,
       whole
           (then wrote.1 (omega (arith, estimator_length e.estimator wrote.0))
-          (then (rw notion.before.notion-byte.ensures at notion.put.ensures) refl
-          (then count.put2.ensures refl (then pending.store_Bytes.ensures (omega (arith, pending_sized start)) waits.store-bytes2.ensures))))
-          (enforcer_length e sized ∙ sym start.requires),
+          (then (rw c.notion_byte.ensures at c.put.ensures) refl
+          (then c.put-2.ensures refl (then c.store_bytes.ensures (omega (arith, pending_sized c.before.before.before.before.before.before.before.before.before.before.before.before.before.before.before.before.before.before.before.before.before.before.before.before.before.before.before)) c.store_bytes-2.ensures))))
+          (enforcer_length e sized ∙ sym c.requires),
     )
 
-pub write-enforcer-spec : {M : Type 1} → statement M
-write-enforcer-spec =
+pub write_enforcer_spec : {M : Type 1} → statement M
+write_enforcer_spec =
     tie.close
     (tie.spec
     write-estimator-requires

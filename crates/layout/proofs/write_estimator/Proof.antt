@@ -18,47 +18,41 @@ entries_sized s = search rules
 put-requires : tie.Need-put-requires
 put-requires c κs = search rules
 
-slice-aggregate-store-bytes : tie.Need-slice-aggregate-store-bytes
+slice-aggregate-store-bytes : tie.Need-slice_bounds-store_bytes-end
 slice-aggregate-store-bytes c = search rules
 
-store-bytes-requires : tie.Need-store-bytes-requires
+store-bytes-requires : tie.Need-store_bytes-requires
 store-bytes-requires c κs = omega (arith, symbols_sized c.before.before.before.before.before.before.before.before.before.before)
 
-slice-aggregate-store-words : tie.Need-slice-aggregate-store-words
+slice-aggregate-store-words : tie.Need-slice_bounds-store_words-end
 slice-aggregate-store-words c = search rules
 
-store-words-requires : tie.Need-store-words-requires
+store-words-requires : tie.Need-store_words-requires
 store-words-requires c κs =
-    let count = c.before.before.before.before.before.before.before.before.before in
-    omega (arith, entries_sized count.before.before.before.before.before.before)
+    omega (arith, entries_sized c.before.before.before.before.before.before.before.before.before.before.before.before.before.before.before)
 
-store-further-requires : tie.Need-store-further-requires
+store-further-requires : tie.Need-store_further-requires
 store-further-requires c κs = search rules
 
-same_length : tie.Need-same-length
+same_length : tie.Need-shape_of-bytes
 same_length c = search rules
 
 returns : tie.Need-returns
 returns c =
-    let further = c.before.before in
-    let entries = further.before.before.before.before in
-    let symbols = entries.before.before.before.before.before in
-    let count = symbols.before.before.before.before.before in
-    let start = count.before.before.before.before.before.before in
-    let e = start.args.estimator in (
+    let e = c.args.estimator in (
       record {
-        symbols = symbols_sized start;
-        entries = entries_sized start;
-        words = entries.store_words_lem.ensures.0;
-        further = further.store-further.ensures.0;
+        symbols = symbols_sized c.before.before.before.before.before.before.before.before.before.before.before.before.before.before.before.before.before.before.before.before.before.before;
+        entries = entries_sized c.before.before.before.before.before.before.before.before.before.before.before.before.before.before.before.before.before.before.before.before.before.before;
+        words = c.store_words.ensures.0;
+        further = c.store_further.ensures.0;
       },
-      then count.put.ensures refl
-          (then symbols.store_Bytes.ensures (omega (arith, symbols_sized start))
-          (then entries.store_words_lem.ensures.1 (omega (arith, entries_sized start, words_bytes_length e.entries)) further.store-further.ensures.1)),
+      then c.put.ensures refl
+          (then c.store_bytes.ensures (omega (arith, symbols_sized c.before.before.before.before.before.before.before.before.before.before.before.before.before.before.before.before.before.before.before.before.before.before))
+          (then c.store_words.ensures.1 (omega (arith, entries_sized c.before.before.before.before.before.before.before.before.before.before.before.before.before.before.before.before.before.before.before.before.before.before, words_bytes_length e.entries)) c.store_further.ensures.1)),
     )
 
-pub write-estimator-spec : {M : Type 1} → statement M
-write-estimator-spec =
+pub write_estimator_spec : {M : Type 1} → statement M
+write_estimator_spec =
     tie.close
     (tie.spec
     put-requires

@@ -9,10 +9,10 @@ use borrow.Author.Rules.{rules}
 use Rattle.layout.proofs.write_exploration.Statement.{statement}
 use Rattle.layout.proofs.write_exploration.Tie as tie
 
-cast-store-number : tie.Need-overflow-cast-store-number
+cast-store-number : tie.Need-overflow_cast-exploration
 cast-store-number c = search rules
 
-store-number-requires : tie.Need-store-number-requires
+store-number-requires : tie.Need-store_number-requires
 store-number-requires c κs = search rules
 
 put-requires : tie.Need-put-requires
@@ -21,23 +21,19 @@ put-requires c κs = search rules
 put-requires-2 : tie.Need-put-requires-2
 put-requires-2 c κs = search rules
 
-same_length : tie.Need-same-length
+same_length : tie.Need-shape_of-bytes
 same_length c = search rules
 
 returns : tie.Need-returns
 returns c =
-    let strong = c.before.before in
-    let weak = strong.before.before.before.before in
-    let number = weak.before.before.before.before in
-    let start = number.before.before.before.before in
-    let e = start.args.exploration in
+    let e = c.args.exploration in
     whole
-    (then number.store-number.ensures (omega (arith, bytes_length explored_size e.number))
-    (then weak.put.ensures refl strong.put2.ensures))
-    (exploration_length e ∙ sym start.requires)
+    (then c.store_number.ensures (omega (arith, bytes_length explored_size e.number))
+    (then c.put.ensures refl c.put-2.ensures))
+    (exploration_length e ∙ sym c.requires)
 
-pub write-exploration-spec : {M : Type 1} → statement M
-write-exploration-spec =
+pub write_exploration_spec : {M : Type 1} → statement M
+write_exploration_spec =
     tie.close
     (tie.spec
     cast-store-number

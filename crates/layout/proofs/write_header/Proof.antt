@@ -19,44 +19,37 @@ put-requires c κs = search rules
 put-requires-2 : tie.Need-put-requires-2
 put-requires-2 c κs = search rules
 
-store-number-requires : tie.Need-store-number-requires
+store-number-requires : tie.Need-store_number-requires
 store-number-requires c κs = search rules
 
-cast-store-number : tie.Need-overflow-cast-store-number
+cast-store-number : tie.Need-overflow_cast-header
 cast-store-number c = search rules
 
-store-number-requires-2 : tie.Need-store-number-requires-2
+store-number-requires-2 : tie.Need-store_number-requires-2
 store-number-requires-2 c κs = search rules
 
-slice-aggregate-store-bytes : tie.Need-slice-aggregate-store-bytes
+slice-aggregate-store-bytes : tie.Need-slice_bounds-store_bytes-end
 slice-aggregate-store-bytes c = search rules
 
-store-bytes-requires : tie.Need-store-bytes-requires
+store-bytes-requires : tie.Need-store_bytes-requires
 store-bytes-requires c κs =
-    let initial = c.before.before.before.before.before.before.before.before.before.before.before.before.before.before.before.before.before in
-    omega (arith, sized initial.before.before.before.before)
+    omega (arith, sized c.before.before.before.before.before.before.before.before.before.before.before.before.before.before.before.before.before.before.before.before.before)
 
-same_length : tie.Need-same-length
+same_length : tie.Need-shape_of-bytes
 same_length c = search rules
 
 returns : tie.Need-returns
 returns c =
-    let symbols = c.before.before in
-    let observable = symbols.before.before.before.before.before in
-    let secret = observable.before.before.before.before.before in
-    let k = secret.before.before.before.before in
-    let initial = k.before.before.before.before in
-    let start = initial.before.before.before.before in
-    let h = start.args.header in
+    let h = c.args.header in
     whole
-    (then initial.put.ensures refl
-    (then k.put2.ensures refl
-    (then secret.store-number.ensures (omega (arith, bytes_length word_size h.secret))
-    (then observable.store-number2.ensures (omega (arith, bytes_length half_size h.observable)) symbols.store_Bytes.ensures))))
-    (header_length h (sized start) ∙ sym start.requires)
+    (then c.put.ensures refl
+    (then c.put-2.ensures refl
+    (then c.store_number.ensures (omega (arith, bytes_length word_size h.secret))
+    (then c.store_number-2.ensures (omega (arith, bytes_length half_size h.observable)) c.store_bytes.ensures))))
+    (header_length h (sized c.before.before.before.before.before.before.before.before.before.before.before.before.before.before.before.before.before.before.before.before.before.before.before.before) ∙ sym c.requires)
 
-pub write-header-spec : {M : Type 1} → statement M
-write-header-spec =
+pub write_header_spec : {M : Type 1} → statement M
+write_header_spec =
     tie.close
     (tie.spec
     put-requires

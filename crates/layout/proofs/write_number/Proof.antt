@@ -7,17 +7,15 @@ use borrow.Author.Rules.{rules}
 use Rattle.layout.proofs.write_number.Statement.{statement}
 use Rattle.layout.proofs.write_number.Tie as tie
 
-store-number-requires : tie.Need-store-number-requires
+store-number-requires : tie.Need-store_number-requires
 store-number-requires c κs = search rules
 
-same_length : tie.Need-same-length
+same_length : tie.Need-shape_of-bytes
 same_length c = search rules
 
 returns : tie.Need-returns
 returns c =
-    let stored = c.before.before in
-    let start = stored.before.before.before in
-    whole stored.store-number.ensures (bytes_length word_size start.args.number ∙ sym start.requires)
+    whole c.store_number.ensures (bytes_length word_size c.args.number ∙ sym c.requires)
 
-pub write-number-spec : {M : Type 1} → statement M
-write-number-spec = tie.close (tie.spec store-number-requires same_length returns)
+pub write_number_spec : {M : Type 1} → statement M
+write_number_spec = tie.close (tie.spec store-number-requires same_length returns)

@@ -11,14 +11,12 @@ put-requires c κs = search rules
 put-requires-2 : tie.Need-put-requires-2
 put-requires-2 c κs = search rules
 
-same_length : tie.Need-same-length
+same_length : tie.Need-shape_of-bytes
 same_length c = search rules
 
 returns : tie.Need-returns
 returns c =
-    let size = c.before.before in
-    let count = size.before.before.before.before in
-    whole (then count.put.ensures refl size.put2.ensures) (sym count.before.before.before.requires)
+    whole (then c.put.ensures refl c.put-2.ensures) (sym c.requires)
 
-pub write-release-spec : {M : Type 1} → statement M
-write-release-spec = tie.close (tie.spec put-requires put-requires-2 same_length returns)
+pub write_release_spec : {M : Type 1} → statement M
+write_release_spec = tie.close (tie.spec put-requires put-requires-2 same_length returns)

@@ -9,19 +9,16 @@ use Rattle.layout.proofs.write_run.Tie as tie
 put-requires : tie.Need-put-requires
 put-requires c κs = search rules
 
-store-number-requires : tie.Need-store-number-requires
+store-number-requires : tie.Need-store_number-requires
 store-number-requires c κs = search rules
 
-same_length : tie.Need-same-length
+same_length : tie.Need-shape_of-bytes
 same_length c = search rules
 
 returns : tie.Need-returns
 returns c =
-    let pairs = c.before.before in
-    let start = pairs.before.before.before.before in
-    let entry = start.before.before.before in
-    whole (then start.put.ensures refl pairs.store-number.ensures)
-    (run_length entry.args.start entry.args.pairs ∙ sym entry.requires)
+    whole (then c.put.ensures refl c.store_number.ensures)
+    (run_length c.args.start c.args.pairs ∙ sym c.requires)
 
-pub write-run-spec : {M : Type 1} → statement M
-write-run-spec = tie.close (tie.spec put-requires store-number-requires same_length returns)
+pub write_run_spec : {M : Type 1} → statement M
+write_run_spec = tie.close (tie.spec put-requires store-number-requires same_length returns)

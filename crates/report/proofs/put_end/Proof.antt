@@ -6,9 +6,6 @@ use Rattle.report.proofs.Laws.{then, same, lined}
 use Rattle.report.proofs.put_end.Statement.{statement}
 use Rattle.report.proofs.put_end.Tie as tie
 
-slice-aggregate-text : tie.Need-slice-aggregate-text
-slice-aggregate-text c = search rules
-
 text-requires : tie.Need-text-a-requires
 text-requires c κs = search rules
 
@@ -37,7 +34,6 @@ pub put_end_spec : {M : Type 1} → statement M
 put_end_spec =
     tie.close
     (tie.spec
-    slice-aggregate-text
     text-requires
     field-requires
     field-requires-2

@@ -7,9 +7,6 @@ use Rattle.report.proofs.Laws.{then, same, lined}
 use Rattle.report.proofs.put_refused_log.Statement.{statement}
 use Rattle.report.proofs.put_refused_log.Tie as tie
 
-slice-aggregate-text : tie.Need-slice-aggregate-text
-slice-aggregate-text c = search rules
-
 text-requires : tie.Need-text-a-requires
 text-requires c κs = search rules
 
@@ -33,7 +30,6 @@ pub put_refused_log_spec : {M : Type 1} → statement M
 put_refused_log_spec =
     tie.close
     (tie.spec
-    slice-aggregate-text
     text-requires
     refusal-field-requires
     put-requires

@@ -16,7 +16,7 @@ same_length c = search rules
 
 returns : tie.Need-returns-then-has_room
 returns c = entered (holds _ c.if-has_room.true c.has_room.ensures)
-    c.Put-refused.ensures
+    c.put_refused.ensures
 
 same-length-2 : tie.Need-shape_of-out
 same-length-2 c = search rules

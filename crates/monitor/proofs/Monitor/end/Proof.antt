@@ -8,36 +8,36 @@ use borrow.Author.Rules.{rules}
 use Rattle.monitor.proofs.Monitor.end.Statement.{statement}
 use Rattle.monitor.proofs.Monitor.end.Tie as tie
 
-cast-pending : tie.Need-overflow-cast-pending
+cast-pending : tie.Need-overflow_cast-pending
 cast-pending c = search rules
 
 idle-requires : tie.Need-idle-requires
 idle-requires c κs = search rules
 
-same_length : tie.Need-same-length
+same_length : tie.Need-shape_of-out-then-self-eq0
 same_length c = search rules
 
-returns : tie.Need-returns
+returns : tie.Need-returns-then-self-eq0
 returns c =
-    let a = c.before.before.before.before.before.before.before.before.before.before.args in
-    let called = c.before.before.idle in
-    subst (λ (l : List ℕ). Written room_at_end a.out.now a.at l called.result called.new.0)
-    (with_none a.self c.before.before.before.before.before.if1.true) called.ensures
+    let a = c.args in
+    let called = c.idle in
+    subst (λ (l : List ℕ). Written room_at_end a.out.now a.at l called.result called.new.out)
+    (with_none a.self c.if-self-eq0.true) called.ensures
 
 ended-requires : tie.Need-ended-requires
 ended-requires c κs = search rules
 
-same-length-2 : tie.Need-same-length-2
+same-length-2 : tie.Need-shape_of-out
 same-length-2 c = search rules
 
-returns-2 : tie.Need-returns-2
+returns-2 : tie.Need-returns
 returns-2 c =
-    let a = c.before.before.before.before.before.before.before.before.before.args in
-    let called = c.before.before.ended in
-    subst (λ (l : List ℕ). Written room_at_end a.out.now a.at l called.result called.new.0)
-    (with_some a.self (omega (arith, c.before.before.before.before.if1.false))) called.ensures
+    let a = c.args in
+    let called = c.ended in
+    subst (λ (l : List ℕ). Written room_at_end a.out.now a.at l called.result called.new.out)
+    (with_some a.self (omega (arith, c.if-self-eq0.false))) called.ensures
 
-pub end-spec : {M : Type 1} → statement M
-end-spec =
+pub end_spec : {M : Type 1} → statement M
+end_spec =
     tie.close
     (tie.spec cast-pending idle-requires same_length returns ended-requires same-length-2 returns-2)

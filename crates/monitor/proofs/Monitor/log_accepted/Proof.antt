@@ -5,25 +5,25 @@ use borrow.Author.Rules.{rules}
 use Rattle.monitor.proofs.Monitor.log_accepted.Statement.{statement}
 use Rattle.monitor.proofs.Monitor.log_accepted.Tie as tie
 
-add-accepted : tie.Need-overflow-add-accepted
+add-accepted : tie.Need-overflow_add-accepted
 add-accepted c = search rules
 
-accepted-requires : tie.Need-accepted-requires
+accepted-requires : tie.Need-accepted-line-requires
 accepted-requires c κs = search rules
 
-add-t14 : tie.Need-overflow-add-t14
+add-t14 : tie.Need-overflow_add-result
 add-t14 c = search rules
 
-cast-t16 : tie.Need-overflow-cast-t16
+cast-t16 : tie.Need-overflow_cast-result
 cast-t16 c = search rules
 
-add-t17 : tie.Need-overflow-add-t17
-add-t17 c = let fits = c.before.before.before.before.before.before.before.before.before.before.requires.1.released in search rules
+add-t17 : tie.Need-overflow_add-result-2
+add-t17 c = let fits = c.requires.1.released in search rules
 
 place-requires : tie.Need-place-requires
 place-requires c κs = search rules
 
-same_length : tie.Need-same-length
+same_length : tie.Need-shape_of-out
 same_length c = search rules
 
 returns : tie.Need-returns
@@ -32,14 +32,14 @@ returns c = (
   rw c.place.ensures
       (printed (omega (
         arith,
-        c.before.before.before.before.before.before.before.before.before.before.before.requires.0.room,
-        c.before.before.before.before.before.before.before.before.before.before.before.requires.1.few,
+        c.requires.0.room,
+        c.requires.1.few,
       ))
-      c.before.before.before.before.before.accepted.ensures),
+      c.accepted-line.ensures),
 )
 
-pub log-accepted-spec : {M : Type 1} → statement M
-log-accepted-spec =
+pub log_accepted_spec : {M : Type 1} → statement M
+log_accepted_spec =
     tie.close
     (tie.spec
     add-accepted

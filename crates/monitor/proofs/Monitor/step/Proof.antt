@@ -7,46 +7,46 @@ use borrow.Author.Rules.{rules}
 use Rattle.monitor.proofs.Monitor.step.Statement.{statement}
 use Rattle.monitor.proofs.Monitor.step.Tie as tie
 
-accept-requires : tie.Need-accept-requires
+accept-requires : tie.Need-accept-reply-requires
 accept-requires c κs = search rules
 
-enum-known-answer : tie.Need-enum-known-answer
+enum-known-answer : tie.Need-enum_known-answer
 enum-known-answer c = search rules
 
-log-refused-requires : tie.Need-log-refused-requires
+log-refused-requires : tie.Need-log_refused-requires
 log-refused-requires c κs = search rules
 
-enum-known-answer-2 : tie.Need-enum-known-answer-2
+enum-known-answer-2 : tie.Need-enum_known-answer-in-Accepted-1
 enum-known-answer-2 c = search rules
 
 enforce-requires : tie.Need-enforce-requires
 enforce-requires c κs =
-    let a = c.before.before.before.before.before.before.before.before.before.args in
-    let called = c.before.before.before.before.before.accept in (
-      c.before.before.before.before.before.before.before.before.before.requires.0,
-      c.before.before.before.before.before.before.before.before.before.requires.1,
+    let a = c.args in
+    let called = c.accept-reply in (
+      c.requires.0,
+      c.requires.1,
       subst (λ (x : Answer). Accepting a.table.now a.header a.self.estimator a.byte (verifier.said a.self.estimator.further x)
-          called.result.estimator) c.before.before.before.answer2.given.1 called.ensures.0,
+          called.result.estimator) c.in-Accepted.is called.ensures.0,
     )
 
-same_length : tie.Need-same-length
+same_length : tie.Need-shape_of-out-in-Refused
 same_length c = search rules
 
-returns : tie.Need-returns
+returns : tie.Need-returns-in-Refused
 returns c =
-    let a = c.before.before.before.before.before.before.before.before.before.before.before.args in
-    let called = c.before.before.before.before.before.before.before.accept in
-    let done = c.before.before.log-refused in
-    by_verifier a.table.now a.header a.self a.byte c.before.before.before.before.before.answer.given.0.0 called.result.estimator
-    done.result.monitor c.before.before.before.before.before.before.before.before.before.before.before.requires.0
+    let a = c.args in
+    let called = c.accept-reply in
+    let done = c.log_refused in
+    by_verifier a.table.now a.header a.self a.byte c.in-Refused.refusal called.result.estimator
+    done.result.monitor c.requires.0
     (subst (λ (x : Answer). Accepting a.table.now a.header a.self.estimator a.byte (verifier.said a.self.estimator.further x)
-    called.result.estimator) c.before.before.before.before.before.answer.given.1 called.ensures.0)
+    called.result.estimator) c.in-Refused.is called.ensures.0)
     done.ensures.0 done.ensures.1
 
-same-length-2 : tie.Need-same-length-2
+same-length-2 : tie.Need-shape_of-out-in-Accepted
 same-length-2 c = search rules
 
-returns-2 : tie.Need-returns-2
+returns-2 : tie.Need-returns-in-Accepted
 returns-2 c = search rules
 
 pub step_spec : {M : Type 1} → statement M

@@ -6,9 +6,6 @@ use Rattle.report.proofs.Laws.{then, same, lined}
 use Rattle.report.proofs.witnesses.put_accepted_end.Statement.{statement}
 use Rattle.report.proofs.witnesses.put_accepted_end.Tie as tie
 
-slice-aggregate-text : tie.Need-slice-aggregate-text
-slice-aggregate-text c = search rules
-
 text-requires : tie.Need-text-a-requires
 text-requires c κs = search rules
 
@@ -30,4 +27,4 @@ returns c =
 pub put_accepted_end_spec : {M : Type 1} → statement M
 put_accepted_end_spec =
     tie.close
-    (tie.spec slice-aggregate-text text-requires field-requires put-requires same_length returns)
+    (tie.spec text-requires field-requires put-requires same_length returns)

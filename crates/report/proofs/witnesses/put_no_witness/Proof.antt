@@ -11,9 +11,6 @@ use Rattle.report.proofs.witnesses.put_no_witness.Tie as tie
 put-step-requires : tie.Need-put_step-next-requires
 put-step-requires c κs = search rules
 
-slice-aggregate-text : tie.Need-slice-aggregate-text
-slice-aggregate-text c = search rules
-
 text-requires : tie.Need-text-requires
 text-requires c κs = search rules
 
@@ -28,4 +25,4 @@ returns c =
 
 pub put_no_witness_spec : {M : Type 1} → statement M
 put_no_witness_spec =
-    tie.close (tie.spec put-step-requires slice-aggregate-text text-requires same_length returns)
+    tie.close (tie.spec put-step-requires text-requires same_length returns)

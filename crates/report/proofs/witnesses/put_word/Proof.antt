@@ -9,17 +9,11 @@ use Rattle.report.proofs.witnesses.put_word.Tie as tie
 enum_told : tie.Need-enum_told-1
 enum_told c = search rules
 
-slice-aggregate-text : tie.Need-slice-aggregate-text
-slice-aggregate-text c = search rules
-
 text-requires : tie.Need-text-requires
 text-requires c κs = search rules
 
 enum-told-2 : tie.Need-enum_told-in-Strong
 enum-told-2 c = search rules
-
-slice-aggregate-text-2 : tie.Need-slice-aggregate-text-2
-slice-aggregate-text-2 c = search rules
 
 text-requires-2 : tie.Need-text-requires-in-Strong
 text-requires-2 c κs = search rules
@@ -41,10 +35,8 @@ put_word_spec =
     tie.close
     (tie.spec
     enum_told
-    slice-aggregate-text
     text-requires
     enum-told-2
-    slice-aggregate-text-2
     text-requires-2
     same_length
     returns

@@ -7,14 +7,13 @@ use native.Mathlib.Omega.{arith}
 use native.Mathlib.Nat.{add-zero}
 use denote.Ref.{Bor}
 use lib.ListN.{length}
-use Rattle.bitfields.specs.Bits.{bits_of, number_at, Inside}
-use Rattle.bitfields.specs.Parser.{field, flags}
-use Rattle.bitfields.specs.Answers.{field_means, flags_means}
+use Rattle.bitfields.specs.Bits.{bits_of}
+use Rattle.bitfields.specs.Parser.{field}
+use Rattle.bitfields.specs.Answers.{field_means}
 use Rattle.bitfields.specs.declared.Reader.{Reader}
 use Rattle.bitfields.specs.declared.Field.{Field}
-use Rattle.bitfields.specs.declared.Flags.{Flags}
-use Rattle.encoding.specs.Transitions.{transition_at, transitions_at, symbols_at}
-use Rattle.encoding.specs.Encoding.{fixed, front, symbols, preamble, transition, transitions, ending}
+use Rattle.encoding.specs.Transitions.{transition_at, transitions_at}
+use Rattle.encoding.specs.Encoding.{fixed, front, preamble, transition, transitions, ending}
 use Rattle.encoding.specs.Answers.{fixed_means, front_means, preamble_means, checked_means, FixedAnswerSmall, FrontAnswerSmall, Reaches}
 use Rattle.encoding.specs.Answers.{states_of, events_of, end_of, symbols_of, start_of, count_of, length_of}
 use Rattle.encoding.specs.declared.FixedAnswer.{FixedAnswer}
@@ -33,12 +32,6 @@ pub field_at : (r : Reader) (w : ℕ) (t : Field) (b : Bor (List ℕ)) (at : ℕ
     → field_means (r.position + w) t ≡ field w (bits_of r.bytes.now) r.position → field_means (at + w) t ≡ field w (bits_of b.now) at
 field_at r w t b at e p h = moved (λ (x : Bor (List ℕ)) (n : ℕ). field_means (n + w) t ≡ field w (bits_of x.now) n) r e p h
 
-pub flags_at : (r : Reader) (n : ℕ) (t : Flags) (b : Bor (List ℕ)) (at m : ℕ) → r.bytes ≡ b → r.position ≡ at → n ≡ m
-    → flags_means (r.position + n) t ≡ flags n (bits_of r.bytes.now) r.position → flags_means (at + m) t ≡ flags m (bits_of b.now) at
-flags_at r n t b at m e p q h =
-    subst (λ (k : ℕ). flags_means (at + k) t ≡ flags k (bits_of b.now) at) q
-    (moved (λ (x : Bor (List ℕ)) (y : ℕ). flags_means (y + n) t ≡ flags n (bits_of x.now) y) r e p h)
-
 pub listed_at : (r : Reader) (s e c : ℕ) (t : Checked) (b : Bor (List ℕ)) (at s' e' c' : ℕ) → r.bytes ≡ b → r.position ≡ at → s ≡ s' → e ≡ e' → c ≡ c'
     → checked_means (transitions_at (bits_of r.bytes.now) r.position c) (r.position + c * 17) t
     ≡ transitions s e c (bits_of r.bytes.now) r.position
@@ -52,13 +45,6 @@ listed_at r s e c t b at s' e' c' eb ep es ee ec h =
 pub ending_at : (r : Reader) (t : Checked) (b : Bor (List ℕ)) (at : ℕ) → r.bytes ≡ b → r.position ≡ at
     → checked_means tt r.position t ≡ ending (bits_of r.bytes.now) r.position → checked_means tt at t ≡ ending (bits_of b.now) at
 ending_at r t b at e p h = moved (λ (x : Bor (List ℕ)) (n : ℕ). checked_means tt n t ≡ ending (bits_of x.now) n) r e p h
-
-pub symbols-at : (r : Reader) (n : ℕ) (t : Checked) (b : Bor (List ℕ)) (at m : ℕ) → r.bytes ≡ b → r.position ≡ at → n ≡ m
-    → checked_means (symbols_at (bits_of r.bytes.now) r.position n) (r.position + n * 5) t ≡ symbols n (bits_of r.bytes.now) r.position
-    → checked_means (symbols_at (bits_of b.now) at m) (at + m * 5) t ≡ symbols m (bits_of b.now) at
-symbols-at r n t b at m e p q h =
-    subst (λ (k : ℕ). checked_means (symbols_at (bits_of b.now) at k) (at + k * 5) t ≡ symbols k (bits_of b.now) at) q
-    (moved (λ (x : Bor (List ℕ)) (y : ℕ). checked_means (symbols_at (bits_of x.now) y n) (y + n * 5) t ≡ symbols n (bits_of x.now) y) r e p h)
 
 -- the numbers of what was read are small
 pub fixed_small : (bs : List ℕ) (r : FixedAnswer) → fixed_means r ≡ fixed (bits_of bs) 0 → FixedAnswerSmall r
@@ -106,12 +92,3 @@ pub reaches : (s e : ℕ) (bits : List ℕ) (at : ℕ) (one : Checked) → check
     → Reaches one (at + 17) bits
 reaches s e bits at checked.Valid h = omega (arith, transition_in s e bits at (sym h))
 reaches s e bits at (checked.Refused r) h = tt
-
--- the number that was read through a reader, at the position that it came to; and that its field lies inside the bytes
-pub number-at : (r : Reader) (w : ℕ) (b : Bor (List ℕ)) (at : ℕ) → r.bytes ≡ b → r.position ≡ at → {t : ℕ} → t
-    ≡ number_at (bits_of r.bytes.now) r.position w → t ≡ number_at (bits_of b.now) at w
-number-at r w b at e p {t} h = moved (λ (x : Bor (List ℕ)) (n : ℕ). t ≡ number_at (bits_of x.now) n w) r e p h
-
-pub inside_at : (r : Reader) (w : ℕ) (b : Bor (List ℕ)) (at : ℕ) → r.bytes ≡ b → r.position ≡ at → Inside b.now at w
-    → Inside r.bytes.now r.position w
-inside_at r w b at e p h = subst (λ (x : Bor (List ℕ)). Inside x.now r.position w) (sym e) (subst (λ (n : ℕ). Inside b.now n w) (sym p) h)

@@ -1,11 +1,9 @@
 -- A table that holds transitions, and the promise at each return of `decode`.
 pub mod Stored
 pub mod Promise
--- For the walks over the Reader: what was read where it came to, the table so far; and of any crate's, a slice that is lent again and a loop that counts.
+-- For the functions over the Reader: what was read where it came to, and the table so far.
 mod Carried
 mod Filling
-mod Again
-mod Turns
 -- Theorems about the definitions: which refusals there are, one decoding only, no transition twice, what a decoded table and a decoded header's
 -- symbols mean, how long an encoding can be, and how longer bytes are refused. (01's starred encodings are rows of the table in `examples`.)
 pub mod Refusing

@@ -1,7 +1,6 @@
 -- `Estimator::accept_asked` meets its contract: the tests in their order, the estimate after the symbol, and the verdicts of the look back from it.
 use mathlib.Core.Path.{sym, subst}
 use mathlib.Core.List.{[]}
-use borrow.Author.Tests.{not-true, not-false}
 use borrow.Author.Rules.{rules}
 use Prim.Native.Nat.{ℕ}
 use native.Mathlib.Omega.{arith}

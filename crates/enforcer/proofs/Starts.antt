@@ -20,7 +20,7 @@ use Rattle.verifier.specs.Replies.{Opening, findings, chosen_each, steps_each}
 use Rattle.opacity.proofs.Numbering.{look_back_small}
 use Rattle.opacity.proofs.Exactness.{clear_unsure}
 use Rattle.verifier.proofs.PastCount.{past_count, past_secrets, past_allowed, past_large, with_further, past_limits, past_grown}
-use Rattle.enforcer.specs.Enforcers.{Limits, InLimits, Padded, Grown, GrownOn}
+use Rattle.enforcer.specs.Enforcers.{InLimits, Padded, Grown, GrownOn}
 use Rattle.enforcer.specs.Queues.{Queue}
 use Rattle.enforcer.specs.Offerings.{StartOutcome, OfferOutcome, refused, not_started, started, Unusable, OpensAsLeak, Starting, Offering}
 use Rattle.enforcer.specs.Waits.{wait_of, LargestWait}

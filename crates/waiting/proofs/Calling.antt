@@ -3,13 +3,11 @@
 use mathlib.Core.Path.{◌≡◌, refl, ap, sym, ◌∙◌, subst}
 use mathlib.Core.List.{List, [], ◌∷◌, ◌++◌, append_assoc}
 use mathlib.Core.Logic.{◌↔◌, inl, inr}
-use Prim.Native.Nat.{ℕ, ◌≤◌, ◌<◌}
-use native.Mathlib.Omega.{arith}
-use lib.ListN.{length, take, length-append}
-use lib.Seq.{take_at}
+use Prim.Native.Nat.{ℕ, ◌<◌}
+use lib.ListN.{length}
 use Rattle.lists.specs.Calls.{done, next}
 use Rattle.lists.proofs.Chains.{all_taken, every}
-use Rattle.automaton.specs.Run.{Automaton, automaton_of, Possible, WellFormed}
+use Rattle.automaton.specs.Run.{automaton_of, Possible, WellFormed}
 use Rattle.automaton.specs.declared.Header.{Header}
 use Rattle.automaton.proofs.Traces.{front_possible, symbol_observable}
 use Rattle.opacity.specs.declared.Notion.{Notion}

@@ -15,8 +15,7 @@ use Rattle.opacity.specs.declared.Notion.{Notion}
 use Rattle.opacity.specs.declared.Notion.TheVariants.{Weak, Strong}
 use Rattle.opacity.specs.declared.Secret.{Secret}
 use Rattle.opacity.specs.declared.Further.{Further}
-use Rattle.opacity.specs.Secrets.{secrets_of, secret_at, ForEach, cleared_of}
-use Rattle.opacity.specs.Verdicts.{none, Tells}
+use Rattle.opacity.specs.Secrets.{secrets_of, secret_at, cleared_of}
 use Rattle.opacity.proofs.EveryVerdict.{every_verdict}
 use Rattle.enforcer.specs.SafePrefix.{Safe, SafeForAll}
 use Rattle.enforcer.specs.Enforcers.{GrownOn}

@@ -3,7 +3,6 @@ use Prim.Native.Nat.{ℕ}
 use native.Mathlib.Omega.{arith}
 use lib.ListN.{get_or}
 use borrow.Author.Rules.{rules}
-use borrow.Author.Tests.{not-true, not-false}
 use Rattle.stateset.specs.Set.{In}
 use Rattle.stateset.proofs.Decides.{holds, fails}
 use Rattle.canonical.proofs.Renaming.{not_observable, own_number, other_number}

@@ -12,7 +12,6 @@ use Rattle.opacity.proofs.Numbering.{look_back_small}
 use Rattle.enforcer.specs.Enforcers.{secrets_in}
 use Rattle.verifier.specs.Replies.{steps_each}
 use Rattle.enforcer.specs.Inner.{PendingWithin, Enqueues}
-use borrow.Author.Tests.{not-true, not-false}
 use Rattle.stateset.specs.Set.{Decided}
 use Rattle.stateset.proofs.Decides.{holds, fails}
 use Rattle.enforcer.specs.Offerings.{Offering, output_too_small}

@@ -1,7 +1,6 @@
 -- `enforcer::Enforcer::well_formed` meets its contract: the estimator's limits, and those of the pending symbols.
 use mathlib.Core.Path.{subst}
 use Prim.Native.Nat.{ℕ}
-use borrow.Author.Tests.{not-true, not-false}
 use Rattle.stateset.specs.Set.{Decided}
 use Rattle.stateset.proofs.Decides.{holds, fails}
 use Rattle.enforcer.specs.Inner.{PendingWithin}

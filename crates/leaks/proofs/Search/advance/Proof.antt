@@ -4,7 +4,6 @@ use Prim.Native.Nat.{◌-◌}
 use native.Mathlib.Omega.{arith}
 use lib.ListN.{length}
 use borrow.Author.Rules.{rules}
-use borrow.Author.Tests.{not-true, not-false}
 use Rattle.stateset.proofs.Decides.{holds, fails}
 use Rattle.leaks.specs.Searches.{Advancing}
 use Rattle.leaks.proofs.Searching.{Along, along_start, along_ready, along_next, along_end}

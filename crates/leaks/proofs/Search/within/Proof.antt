@@ -1,6 +1,5 @@
 -- `leaks::Search::within` meets its contract: each test decides one of the limits.
 use borrow.Author.Rules.{rules}
-use borrow.Author.Tests.{not-true, not-false}
 use native.Mathlib.Omega.{arith}
 use Rattle.stateset.proofs.Decides.{holds, fails}
 use Rattle.leaks.proofs.Searching.{absent}

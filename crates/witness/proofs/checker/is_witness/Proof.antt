@@ -4,7 +4,6 @@ use mathlib.Core.Path.{refl, sym, subst}
 use Prim.Native.Nat.{ℕ, ◌<◌, ◌^◌}
 use Rattle.stateset.specs.Set.{In}
 use borrow.Author.Rules.{rules}
-use borrow.Author.Tests.{not-true, not-false}
 use lib.ListN.{get_or}
 use Rattle.stateset.proofs.Decides.{holds, fails}
 use Rattle.automaton.specs.Run.{automaton_of}

@@ -1,7 +1,6 @@
 -- `witness::checker::left_after` meets its contract. (`t2` is the name that the symbols have in the arguments)
 use native.Mathlib.Omega.{arith}
 use borrow.Author.Rules.{rules}
-use borrow.Author.Tests.{not-true, not-false}
 use Rattle.stateset.specs.Set.{In}
 use Rattle.stateset.proofs.Bits.{in_lt}
 use Rattle.stateset.proofs.Decides.{holds, fails}

@@ -1,5 +1,5 @@
-// The interface for a gateway in C or Rust: include/opacity.h describes it. Headers and saved states are bytes of a fixed layout (`layout`); each function
-// answers 0, or the number of a refusal, and then leaves every slice that it was lent as it was.
+// The interface for a gateway in Rust, and in C through `gateway_c`, whose exports call these functions: include/opacity.h describes it. Headers and saved
+// states are bytes of a fixed layout (`layout`); each function answers 0, or the number of a refusal, and then leaves every slice that it was lent as it was.
 #![tactic(auto)]
 
 ghost use Rattle.gateway.specs.Interface.{Decode, Fresh, Accept, Start, Offer, Explore, FirstLeakCall, CanonicalCall, Witnessing, CheckingWitness};
@@ -17,8 +17,7 @@ use witness::{Answer as Witness, Checked};
 const MALFORMED: u8 = 9;
 
 // Decodes an encoding: the table, and the header's bytes.
-#[unsafe(no_mangle)]
-pub extern "C" fn opacity_decode(encoding: &[u8], table: &mut [u64], header: &mut [u8]) -> u8
+pub fn opacity_decode(encoding: &[u8], table: &mut [u64], header: &mut [u8]) -> u8
     ensures { Decode encoding.now table.old header.old result table.new header.new }
 {
     if header.len() != sizes::HEADER_SIZE {
@@ -37,8 +36,7 @@ pub extern "C" fn opacity_decode(encoding: &[u8], table: &mut [u64], header: &mu
 
 // A fresh estimator with further secrets: its bytes, and in those of a judgement the two verdicts of each secret for the empty trace and how many states
 // are possible.
-#[unsafe(no_mangle)]
-pub extern "C" fn opacity_fresh(
+pub fn opacity_fresh(
     table: &[u64],
     header: &[u8],
     further: &[u8],
@@ -78,8 +76,7 @@ pub extern "C" fn opacity_fresh(
 }
 
 // Accepts one symbol: the estimator after it, the two verdicts of each secret, and how many states are possible.
-#[unsafe(no_mangle)]
-pub extern "C" fn opacity_accept(
+pub fn opacity_accept(
     table: &[u64],
     header: &[u8],
     symbol: u8,
@@ -113,8 +110,7 @@ pub extern "C" fn opacity_accept(
 }
 
 // Starts an enforcer under a notion, 0 weak or 1 strong, with further secrets: its bytes.
-#[unsafe(no_mangle)]
-pub extern "C" fn opacity_start(
+pub fn opacity_start(
     table: &[u64],
     header: &[u8],
     notion: u8,
@@ -154,8 +150,7 @@ pub extern "C" fn opacity_start(
 
 // Offers one symbol: the enforcer after it, the released symbols at the front of the output, and in the bytes of a release their number and how many
 // states are possible.
-#[unsafe(no_mangle)]
-pub extern "C" fn opacity_offer(
+pub fn opacity_offer(
     table: &[u64],
     header: &[u8],
     symbol: u8,
@@ -194,8 +189,7 @@ pub extern "C" fn opacity_offer(
 
 // Explores an automaton with further secrets before it is delivered: in the bytes of an exploration the number of its different configurations, and for each
 // notion the largest wait; or 15, where there are more than the budget allows: as many as it says, and 256 at most.
-#[unsafe(no_mangle)]
-pub extern "C" fn opacity_explore(
+pub fn opacity_explore(
     table: &[u64],
     header: &[u8],
     further: &[u8],
@@ -231,8 +225,7 @@ pub extern "C" fn opacity_explore(
 
 // The first leak among offered event bytes by a notion, 0 weak or 1 strong, with further secrets: the place of the first accepted one whose verdict is a leak
 // of any secret, counted from 1; or 0, where there is none.
-#[unsafe(no_mangle)]
-pub extern "C" fn opacity_first_leak(
+pub fn opacity_first_leak(
     table: &[u64],
     header: &[u8],
     notion: u8,
@@ -276,8 +269,7 @@ pub extern "C" fn opacity_first_leak(
 }
 
 // Writes an encoding's automaton in its canonical form at the front of the output; and how many bytes these are.
-#[unsafe(no_mangle)]
-pub extern "C" fn opacity_canonical(encoding: &[u8], output: &mut [u8], size: &mut [u8]) -> u8
+pub fn opacity_canonical(encoding: &[u8], output: &mut [u8], size: &mut [u8]) -> u8
     ensures { CanonicalCall encoding.now output.old size.old result output.new size.new }
 {
     if size.len() != sizes::WRITTEN_SIZE {
@@ -295,8 +287,7 @@ pub extern "C" fn opacity_canonical(encoding: &[u8], output: &mut [u8], size: &m
 
 // Writes a run over the last k symbols that excuses the system of the secret with a number, by a notion, 0 weak or 1 strong: its pairs at the front of the
 // output, event and state reached; and in the bytes of a run the state it starts in and the number of pairs.
-#[unsafe(no_mangle)]
-pub extern "C" fn opacity_witness(
+pub fn opacity_witness(
     table: &[u64],
     header: &[u8],
     notion: u8,
@@ -340,8 +331,7 @@ pub extern "C" fn opacity_witness(
 }
 
 // Whether a start and pairs of bytes are such a run.
-#[unsafe(no_mangle)]
-pub extern "C" fn opacity_check_witness(
+pub fn opacity_check_witness(
     table: &[u64],
     header: &[u8],
     notion: u8,

@@ -2,6 +2,6 @@
 // the leak is found, no further read is made.
 #![tactic(auto)]
 
-fn main() {
-    leak_log::first_leak_program(opacity::Notion::Strong);
+fn main(rt: HostRuntime) {
+    leak_log::first_leak_program(&rt, opacity::Notion::Strong);
 }

@@ -13,6 +13,8 @@ mod parse;
 mod print;
 mod store;
 
+use streams::reads::read_full;
+
 // Sets an element so many times: the place behind them, or one behind the slot if they do not fit, or it is no byte.
 fn set_element(
     memory: &mut [u64; 69632],
@@ -77,34 +79,42 @@ fn set(
 }
 
 // The line of a call once more, and its answer.
-fn show_answer(line: &[u8], answer: u8) {
-    io::write_all(1, line);
+fn show_answer(rt: &impl Print, line: &[u8], answer: u8) {
+    let _ = rt.write_all(line);
     if answer == open::OPEN {
-        io::write_all(1, b": open\n");
+        let _ = rt.write_all(b": open\n");
         return;
     }
     if answer == open::PASSES {
-        io::write_all(1, b": passes\n");
+        let _ = rt.write_all(b": passes\n");
         return;
     }
-    io::write_all(1, b": ");
-    io::print_decimal(1, answer as u64);
-    io::write_all(1, b"\n");
+    let _ = rt.write_all(b": ");
+    let _ = rt.print(answer as u64);
+    let _ = rt.write_all(b"\n");
 }
 
-fn show_call(line: &[u8], call: u64, answer: u8, memory: &[u64; 69632], sizes: &[usize; 17]) {
+fn show_call(
+    rt: &impl Print,
+    line: &[u8],
+    call: u64,
+    answer: u8,
+    memory: &[u64; 69632],
+    sizes: &[usize; 17],
+) {
     let slots = calls::slots_of(call);
-    show_answer(line, answer);
+    show_answer(rt, line, answer);
     if call == calls::DECODE {
-        print::show(memory, sizes, store::TABLE);
+        print::show(rt, memory, sizes, store::TABLE);
     }
-    print::show(memory, sizes, slots.first);
-    print::show(memory, sizes, slots.second);
-    print::show(memory, sizes, slots.third);
+    print::show(rt, memory, sizes, slots.first);
+    print::show(rt, memory, sizes, slots.second);
+    print::show(rt, memory, sizes, slots.third);
 }
 
 // A call, by the word before it, if any.
 fn make_call(
+    rt: &impl Print,
     line: &[u8],
     how: u64,
     call: u64,
@@ -113,15 +123,16 @@ fn make_call(
     sizes: &[usize; 17],
 ) {
     if how != 0 {
-        show_answer(line, open::said_of(how, call, numbers, memory, sizes));
+        show_answer(rt, line, open::said_of(how, call, numbers, memory, sizes));
         return;
     }
     let answer = calls::answer_of(call, numbers, memory, sizes);
-    show_call(line, call, answer, memory, sizes);
+    show_call(rt, line, call, answer, memory, sizes);
 }
 
 // Whether the line has, from a place on, a call and as many numbers as it takes.
 fn called(
+    rt: &impl Print,
     line: &[u8],
     at: usize,
     how: u64,
@@ -156,12 +167,17 @@ fn called(
         third: (given.third % 256) as u32,
         fourth: (given.fourth % 256) as u32,
     };
-    make_call(line, how, call, numbers, memory, sizes);
+    make_call(rt, line, how, call, numbers, memory, sizes);
     true
 }
 
 // Whether the line is understood.
-fn obeyed(line: &[u8], memory: &mut [u64; 69632], sizes: &mut [usize; 17]) -> bool {
+fn obeyed(
+    rt: &impl Print,
+    line: &[u8],
+    memory: &mut [u64; 69632],
+    sizes: &mut [usize; 17],
+) -> bool {
     let word = parse::word_at(line, 0);
     let slot = parse::slot_of(word.value);
     let end = word.next;
@@ -170,10 +186,10 @@ fn obeyed(line: &[u8], memory: &mut [u64; 69632], sizes: &mut [usize; 17]) -> bo
     }
     if (word.value == calls::OPEN_WORD) | (word.value == calls::ANY_WORD) {
         if end < line.len() {
-            return called(line, end + 1, word.value, memory, sizes);
+            return called(rt, line, end + 1, word.value, memory, sizes);
         }
     }
-    called(line, 0, 0, memory, sizes)
+    called(rt, line, 0, 0, memory, sizes)
 }
 
 // An empty line, or one that says something to the reader.
@@ -184,22 +200,22 @@ fn comment(line: &[u8]) -> bool {
     line[0] == b'#'
 }
 
-fn run(line: &[u8], memory: &mut [u64; 69632], sizes: &mut [usize; 17]) {
+fn run(rt: &impl Print, line: &[u8], memory: &mut [u64; 69632], sizes: &mut [usize; 17]) {
     if comment(line) {
-        io::write_all(1, line);
-        io::write_all(1, b"\n");
+        let _ = rt.write_all(line);
+        let _ = rt.write_all(b"\n");
         return;
     }
-    if !obeyed(line, memory, sizes) {
-        io::write_all(1, b"?\n");
+    if !obeyed(rt, line, memory, sizes) {
+        let _ = rt.write_all(b"?\n");
     }
 }
 
-fn all(input: &[u8], memory: &mut [u64; 69632], sizes: &mut [usize; 17]) {
+fn all(rt: &impl Print, input: &[u8], memory: &mut [u64; 69632], sizes: &mut [usize; 17]) {
     let mut at: usize = 0;
     while at < input.len() {
         let end = parse::line_end(input, at);
-        run(&input[at..end], memory, sizes);
+        run(rt, &input[at..end], memory, sizes);
         at = end + 1;
     }
 }
@@ -211,10 +227,10 @@ fn room() -> [u8; 1048576]
     [0; 1048576]
 }
 
-fn main() {
+fn main(rt: HostRuntime) {
     let mut input = room();
     let mut memory = [0u64; 69632];
     let mut sizes = [0usize; 17];
-    let n = io::read_full(0, &mut input);
-    all(&input[0..n], &mut memory, &mut sizes);
+    let n = read_full(&rt, &mut input);
+    all(&rt, &input[0..n], &mut memory, &mut sizes);
 }

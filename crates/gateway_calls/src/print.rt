@@ -19,62 +19,63 @@ fn run_at(memory: &[u64; 69632], slot: usize, at: usize, size: usize) -> usize
 }
 
 // An element that is not 0, and how often it stands: behind its index, or behind the one before it.
-fn show_run(before: u64, at: usize, word: u64, times: usize) {
+fn show_run(rt: &impl Print, before: u64, at: usize, word: u64, times: usize) {
     if word == 0 {
         return;
     }
     if before == 0 {
-        io::write_all(1, b" ");
-        io::print_decimal(1, at as u64);
-        io::write_all(1, b":");
+        let _ = rt.write_all(b" ");
+        let _ = rt.print(at as u64);
+        let _ = rt.write_all(b":");
     } else {
-        io::write_all(1, b",");
+        let _ = rt.write_all(b",");
     }
-    io::print_hex(1, word, 1);
+    let _ = print!(rt; "{word:x}");
     if 1 < times {
-        io::write_all(1, b"*");
-        io::print_decimal(1, times as u64);
+        let _ = rt.write_all(b"*");
+        let _ = rt.print(times as u64);
     }
 }
 
-fn show_runs(memory: &[u64; 69632], slot: usize, size: usize) {
+fn show_runs(rt: &impl Print, memory: &[u64; 69632], slot: usize, size: usize) {
     let mut before: u64 = 0;
     let mut at: usize = 0;
     while at < size {
         let word = store::word_of(memory, slot, at);
         let times = run_at(memory, slot, at, size);
-        show_run(before, at, word, times);
+        show_run(rt, before, at, word, times);
         before = word;
         at += times;
     }
 }
 
 // The name of a slot, of a list in which each has nine letters or spaces; the last slot's name is longer, and is none of them.
-fn show_name(names: &[u8], slot: usize) {
+fn show_name(rt: &impl Print, names: &[u8], slot: usize) {
     if slot == store::EXPLORATION {
-        io::write_all(1, b"exploration");
+        let _ = rt.write_all(b"exploration");
         return;
     }
     if slot < store::NONE {
         let from = slot * 9;
         let end = from + 9;
         if end <= names.len() {
-            io::write_all(1, &names[from..end]);
+            let _ = rt.write_all(&names[from..end]);
         }
     }
 }
 
 // The line of a slot: its name, its size, and its elements that are not 0.
-pub fn show(memory: &[u64; 69632], sizes: &[usize; 17], slot: usize) {
+pub fn show(rt: &impl Print, memory: &[u64; 69632], sizes: &[usize; 17], slot: usize) {
     if slot < store::NONE {
         let size = store::size_of(sizes, slot);
         show_name(
+            rt,
             b"table    encoding header   estimatorjudgementenforcer output   release  further  events   place    size     run      pairs    valid    ",
             slot,
         );
-        io::write_all(1, b" ");
-        io::print_decimal(1, size as u64);
-        show_runs(memory, slot, size);
-        io::write_all(1, b"\n");
+        let _ = rt.write_all(b" ");
+        let _ = rt.print(size as u64);
+        show_runs(rt, memory, slot, size);
+        let _ = rt.write_all(b"\n");
     }
 }

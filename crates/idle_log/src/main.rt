@@ -1,6 +1,6 @@
 // The log program once more, on the log of an idle chamber: a program has one stored run.
 #![tactic(auto)]
 
-fn main() {
-    log_output::log_program();
+fn main(rt: HostRuntime) {
+    log_output::log_program(&rt);
 }

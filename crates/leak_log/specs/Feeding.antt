@@ -1,6 +1,6 @@
 -- A log that is searched, read after read, and its one line. No contract says which bytes a system call brings or takes: the bytes of a read are those at
 -- the front of the lent input after it, as many as it answered. That they are the input's, and that a line that was written out is out, is tested.
-use Rattle.std.specs.Prelude.{◌≡◌, true, false, List, [], ◌++◌, ◌⊎◌, ℕ, ◌+◌, ◌-◌, ◌≤◌, ◌<◌, length, take, drop}
+use Rattle.std.specs.Prelude.{◌≡◌, true, false, List, [], ◌++◌, ◌⊎◌, ℕ, ◌-◌, ◌≤◌, ◌<◌, length, take, drop}
 use Rattle.refusal.specs.Refusals.{number_of}
 use Rattle.refusal.specs.declared.Refusal.{Refusal}
 use Rattle.automaton.specs.declared.Header.{Header}

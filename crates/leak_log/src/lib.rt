@@ -74,10 +74,17 @@ fn begin(search: Search, table: &[u64], header: Header, events: &[u8]) -> Begun
 }
 
 // One more read, of at most `left` bytes: they are searched, all of them in order.
-fn turn(search: Search, table: &[u64], header: Header, input: &mut [u8], left: usize) -> Reading
+fn turn(
+    rt: &(impl Input + Eprint),
+    search: Search,
+    table: &[u64],
+    header: Header,
+    input: &mut [u8],
+    left: usize,
+) -> Reading
     ensures { Turning table.now header left search input.new result }
 {
-    let fetched = fetch(input, left);
+    let fetched = fetch(rt, input, left);
     match fetched {
         Fetched::Bytes(n) => {
             let reply = search.advance(table, header, &input[0..n]);
@@ -99,13 +106,20 @@ fn turn(search: Search, table: &[u64], header: Header, input: &mut [u8], left: u
 }
 
 // Reads on until the leak is found, at most `left` bytes.
-fn all(search: Search, table: &[u64], header: Header, input: &mut [u8], left: usize) -> Rest
+fn all(
+    rt: &(impl Input + Eprint),
+    search: Search,
+    table: &[u64],
+    header: Header,
+    input: &mut [u8],
+    left: usize,
+) -> Rest
     ensures { Fed table.now header left search result }
 {
     let mut now = search;
     let mut rest = left;
     while !now.found {
-        let one = turn(now, table, header, input, rest);
+        let one = turn(rt, now, table, header, input, rest);
         now = one.search;
         let fetched = one.fetched;
         match fetched {
@@ -137,6 +151,7 @@ fn all(search: Search, table: &[u64], header: Header, input: &mut [u8], left: us
 
 // A search that has begun is read on, and told. It says how many of `size` bytes were not read.
 fn read_on(
+    rt: &(impl Input + Print + Eprint),
     begun: Begun,
     table: &[u64],
     header: Header,
@@ -149,15 +164,16 @@ fn read_on(
 {
     let search = begun.search;
     let limit = least(begun.allowed, size);
-    let rest = all(search, table, header, input, limit);
+    let rest = all(rt, search, table, header, input, limit);
     let last = rest.search;
     let status = rest.status;
-    finish(status, last, out);
+    finish(rt, status, last, out);
     size - (limit - rest.left)
 }
 
 // A log whose first `n` bytes are there, and at most `size` more. It says how many of them were not read.
 fn run(
+    rt: &(impl Input + Print + Eprint),
     input: &mut [u8],
     n: usize,
     out: &mut [u8],
@@ -175,19 +191,20 @@ fn run(
     let answer = opened.answer;
     match answer {
         OpenAnswer::Refused(refusal) => {
-            refuse(refusal, out);
+            refuse(rt, refusal, out);
             size
         }
         OpenAnswer::Started(first) => {
             let begun = begin(search, &table, header, &input[first..n]);
             let part = least(piece, input.len());
-            read_on(begun, &table, header, &mut input[0..part], out, size)
+            read_on(rt, begun, &table, header, &mut input[0..part], out, size)
         }
     }
 }
 
 // A log on standard input: at most `size` bytes, in reads of at most `piece` bytes. It says how many were not read.
 pub fn search_input(
+    rt: &(impl Input + Print + Eprint),
     input: &mut [u8],
     out: &mut [u8],
     size: usize,
@@ -196,23 +213,28 @@ pub fn search_input(
 ) -> usize
     ensures { Searches notion size out.old result out.new }
 {
-    match gather(input, size, piece) {
-        Gathered::Bytes(n) => run(input, n, out, size - n, piece, notion),
-        Gathered::All(n) => run(input, n, out, size - n, piece, notion),
+    match gather(rt, input, size, piece) {
+        Gathered::Bytes(n) => run(rt, input, n, out, size - n, piece, notion),
+        Gathered::All(n) => run(rt, input, n, out, size - n, piece, notion),
         Gathered::Failed => 0,
     }
 }
 
 // A log on standard input, all of it: what the programs run. The longest length and encoding take 65,537 bytes, and there is room for them.
-pub fn search_log(input: &mut [u8; 131072], out: &mut [u8; 64], notion: Notion) -> usize
+pub fn search_log(
+    rt: &(impl Input + Print + Eprint),
+    input: &mut [u8; 131072],
+    out: &mut [u8; 64],
+    notion: Notion,
+) -> usize
     ensures { Searches notion 18446744073709551615 out.old result out.new }
 {
-    search_input(input, out, usize::MAX, 131072, notion)
+    search_input(rt, input, out, usize::MAX, 131072, notion)
 }
 
 // The program that tells the first leak of a log by one notion.
-pub fn first_leak_program(notion: Notion) {
+pub fn first_leak_program(rt: &(impl Input + Print + Eprint), notion: Notion) {
     let mut input = [0u8; 131072];
     let mut out = [0u8; 64];
-    search_log(&mut input, &mut out, notion);
+    search_log(rt, &mut input, &mut out, notion);
 }

@@ -7,28 +7,28 @@ use super::Status;
 use leaks::Search;
 use streams::writes::{flush, place};
 
-fn tell_place(leak: u32, out: &mut [u8])
+fn tell_place(rt: &(impl Print + Eprint), leak: u32, out: &mut [u8])
     ensures { OneLine (place_line leak) out.old out.new }
 {
     let next = place(report::leak_at(out, 0, leak));
-    flush(out, next);
+    flush(rt, out, next);
 }
 
-fn tell_none(out: &mut [u8])
+fn tell_none(rt: &(impl Print + Eprint), out: &mut [u8])
     ensures { OneLine no_place_line out.old out.new }
 {
     let next = place(report::leak_nowhere(out, 0));
-    flush(out, next);
+    flush(rt, out, next);
 }
 
 // What the search has found. (A log has at most 4,294,967,295 event bytes, so each place is a u32.)
-pub fn finish(status: Status, search: Search, out: &mut [u8])
+pub fn finish(rt: &(impl Print + Eprint), status: Status, search: Search, out: &mut [u8])
     requires { search.accepted ≤ 4294967295 }
     ensures { Finished status search out.old out.new }
 {
     match status {
-        Status::Found => tell_place(search.accepted as u32, out),
-        Status::Ended => tell_none(out),
+        Status::Found => tell_place(rt, search.accepted as u32, out),
+        Status::Ended => tell_none(rt, out),
         Status::Failed => {}
     }
 }

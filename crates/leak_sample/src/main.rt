@@ -3,56 +3,63 @@
 #![tactic(auto)]
 
 use opacity::Notion;
+use streams::reads::read_full;
 
 fn length_of(high: u8, low: u8) -> usize {
     (high as usize) * 256 + low as usize
 }
 
 // Reads past the rest of a log.
-fn skip(log: &mut [u8], n: usize) -> bool {
+fn skip(rt: &impl Input, log: &mut [u8], n: usize) -> bool {
     if log.len() < n {
         return false;
     }
-    if io::read_full(0, &mut log[0..n]) < n {
+    if read_full(rt, &mut log[0..n]) < n {
         return false;
     }
     true
 }
 
 // A log of so many bytes.
-fn one(log: &mut [u8], out: &mut [u8], n: usize, notion: Notion) -> bool {
-    let unread = leak_log::search_input(log, out, n, 3, notion);
-    skip(log, unread)
+fn one(
+    rt: &(impl Input + Print + Eprint),
+    log: &mut [u8],
+    out: &mut [u8],
+    n: usize,
+    notion: Notion,
+) -> bool {
+    let unread = leak_log::search_input(rt, log, out, n, 3, notion);
+    skip(rt, log, unread)
 }
 
 // One log, if there is one more.
-fn next(log: &mut [u8], out: &mut [u8]) -> bool {
+fn next(rt: &(impl Input + Print + Eprint), log: &mut [u8], out: &mut [u8]) -> bool {
     let mut front = [0u8; 3];
-    if io::read_full(0, &mut front) < 3 {
+    if read_full(rt, &mut front) < 3 {
         return false;
     }
     let n = length_of(front[1], front[2]);
     if front[0] == 0 {
-        return one(log, out, n, Notion::Weak);
+        return one(rt, log, out, n, Notion::Weak);
     }
     if front[0] == 1 {
-        return one(log, out, n, Notion::Strong);
+        return one(rt, log, out, n, Notion::Strong);
     }
     false
 }
 
-fn all(log: &mut [u8], out: &mut [u8]) {
+fn all(rt: &(impl Input + Print + Eprint), log: &mut [u8], out: &mut [u8]) {
     let mut turns = u32::MAX;
     while 0 < turns {
-        if !next(log, out) {
+        if !next(rt, log, out) {
             return;
         }
         turns -= 1;
     }
 }
 
-fn main() {
+fn main(rt: HostRuntime) {
     let mut log = [0u8; 65535];
     let mut out = [0u8; 64];
-    all(&mut log, &mut out);
+    all(&rt, &mut log, &mut out);
 }

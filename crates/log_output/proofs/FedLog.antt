@@ -266,7 +266,7 @@ last_of {r = r} {out = out} gone kept room not (emptied full l) =
     record { gone = gone ++ take r.at out; kept = append-nil (gone ++ take r.at out) ∙ kept; room = omega arith; monitor = refl }
 last_of gone kept room not (closed full) = absurd (not refl)
 
-print_last : {input out out' : List ℕ} {at : ℕ} {line : Line} (gone text end : List ℕ) → gone ++ take at out ≡ text → at + 256 ≤ length out
+print_last : {input out out' : List ℕ} {at : ℕ} (gone text end : List ℕ) {line : Line} → gone ++ take at out ≡ text → at + 256 ≤ length out
     → Output input (text ++ end)
     → Written room_at_end out at end line out' → HasPrinted input out' (place_of line 0)
 print_last gone text end kept room o (no_room full) = absurd (full (omega arith))

@@ -6,29 +6,29 @@ use super::{Progress, Status};
 use streams::writes::{flush, place};
 
 // The last lines, unless the output takes no more: what could not be written out is not written once more.
-fn write_end(progress: Progress, out: &mut [u8])
+fn write_end(rt: &(impl Print + Eprint), progress: Progress, out: &mut [u8])
     ensures { EndLines progress out.old out.new }
 {
-    let last = with_room(progress, out);
+    let last = with_room(rt, progress, out);
     let status = last.status;
     if closed(status) {
         return;
     }
     let monitor = last.monitor;
     let next = place(monitor.end(out, last.at));
-    flush(out, next);
+    flush(rt, out, next);
 }
 
 // The last lines, and all that is not written out yet.
-pub fn finish(progress: Progress, out: &mut [u8])
+pub fn finish(rt: &(impl Print + Eprint), progress: Progress, out: &mut [u8])
     ensures { Finished progress.status progress out.old out.new }
 {
     let status = progress.status;
     match status {
-        Status::Going => write_end(progress, out),
-        Status::Ended => write_end(progress, out),
+        Status::Going => write_end(rt, progress, out),
+        Status::Ended => write_end(rt, progress, out),
         Status::Failed => {
-            flush(out, progress.at);
+            flush(rt, out, progress.at);
         }
         Status::Closed => {}
     }

@@ -37,6 +37,7 @@ fn advance(progress: Progress, table: &[u64], header: Header, events: &[u8], out
 
 // Some event bytes. With room for a line, none is taken only where the log may have no more of them.
 pub fn follow(
+    rt: &(impl Print + Eprint),
     progress: Progress,
     table: &[u64],
     header: Header,
@@ -49,7 +50,7 @@ pub fn follow(
     let mut now = progress;
     let mut i: usize = 0;
     while i < events.len() {
-        now = with_room(now, out);
+        now = with_room(rt, now, out);
         let status = now.status;
         if !going(status) {
             return now;
@@ -66,7 +67,7 @@ pub fn follow(
 }
 
 // Opens a log by its first bytes, as `monitor::open` takes them, and follows the events among them.
-pub fn start(log: &[u8], out: &mut [u8]) -> Monitored
+pub fn start(rt: &(impl Print + Eprint), log: &[u8], out: &mut [u8]) -> Monitored
     ensures { Begins log.now out.old result out.new }
 {
     let opened = monitor::open(log);
@@ -76,7 +77,7 @@ pub fn start(log: &[u8], out: &mut [u8]) -> Monitored
     let answer = opened.answer;
     match answer {
         OpenAnswer::Refused(refusal) => {
-            refuse(refusal, out);
+            refuse(rt, refusal, out);
             Monitored {
                 table: table,
                 header: header,
@@ -93,7 +94,7 @@ pub fn start(log: &[u8], out: &mut [u8]) -> Monitored
                 at: 0,
                 status: Status::Going,
             };
-            let progress = follow(begun, &table, header, &log[first..], out);
+            let progress = follow(rt, begun, &table, header, &log[first..], out);
             Monitored {
                 table: table,
                 header: header,

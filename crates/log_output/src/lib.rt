@@ -69,6 +69,7 @@ pub struct Rest {
 
 // What a read found: its bytes are followed, all of them in order; or the log has ended, or failed.
 fn taken_in(
+    rt: &(impl Print + Eprint),
     fetched: Fetched,
     progress: Progress,
     table: &[u64],
@@ -81,7 +82,7 @@ fn taken_in(
 {
     match fetched {
         Fetched::Bytes(n) => {
-            let next = follow(progress, table, header, &input[0..n], out);
+            let next = follow(rt, progress, table, header, &input[0..n], out);
             Reading {
                 progress: next,
                 brought: n,
@@ -106,6 +107,7 @@ fn taken_in(
 
 // One more read. It may wait, so the lines so far are written out before it.
 fn turn(
+    rt: &(impl Input + Print + Eprint),
     progress: Progress,
     table: &[u64],
     header: Header,
@@ -115,7 +117,7 @@ fn turn(
 ) -> Reading
     ensures { Turning table.now header left progress out.old input.new result out.new }
 {
-    let shown = written_out(progress, out);
+    let shown = written_out(rt, progress, out);
     let status = shown.status;
     if !going(status) {
         return Reading {
@@ -123,12 +125,13 @@ fn turn(
             brought: 0,
         };
     }
-    let fetched = fetch(input, left);
-    taken_in(fetched, shown, table, header, input, out)
+    let fetched = fetch(rt, input, left);
+    taken_in(rt, fetched, shown, table, header, input, out)
 }
 
 // Reads on while the log goes on, at most `left` bytes.
 fn all(
+    rt: &(impl Input + Print + Eprint),
     progress: Progress,
     table: &[u64],
     header: Header,
@@ -148,7 +151,7 @@ fn all(
                 left: rest,
             };
         }
-        let one = turn(now, table, header, input, out, rest);
+        let one = turn(rt, now, table, header, input, out, rest);
         now = one.progress;
         let brought = one.brought;
         if brought == 0 {
@@ -170,19 +173,34 @@ fn allowed(progress: Progress) -> usize
 }
 
 // A log whose first `n` bytes are there, and at most `size` more. It says how many of them were not read.
-fn run(input: &mut [u8], n: usize, out: &mut [u8], size: usize, piece: usize) -> usize
+fn run(
+    rt: &(impl Input + Print + Eprint),
+    input: &mut [u8],
+    n: usize,
+    out: &mut [u8],
+    size: usize,
+    piece: usize,
+) -> usize
     requires { n ≤ length input.old }
     ensures { Ran (take (n - 0) input.old) out.old size out.new result }
 {
-    let monitored = start(&input[0..n], out);
+    let monitored = start(rt, &input[0..n], out);
     let table = monitored.table;
     let header = monitored.header;
     let progress = monitored.progress;
     let limit = least(allowed(progress), size);
     let part = least(piece, input.len());
-    let rest = all(progress, &table, header, &mut input[0..part], out, limit);
+    let rest = all(
+        rt,
+        progress,
+        &table,
+        header,
+        &mut input[0..part],
+        out,
+        limit,
+    );
     let last = rest.progress;
-    finish(last, out);
+    finish(rt, last, out);
     unread(size, limit, rest.left)
 }
 
@@ -200,26 +218,36 @@ fn unread(size: usize, limit: usize, left: usize) -> usize
 }
 
 // A log on standard input: at most `size` bytes, in reads of at most `piece` bytes. It says how many were not read.
-pub fn monitor_input(input: &mut [u8], out: &mut [u8], size: usize, piece: usize) -> usize
+pub fn monitor_input(
+    rt: &(impl Input + Print + Eprint),
+    input: &mut [u8],
+    out: &mut [u8],
+    size: usize,
+    piece: usize,
+) -> usize
     ensures { Monitors size out.old result out.new }
 {
-    match gather(input, size, piece) {
-        Gathered::Bytes(n) => run(input, n, out, size - n, piece),
-        Gathered::All(n) => run(input, n, out, size - n, piece),
+    match gather(rt, input, size, piece) {
+        Gathered::Bytes(n) => run(rt, input, n, out, size - n, piece),
+        Gathered::All(n) => run(rt, input, n, out, size - n, piece),
         Gathered::Failed => 0,
     }
 }
 
 // A log on standard input, all of it: what the log program runs. The longest length and encoding take 65,537 bytes, and there is room for them.
-pub fn monitor_log(input: &mut [u8; 131072], out: &mut [u8; 65536]) -> usize
+pub fn monitor_log(
+    rt: &(impl Input + Print + Eprint),
+    input: &mut [u8; 131072],
+    out: &mut [u8; 65536],
+) -> usize
     ensures { Monitors 18446744073709551615 out.old result out.new }
 {
-    monitor_input(input, out, usize::MAX, 131072)
+    monitor_input(rt, input, out, usize::MAX, 131072)
 }
 
 // The log program.
-pub fn log_program() {
+pub fn log_program(rt: &(impl Input + Print + Eprint)) {
     let mut input = [0u8; 131072];
     let mut out = [0u8; 65536];
-    monitor_log(&mut input, &mut out);
+    monitor_log(rt, &mut input, &mut out);
 }

@@ -42,7 +42,7 @@ pub fn with_status(progress: Progress, status: Status) -> Progress
 }
 
 // Writes the output out, if the next line might not fit into what is left of it.
-pub fn with_room(progress: Progress, out: &[u8]) -> Progress
+pub fn with_room(rt: &(impl Print + Eprint), progress: Progress, out: &[u8]) -> Progress
     ensures { Roomy progress out.now result }
 {
     let at = progress.at;
@@ -51,7 +51,7 @@ pub fn with_room(progress: Progress, out: &[u8]) -> Progress
             return progress;
         }
     }
-    if !flush(out, at) {
+    if !flush(rt, out, at) {
         return with_status(progress, Status::Closed);
     }
     let mut next = progress;
@@ -60,11 +60,11 @@ pub fn with_room(progress: Progress, out: &[u8]) -> Progress
 }
 
 // Writes out all that stands in the output.
-pub fn written_out(progress: Progress, out: &[u8]) -> Progress
+pub fn written_out(rt: &(impl Print + Eprint), progress: Progress, out: &[u8]) -> Progress
     ensures { WrittenOut progress out.now result }
 {
     let at = progress.at;
-    if !flush(out, at) {
+    if !flush(rt, out, at) {
         return with_status(progress, Status::Closed);
     }
     let mut next = progress;

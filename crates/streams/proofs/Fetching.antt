@@ -1,16 +1,14 @@
 -- Laws of reads: what one read finds and brings, and how bytes are gathered. Assumes nothing.
-use mathlib.Core.Path.{◌≡◌, refl, sym, subst, ◌∙◌}
-use mathlib.Core.Bool.{Bool, true, false}
+use mathlib.Core.Path.{◌≡◌, refl, sym, ◌∙◌}
+use mathlib.Core.Bool.{Bool, true}
 use mathlib.Core.List.{List}
 use Prim.Native.Nat.{ℕ, ◌+◌, ◌-◌, ◌≤◌}
 use native.Mathlib.Omega.{arith}
-use lib.Dec.{T}
-use lib.IntN.{ℤ, pos, negsuc}
 use lib.ListN.{length, take}
+use Rattle.std.specs.Prelude.{min}
 use lib.Seq.{length-take-le}
-use lib.Signed.{lt_z}
-use borrow.Author.Tests.{ltb-true}
-use Rattle.io.specs.Counts.{clamp_len}
+use Rattle.std.specs.declared.result.Result.{Result}
+use Rattle.std.specs.declared.result.Result.TheVariants.{Ok, Err}
 use Rattle.stateset.specs.Set.{Decided}
 use Rattle.stateset.proofs.Decides.{holds}
 use Rattle.monitor.specs.Opening.{front_size}
@@ -19,29 +17,27 @@ use Rattle.streams.specs.declared.Fetched.TheVariants as fetched
 use Rattle.streams.specs.Reads.{FoundBy, Found, There, Brought, gathered_by, Further}
 
 -- what the system answered
-pub found_failed : (z : ℤ) (lent : ℕ) → lt_z z (pos 0) ≡ true → FoundBy z lent fetched.Failed
-found_failed (pos k) lent e = absurd (omega (arith, ltb-true k 0 e))
-found_failed (negsuc k) lent e = tt
+pub found_failed : {E : Type 0} (e : E) (lent : ℕ) → FoundBy (Err e) lent fetched.Failed
+found_failed e lent = tt
 
-pub found_end : (z : ℤ) (lent n : ℕ) → lt_z z (pos 0) ≡ false → n ≡ clamp_len z lent → n ≡ 0 → FoundBy z lent fetched.End
-found_end (pos k) lent n e is none = sym is ∙ none
-found_end (negsuc k) lent n e is none = absurd (subst T e tt)
+pub found_end : (E : Type 0) (k lent n : ℕ) → n ≡ min k lent → n ≡ 0 → FoundBy {E = E} (Ok k) lent fetched.End
+found_end E k lent n is none = sym is ∙ none
 
-pub found_some : (z : ℤ) (lent n : ℕ) → lt_z z (pos 0) ≡ false → n ≡ clamp_len z lent → (n ≡ 0 → ⊥) → FoundBy z lent (fetched.Bytes n)
-found_some (pos k) lent n e is some = (is, omega (arith, some))
-found_some (negsuc k) lent n e is some = absurd (subst T e tt)
+pub found_some : (E : Type 0) (k lent n : ℕ) → n ≡ min k lent → (n ≡ 0 → ⊥) → FoundBy {E = E} (Ok k) lent (fetched.Bytes n)
+found_some E k lent n is some = (is, omega (arith, some))
 
 -- so a read brings no more than there is space for, and no more than may follow
-pub brings : {z : ℤ} {size left room : ℕ} {r : Fetched} → Found z room r → room ≤ size → room ≤ left → Brought size left r
-brings {z} {size} {left} {room} {r} f a b = go z r f.by
+pub brings : {E : Type 0} {answered : Result ℕ E} {size left room : ℕ} {r : Fetched} → Found answered room r → room ≤ size → room ≤ left
+    → Brought size left r
+brings {E} {answered} {size} {left} {room} {r} f a b = go answered r f.by
   where
-    go : (y : ℤ) (x : Fetched) → FoundBy y room x → Brought size left x
-    go (pos k) (fetched.Bytes n) g = (g.1, omega (arith, g.0), omega (arith, g.0))
-    go (pos k) fetched.End g = tt
-    go (pos k) fetched.Failed g = tt
-    go (negsuc k) (fetched.Bytes n) g = absurd g
-    go (negsuc k) fetched.End g = tt
-    go (negsuc k) fetched.Failed g = tt
+    go : (y : Result ℕ E) (x : Fetched) → FoundBy y room x → Brought size left x
+    go (Ok k) (fetched.Bytes n) g = (g.1, omega (arith, g.0), omega (arith, g.0))
+    go (Ok k) fetched.End g = tt
+    go (Ok k) fetched.Failed g = tt
+    go (Err e) (fetched.Bytes n) g = absurd g
+    go (Err e) fetched.End g = tt
+    go (Err e) fetched.Failed g = tt
 
 pub is_there : (size left most : ℕ) (r : Fetched) → Brought size left r → size ≤ most → There most r
 is_there size left most (fetched.Bytes n) f h = omega (arith, f.1)

@@ -1,22 +1,24 @@
 -- What one read finds, the first bytes of a log, and as much of an input as there is space for. No contract says which bytes a system call brings: the
 -- bytes of a read are those at the front of the lent input after it, as many as it answered. That they are the input's is tested.
-use Rattle.std.specs.Prelude.{◌≡◌, List, ◌⊎◌, ℕ, ◌+◌, ◌≤◌, ◌<◌, min, ℤ, pos, negsuc, length, take}
+use Rattle.std.specs.Prelude.{◌≡◌, List, ◌⊎◌, ℕ, ◌+◌, ◌≤◌, ◌<◌, min, length, take}
+use Rattle.std.specs.declared.result.Result.{Result}
+use Rattle.std.specs.declared.result.Result.TheVariants.{Ok, Err}
 use Rattle.monitor.specs.Opening.{front_size}
 use Rattle.streams.specs.declared.Fetched.{Fetched}
 use Rattle.streams.specs.declared.Fetched.TheVariants as fetched
 use Rattle.streams.specs.declared.Gathered.{Gathered}
 use Rattle.streams.specs.declared.Gathered.TheVariants as gathered
 
--- what a read finds, by what the system answered: a negative number is a failure, 0 the end of the input, and else so many bytes of those that were lent
-abbrev pub FoundBy : ℤ → ℕ → Fetched → Type 0
-FoundBy (pos k) lent (fetched.Bytes n) = (n ≡ min k lent) × (0 < n)
-FoundBy (pos k) lent fetched.End = min k lent ≡ 0
-FoundBy (pos k) lent fetched.Failed = ⊥
-FoundBy (negsuc k) lent (fetched.Bytes n) = ⊥
-FoundBy (negsuc k) lent fetched.End = ⊥
-FoundBy (negsuc k) lent fetched.Failed = Unit {0}
+-- what a read finds, by what the system answered: an error is a failure, 0 the end of the input, and else so many bytes of those that were lent
+abbrev pub FoundBy : {E : Type 0} → Result ℕ E → ℕ → Fetched → Type 0
+FoundBy (Ok k) lent (fetched.Bytes n) = (n ≡ min k lent) × (0 < n)
+FoundBy (Ok k) lent fetched.End = min k lent ≡ 0
+FoundBy (Ok k) lent fetched.Failed = ⊥
+FoundBy (Err e) lent (fetched.Bytes n) = ⊥
+FoundBy (Err e) lent fetched.End = ⊥
+FoundBy (Err e) lent fetched.Failed = Unit {0}
 
-pub record Found (answered : ℤ) (lent : ℕ) (r : Fetched) : Type 0 where
+pub record Found {E : Type 0} (answered : Result ℕ E) (lent : ℕ) (r : Fetched) : Type 0 where
   pub by : FoundBy answered lent r
 
 -- no more bytes than there is space for

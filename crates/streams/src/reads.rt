@@ -3,6 +3,8 @@ ghost use Rattle.std.specs.Prelude.{◌-◌, ◌≤◌, ◌≡◌, ◌⊎◌, le
 ghost use Rattle.streams.specs.Reads.{Found, There, Brought, gathered_by, Further, UpTo, Filled};
 
 use super::{Fetched, Gathered};
+use std::io;
+use std::io::Read;
 
 pub fn least(a: usize, b: usize) -> usize
     ensures { (result ≤ a) × (result ≤ b) × ((result ≡ a) ⊎ (result ≡ b)) }
@@ -13,35 +15,39 @@ pub fn least(a: usize, b: usize) -> usize
     b
 }
 
-fn not_read() {
-    io::write_all(2, b"read failed\n");
+fn not_read(rt: &impl Eprint) {
+    let _ = rt.eprintln("read failed");
 }
 
-// What a read finds, by what the system answered: so many bytes at the front of what was lent, none at the end of the input, or a negative number.
-fn found(got: isize, lent: &[u8]) -> Fetched
+// What a read finds, by what the system answered: so many bytes at the front of what was lent, none at the end of the input, or an error.
+fn found(rt: &impl Eprint, got: io::Result<usize>, lent: &[u8]) -> Fetched
     ensures { Found got (length lent.now) result }
 {
-    if got < 0 {
-        not_read();
-        return Fetched::Failed;
+    match got {
+        Err(_) => {
+            not_read(rt);
+            Fetched::Failed
+        }
+        Ok(k) => {
+            let n = least(k, lent.len());
+            if n == 0 {
+                return Fetched::End;
+            }
+            Fetched::Bytes(n)
+        }
     }
-    let n = io::count(got, lent);
-    if n == 0 {
-        return Fetched::End;
-    }
-    Fetched::Bytes(n)
 }
 
 // One read, of at most `left` bytes. Where no more may follow, none is made: the input counts as ended.
-pub fn fetch(input: &mut [u8], left: usize) -> Fetched
+pub fn fetch(rt: &(impl Input + Eprint), input: &mut [u8], left: usize) -> Fetched
     ensures { Brought (length input.new) left result }
 {
     let room = least(input.len(), left);
     if room == 0 {
         return Fetched::End;
     }
-    let got = libc::read(0, &mut input[0..room]);
-    found(got, &input[0..room])
+    let got = rt.reader().read(&mut input[0..room]);
+    found(rt, got, &input[0..room])
 }
 
 // How the first bytes go on with what a read found.
@@ -57,15 +63,15 @@ fn gathering(fetched: Fetched, have: usize, size: usize) -> Gathered
 }
 
 // One read more, of at most `most` bytes, behind those that are there.
-fn gather_more(input: &mut [u8], have: usize, most: usize) -> Gathered
+fn gather_more(rt: &(impl Input + Eprint), input: &mut [u8], have: usize, most: usize) -> Gathered
     requires { have ≤ length input.old }
     ensures { Further (length input.new) have most result }
 {
-    gathering(fetch(&mut input[have..], most), have, input.len())
+    gathering(fetch(rt, &mut input[have..], most), have, input.len())
 }
 
 // Reads until a log's length and its encoding are there, or the input ends.
-pub fn gather(input: &mut [u8], size: usize, piece: usize) -> Gathered
+pub fn gather(rt: &(impl Input + Eprint), input: &mut [u8], size: usize, piece: usize) -> Gathered
     ensures { UpTo input.new size result }
 {
     let mut have: usize = 0;
@@ -74,7 +80,7 @@ pub fn gather(input: &mut [u8], size: usize, piece: usize) -> Gathered
             return Gathered::Bytes(have);
         }
         let most = least(piece, size - have);
-        match gather_more(input, have, most) {
+        match gather_more(rt, input, have, most) {
             Gathered::Bytes(n) => {
                 have = n;
             }
@@ -90,12 +96,12 @@ pub fn gather(input: &mut [u8], size: usize, piece: usize) -> Gathered
 }
 
 // Reads until the slice is full or the input ends.
-pub fn gather_all(input: &mut [u8]) -> Gathered
+pub fn gather_all(rt: &(impl Input + Eprint), input: &mut [u8]) -> Gathered
     ensures { Filled input.new result }
 {
     let mut have: usize = 0;
     while have < input.len() {
-        match gather_more(input, have, usize::MAX) {
+        match gather_more(rt, input, have, usize::MAX) {
             Gathered::Bytes(n) => {
                 have = n;
             }
@@ -108,4 +114,25 @@ pub fn gather_all(input: &mut [u8]) -> Gathered
         }
     }
     Gathered::Bytes(have)
+}
+
+// Reads until the slice is full, the input ends or a read fails, with no word of that, and says how many bytes are at the front of it.
+pub fn read_full(rt: &impl Input, input: &mut [u8]) -> usize
+    ensures { result ≤ length input.new }
+{
+    let mut done: usize = 0;
+    while done < input.len() {
+        match rt.reader().read(&mut input[done..]) {
+            Err(_) => {
+                return done;
+            }
+            Ok(n) => {
+                if n == 0 {
+                    return done;
+                }
+                done += n;
+            }
+        }
+    }
+    done
 }

@@ -6,21 +6,21 @@ ghost use Rattle.streams.specs.Writes.{RefusalLine};
 use refusal::Refusal;
 use report::Line;
 
-fn not_written() {
-    io::write_all(2, b"write failed\n");
+fn not_written(rt: &impl Eprint) {
+    let _ = rt.eprintln("write failed");
 }
 
 // Writes out the first bytes of the output, and says so where it fails.
-pub fn flush(out: &[u8], n: usize) -> bool
+pub fn flush(rt: &(impl Print + Eprint), out: &[u8], n: usize) -> bool
     ensures { result ≡ true → n ≤ length out.now }
 {
     if out.len() < n {
         return false;
     }
-    if io::write_all(1, &out[0..n]) {
+    if rt.write_all(&out[0..n]).is_ok() {
         return true;
     }
-    not_written();
+    not_written(rt);
     false
 }
 
@@ -35,9 +35,9 @@ pub fn place(line: Line) -> usize
 }
 
 // The one line of a refused log.
-pub fn refuse(refusal: Refusal, out: &mut [u8])
+pub fn refuse(rt: &(impl Print + Eprint), refusal: Refusal, out: &mut [u8])
     ensures { RefusalLine refusal out.old out.new }
 {
     let next = place(report::refused_log(out, 0, refusal));
-    flush(out, next);
+    flush(rt, out, next);
 }

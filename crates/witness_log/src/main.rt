@@ -70,11 +70,18 @@ fn begin(start: Followed, table: &[u64], header: Header, events: &[u8]) -> Begun
 }
 
 // One more read, of at most `left` bytes: they are followed, all of them in order.
-fn turn(followed: Followed, table: &[u64], header: Header, input: &mut [u8], left: usize) -> Reading
+fn turn(
+    rt: &(impl Input + Eprint),
+    followed: Followed,
+    table: &[u64],
+    header: Header,
+    input: &mut [u8],
+    left: usize,
+) -> Reading
     requires { followed.accepted + left ≤ 4294967295 }
     ensures { Turning table.now header left followed input.new result }
 {
-    let fetched = fetch(input, left);
+    let fetched = fetch(rt, input, left);
     match fetched {
         Fetched::Bytes(n) => {
             let after = follow(followed, table, header, &input[0..n]);
@@ -95,14 +102,21 @@ fn turn(followed: Followed, table: &[u64], header: Header, input: &mut [u8], lef
 }
 
 // Reads on to the end of the input, at most `left` bytes.
-fn all(followed: Followed, table: &[u64], header: Header, input: &mut [u8], left: usize) -> Rest
+fn all(
+    rt: &(impl Input + Eprint),
+    followed: Followed,
+    table: &[u64],
+    header: Header,
+    input: &mut [u8],
+    left: usize,
+) -> Rest
     requires { followed.accepted + left ≤ 4294967295 }
     ensures { Fed table.now header left followed result }
 {
     let mut now = followed;
     let mut rest = left;
     loop {
-        let one = turn(now, table, header, input, rest);
+        let one = turn(rt, now, table, header, input, rest);
         now = one.followed;
         let fetched = one.fetched;
         match fetched {
@@ -128,12 +142,19 @@ fn all(followed: Followed, table: &[u64], header: Header, input: &mut [u8], left
 }
 
 // A log that has begun is read on, and its lines are put to the front of the output. It says how many bytes they have: none where a read failed.
-fn read_on(begun: Begun, table: &[u64], header: Header, input: &mut [u8], out: &mut [u8]) -> usize
+fn read_on(
+    rt: &(impl Input + Eprint),
+    begun: Begun,
+    table: &[u64],
+    header: Header,
+    input: &mut [u8],
+    out: &mut [u8],
+) -> usize
     requires { Ready table.now header begun (length out.old) }
     ensures { ReadOn table.now header begun out.old result out.new }
 {
     let followed = begun.followed;
-    let rest = all(followed, table, header, input, begun.allowed);
+    let rest = all(rt, followed, table, header, input, begun.allowed);
     if rest.failed {
         return 0;
     }
@@ -142,7 +163,7 @@ fn read_on(begun: Begun, table: &[u64], header: Header, input: &mut [u8], out: &
 }
 
 // A log whose first `n` bytes are there. It says how many bytes at the front of the output are to be written out.
-fn run(input: &mut [u8], n: usize, out: &mut [u8]) -> usize
+fn run(rt: &(impl Input + Eprint), input: &mut [u8], n: usize, out: &mut [u8]) -> usize
     requires { (n ≤ length input.old) × (766656 ≤ length out.old) }
     ensures { Ran (take (n - 0) input.old) out.old result out.new }
 {
@@ -160,34 +181,38 @@ fn run(input: &mut [u8], n: usize, out: &mut [u8]) -> usize
                 accepted: 0,
             };
             let begun = begin(start, &table, header, &input[first..n]);
-            read_on(begun, &table, header, input, out)
+            read_on(rt, begun, &table, header, input, out)
         }
     }
 }
 
 // A log on standard input, all of it. It says how many bytes at the front of the output are to be written out.
-fn put_log(input: &mut [u8], out: &mut [u8]) -> usize
+fn put_log(rt: &(impl Input + Eprint), input: &mut [u8], out: &mut [u8]) -> usize
     requires { 766656 ≤ length out.old }
     ensures { Leaves out.old result out.new }
 {
-    match gather(input, usize::MAX, INPUT) {
-        Gathered::Bytes(n) => run(input, n, out),
-        Gathered::All(n) => run(input, n, out),
+    match gather(rt, input, usize::MAX, INPUT) {
+        Gathered::Bytes(n) => run(rt, input, n, out),
+        Gathered::All(n) => run(rt, input, n, out),
         Gathered::Failed => 0,
     }
 }
 
 // The same, and it is written out: what the program runs. (`streams` says so where that fails.)
-fn print_log(input: &mut [u8; INPUT], out: &mut [u8; OUTPUT]) -> usize
+fn print_log(
+    rt: &(impl Input + Print + Eprint),
+    input: &mut [u8; INPUT],
+    out: &mut [u8; OUTPUT],
+) -> usize
     ensures { Leaves out.old result out.new }
 {
-    let n = put_log(input, out);
-    flush(out, n);
+    let n = put_log(rt, input, out);
+    flush(rt, out, n);
     n
 }
 
-fn main() {
+fn main(rt: HostRuntime) {
     let mut input = [0u8; INPUT];
     let mut out = [0u8; OUTPUT];
-    print_log(&mut input, &mut out);
+    print_log(&rt, &mut input, &mut out);
 }

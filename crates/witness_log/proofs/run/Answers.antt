@@ -1,0 +1,43 @@
+use Rattle.std.proofs.Common.{List, ℕ, subst, ◌-◌, ◌≤◌, length, take, drop}
+use Rattle.automaton.specs.declared.Header.{Header}
+use Rattle.opacity.specs.declared.Notion.TheVariants.{Weak}
+use Rattle.leaks.specs.declared.Search.{Search}
+use Rattle.monitor.specs.declared.OpenAnswer.{OpenAnswer}
+use Rattle.monitor.specs.Opening.{open_outcome, started}
+use Rattle.leak_log.specs.Opens.{Opening}
+use Rattle.leak_log.proofs.Beginnings.{started_within, first_within}
+use Rattle.witness_log.specs.declared.Begun.{Begun}
+use Rattle.witness_log.specs.Following.{Begins}
+use Rattle.witness_log.proofs.PrintedLog.{start_of, among_first, ready, ran_read, ran_refused}
+use Rattle.witness_log.proofs.run.Goals as goal
+
+-- the log has begun: its events are behind its front
+begun : (input : List ℕ) (n first : ℕ) {t : List ℕ} {h : Header} {s : Search} {b : Begun} → n ≤ length input
+    → Opening Weak (take (n - 0) input) (started first) t h s → Begins t h (start_of s) (take (n - first) (drop first input)) b
+    → Begins t h (start_of s) (drop first (take (n - 0) input)) b
+begun input n first here o x = among_first first n input (first_within input n here (started_within o).1) here x
+
+pub read_on-requires : goal.read_on-requires
+read_on-requires g c =
+    let a = c.args in
+    let called = c.open-opened in
+    let o = subst (λ (r : OpenAnswer). Opening Weak (take (a.n - 0) a.input.now) (open_outcome r) called.result.table called.result.header
+    called.result.search) c.in-Started.is called.ensures in
+    ready (take (a.n - 0) a.input.now) _ _ _ _ _ _ o (begun a.input.now a.n c.in-Started.first c.requires.0 o c.begin-begun.ensures) c.requires.1
+
+pub returns-in-Refused : goal.returns-in-Refused
+returns-in-Refused g c =
+    let a = c.args in
+    let called = c.open-opened in
+    ran_refused (take (a.n - 0) a.input.now) _ c.in-Refused.refusal _ _ _ c.refused_log.result _ _
+    (subst (λ (r : OpenAnswer). Opening Weak (take (a.n - 0) a.input.now) (open_outcome r) called.result.table called.result.header
+    called.result.search) c.in-Refused.is called.ensures) c.requires.1 c.refused_log.ensures c.place.ensures
+
+pub returns-in-Started : goal.returns-in-Started
+returns-in-Started g c =
+    let a = c.args in
+    let called = c.open-opened in
+    let o = subst (λ (r : OpenAnswer). Opening Weak (take (a.n - 0) a.input.now) (open_outcome r) called.result.table called.result.header
+    called.result.search) c.in-Started.is called.ensures in
+    ran_read (take (a.n - 0) a.input.now) _ _ _ _ _ _ _ _ o (begun a.input.now a.n c.in-Started.first c.requires.0 o c.begin-begun.ensures)
+    c.read_on.ensures

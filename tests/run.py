@@ -1,4 +1,4 @@
-"""Random logs against a built log program: `python3 tests/run.py --program target/bin/opacity_log --count 2000 --seed 1`.
+"""Random logs against a built log program: `python3 tests/run.py --program crates/opacity_log/out/opacity_log --count 2000 --seed 1`.
 
 Each log's output is compared with what the lister expects, some of them in pieces. Before them come what no file can show: a live feed, whose lines
 have to come with their symbols, the first bytes one by one, and reads and writes that fail; and the longest encoding with a transition listed twice,
@@ -434,7 +434,7 @@ def run_witnesses(program, seed, count):
 def main():
     """Runs the logs, or the encodings."""
     words = argparse.ArgumentParser(description=__doc__, formatter_class=argparse.RawDescriptionHelpFormatter)
-    words.add_argument("--program", default="target/bin/opacity_log")
+    words.add_argument("--program", default="crates/opacity_log/out/opacity_log")
     words.add_argument("--kind", choices=sorted(NOTIONS), default="log")
     words.add_argument("--count", type=int, default=2000)
     words.add_argument("--seed", type=int, default=1)

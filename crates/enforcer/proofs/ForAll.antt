@@ -14,7 +14,6 @@ use Rattle.opacity.specs.declared.Notion.{Notion}
 use Rattle.opacity.specs.declared.Notion.TheVariants.{Weak, Strong}
 use Rattle.opacity.specs.declared.Secret.{Secret}
 use Rattle.opacity.specs.declared.Further.{Further}
-use Rattle.verifier.specs.declared.SecretVerdicts.{SecretVerdicts}
 use Rattle.opacity.specs.Secrets.{own, secrets_of, secret_at, ForEach, largest, cleared_of}
 use Rattle.opacity.specs.Verdicts.{Steps, none, Tells}
 use Rattle.verifier.specs.Replies.{Told, chosen_each, steps_each, steps_by, none_told, told_at, told_each, numbered, told_of}
@@ -25,6 +24,8 @@ use Rattle.enforcer.specs.Queues.{Laws, Longest}
 use Rattle.enforcer.specs.Waits.{wait_of, LargestWait}
 use Rattle.enforcer.specs.Inner.{WaitAt}
 use Rattle.enforcer.proofs.SafeLaws.{safe_laws, unsafe_not_safe, safe_wait, wait_safe, wait_unsafe, safe_by_runs}
+use Rattle.verifier.specs.declared.EachSecret.{EachSecret}
+use Rattle.opacity.specs.declared.Verdicts.{Verdicts}
 
 -- a state that keeps what was given has the secrets that were given
 pub kept_secrets : (h : Header) (f g : Further) → g ≡ cleared_of f → secrets_of h g ≡ secrets_of h f
@@ -129,7 +130,7 @@ take_map g (suc n) (x ∷ xs) = ap (λ (l : List _). g x ∷ l) (take_map g n xs
 chosen_at : (g : Told → Steps) (n : ℕ) (l : List Told) (i : ℕ) → g none_told ≡ none → get_or (take n (map g l)) i none ≡ g (get_or (take n l) i none_told)
 chosen_at g n l i is = ap (λ (x : List Steps). get_or x i none) (take_map g n l) ∙ get_d_map g (take n l) i none_told none is
 
-pub chosen_told : (notion : Notion) (f : Further) (v : SecretVerdicts) (i : ℕ) → told_at notion (told_each f v) i
+pub chosen_told : (notion : Notion) (f : Further) (v : EachSecret Verdicts) (i : ℕ) → told_at notion (told_each f v) i
     ≡ get_or (steps_each f (chosen_each notion v)) i none
 chosen_told Weak f v i = sym (chosen_at (steps_by Weak) (suc f.count) (map told_of (numbered v)) i refl)
 chosen_told Strong f v i = sym (chosen_at (steps_by Strong) (suc f.count) (map told_of (numbered v)) i refl)

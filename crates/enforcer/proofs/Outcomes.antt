@@ -1,4 +1,5 @@
 -- An offer's outcome, from what the verifier said and what was taken in. Assumes nothing.
+use Rattle.std.specs.Prelude.{Err, Ok, Result}
 use mathlib.Core.Path.{◌≡◌, ap, sym, ◌∙◌, subst}
 use mathlib.Core.List.{List, [], ◌∷◌, ◌++◌}
 use Prim.Native.Nat.{ℕ, ◌≤◌}
@@ -24,9 +25,8 @@ use Rattle.enforcer.specs.Waits.{LargestWait}
 use Rattle.enforcer.specs.Inner.{PendingWithin, Enqueues}
 use Rattle.enforcer.specs.declared.Enforcer.{Enforcer}
 use Rattle.enforcer.specs.declared.OfferReply.{OfferReply}
-use Rattle.enforcer.specs.declared.OfferAnswer.{OfferAnswer}
-use Rattle.enforcer.specs.declared.OfferAnswer.TheVariants as offer
 use Rattle.enforcer.proofs.TakingIn.{limits_joined, grown_next}
+use Rattle.enforcer.specs.declared.Release.{Release}
 
 pub refused_outcome : (t : List ℕ) (h : Header) (self : Enforcer) (byte : ℕ) (output : List ℕ) (n : ℕ) (s : Estimator)
     → PendingWithin (look_back_of h self.estimator.further) self → 17 ≤ length output → Accepting t h self.estimator byte (verifier.refused n) s
@@ -38,16 +38,16 @@ refused_outcome t h self byte output n s pending wide (Accepting.incompatible so
 
 -- a refusal that is handed back
 pub refused_given : (t : List ℕ) (h : Header) (self : Enforcer) (byte : ℕ) (output : List ℕ) (refusal : Refusal) (r : OfferReply) → r.enforcer ≡ self
-    → r.answer ≡ offer.Refused refusal
+    → r.answer ≡ Err refusal
     → Offering t h self byte output (refused (number_of refusal)) self output → Offering t h self byte output (offer_outcome r.answer) r.enforcer output
 refused_given t h self byte output refusal r e f x = rw (e, f) x
 
-pub taken_outcome : (t : List ℕ) (h : Header) (self : Enforcer) (byte : ℕ) (output : List ℕ) (vs : List Steps) (w size : ℕ) (s : Estimator) (r : OfferAnswer)
+pub taken_outcome : (t : List ℕ) (h : Header) (self : Enforcer) (byte : ℕ) (output : List ℕ) (vs : List Steps) (w size : ℕ) (s : Estimator) (r : Result Release Refusal)
     (after : Enforcer) (left : List ℕ) → WellFormed t h → InLimits h self → 17 ≤ length output → Moved t h self.estimator byte size s
     → ForEach (secrets_in h self) (λ i c. TellsBy self.notion t h self.estimator byte c (get_or vs i none)) → LargestWait (secrets_in h self) vs w
     → Enqueues (look_back_of h self.estimator.further) self s w size byte output r after left → Offering t h self byte output (offer_outcome r) after left
-taken_outcome t h self byte output vs w size s (offer.Refused r) after left so li wide moved told most took = absurd took
-taken_outcome t h self byte output vs w size s (offer.Released r) after left so li wide moved told most (took, is) =
+taken_outcome t h self byte output vs w size s (Err r) after left so li wide moved told most took = absurd took
+taken_outcome t h self byte output vs w size s (Ok r) after left so li wide moved told most (took, is) =
     let enough = took.shifted.ready.enough in
     let bal = took.shifted.balance in
     let ob = moved.observable in

@@ -10,7 +10,6 @@ use Rattle.automaton.specs.declared.Header.{Header}
 use Rattle.opacity.specs.declared.Notion.{Notion}
 use Rattle.opacity.specs.declared.Secret.{Secret}
 use Rattle.opacity.specs.declared.Further.{Further}
-use Rattle.verifier.specs.declared.Judgement.{Judgement}
 use Rattle.verifier.specs.declared.Estimator.{Estimator}
 use Rattle.opacity.specs.Secrets.{secrets_of, secret_at, ForEach, largest, cleared_of, Allowed}
 use Rattle.opacity.specs.Verdicts.{Steps, none, leak, Tells}
@@ -29,6 +28,8 @@ use Rattle.enforcer.specs.SafePrefix.{SafeForAll}
 use Rattle.enforcer.proofs.SafeLaws.{safe_wait}
 use Rattle.enforcer.proofs.ForAll.{kept_secrets, all_or_some, chosen_told}
 use Rattle.enforcer.proofs.Queueing.{queue_start}
+use Rattle.verifier.specs.declared.Judgement.{Judgement}
+use Rattle.opacity.specs.declared.Verdicts.{Verdicts}
 
 -- one that holds 255 symbols is outside its limits
 unusable : (s : Enforcer) → s.count ≡ 255 → Unusable s
@@ -51,11 +52,11 @@ module _ (notion : Notion) (p : Automaton) (secret : Secret) where
   opens_none (leak l) t h = absurd (omega (arith, t.within))
 
 -- what was given may be given
-pub opened_given : (t : List ℕ) (h : Header) (f : Further) (j : Judgement) (e : Estimator) → Opening t h f (verifier.verdicts (findings f j)) e
+pub opened_given : (t : List ℕ) (h : Header) (f : Further) (j : Judgement Verdicts) (e : Estimator) → Opening t h f (verifier.verdicts (findings f j)) e
     → (h.k ≤ 15) × Allowed f
 opened_given t h f j e (Opening.opened so allowed same li many within x) = (so.back, allowed)
 
-module _ (t : List ℕ) (h : Header) (f : Further) (notion : Notion) (j : Judgement) (e : Estimator) (w : ℕ)
+module _ (t : List ℕ) (h : Header) (f : Further) (notion : Notion) (j : Judgement Verdicts) (e : Estimator) (w : ℕ)
     (most : LargestWait (secrets_of h f) (steps_each f (chosen_each notion j.verdicts)) w) where
   abbrev says : ℕ → Steps
   says i = get_or (steps_each f (chosen_each notion j.verdicts)) i none

@@ -1,5 +1,5 @@
 -- What the functions inside the crate promise one another.
-use Rattle.std.specs.Prelude.{◌≡◌, List, [], ◌∷◌, ◌++◌, ◌⊎◌, ℕ, ◌+◌, ◌-◌, ◌≤◌, ◌<◌, length, get_or, take, drop}
+use Rattle.std.specs.Prelude.{◌≡◌, List, [], ◌∷◌, ◌++◌, ◌⊎◌, ℕ, ◌+◌, ◌-◌, ◌≤◌, ◌<◌, length, get_or, take, drop, Err, Ok, Result}
 use Rattle.verifier.specs.declared.Estimator.{Estimator}
 use Rattle.opacity.specs.declared.Secret.{Secret}
 use Rattle.opacity.specs.Secrets.{secret_at}
@@ -7,8 +7,8 @@ use Rattle.opacity.specs.Verdicts.{Steps}
 use Rattle.enforcer.specs.Waits.{wait_of}
 use Rattle.enforcer.specs.Enforcers.{pending_of, Padded}
 use Rattle.enforcer.specs.declared.Enforcer.{Enforcer}
-use Rattle.enforcer.specs.declared.OfferAnswer.{OfferAnswer}
-use Rattle.enforcer.specs.declared.OfferAnswer.TheVariants.{Refused, Released}
+use Rattle.refusal.specs.declared.Refusal.{Refusal}
+use Rattle.enforcer.specs.declared.Release.{Release}
 
 -- the limits of the pending symbols alone
 pub record PendingWithin (K : ℕ) (s : Enforcer) : Type 0 where
@@ -49,6 +49,6 @@ pub record Enqueued (K : ℕ) (self : Enforcer) (estimator : Estimator) (w byte 
   pub small : byte ≤ 31 → ((i : ℕ) → i < self.count → get_or self.pending i 0 ≤ 31) → (i : ℕ) → i < after.count → get_or after.pending i 0 ≤ 31
 
 -- and the answer: how many go, and the number of possible states as it was given
-abbrev pub Enqueues : (K : ℕ) (self : Enforcer) (estimator : Estimator) (w size byte : ℕ) (output : List ℕ) → OfferAnswer → Enforcer → List ℕ → Type 0
-Enqueues K self estimator w size byte output (Refused r) after left = ⊥
-Enqueues K self estimator w size byte output (Released r) after left = Enqueued K self estimator w byte output r.count after left × (r.size ≡ size)
+abbrev pub Enqueues : (K : ℕ) (self : Enforcer) (estimator : Estimator) (w size byte : ℕ) (output : List ℕ) → Result Release Refusal → Enforcer → List ℕ → Type 0
+Enqueues K self estimator w size byte output (Err r) after left = ⊥
+Enqueues K self estimator w size byte output (Ok r) after left = Enqueued K self estimator w byte output r.count after left × (r.size ≡ size)

@@ -3,14 +3,13 @@
 // long enough; neither demands anything of its caller.
 #![tactic(auto)]
 
-ghost use Rattle.std.specs.Prelude.{◌≡◌, ◌++◌, ℕ, ◌+◌, ◌-◌, ◌≤◌, ◌<◌, length, get_or, take, drop};
+ghost use Rattle.std.specs.Prelude.{◌≡◌, ◌++◌, ℕ, ◌+◌, ◌-◌, ◌≤◌, ◌<◌, length, get_or, take, drop, Err};
 ghost use Rattle.stateset.specs.Set.{Decided};
 ghost use Rattle.automaton.specs.Run.{WellFormed};
 ghost use Rattle.opacity.specs.Secrets.{secrets_of, Allowed};
 ghost use Rattle.opacity.specs.Verdicts.{steps_of};
 ghost use Rattle.verifier.specs.Replies.{steps_each};
 ghost use Rattle.enforcer.specs.Enforcers.{InLimits, Padded};
-ghost use Rattle.enforcer.specs.declared.OfferAnswer.TheVariants as answer;
 ghost use Rattle.enforcer.specs.Offerings.{start_outcome, offer_outcome, Starting, Offering};
 ghost use Rattle.enforcer.specs.Waits.{wait_of, LargestWait};
 ghost use Rattle.enforcer.specs.Inner.{PendingWithin, WaitAt, Ready, Enqueues};
@@ -18,7 +17,7 @@ ghost use Rattle.enforcer.specs.Inner.{PendingWithin, WaitAt, Ready, Enqueues};
 use automaton::Header;
 use opacity::{Further, Notion, Verdict};
 use refusal::Refusal;
-use verifier::{Answer, AnswerBy, Estimator, VerdictsBy};
+use verifier::{EachSecret, Estimator};
 
 // The estimator, the notion, and the pending symbols, the oldest first, each with the number of later ones that it waits for (01: Holder).
 #[derive(Clone, Copy)]
@@ -30,16 +29,11 @@ pub struct Enforcer {
     pub waits: [u8; 16],
 }
 
-#[derive(Clone, Copy)]
-pub enum StartAnswer {
-    Refused(Refusal),
-    Started,
-}
-
+// The enforcer that a start hands back, and whether it is one.
 #[derive(Clone, Copy)]
 pub struct Start {
     pub enforcer: Enforcer,
-    pub answer: StartAnswer,
+    pub answer: Result<(), Refusal>,
 }
 
 // How many symbols were released to the front of the output (01: freed, tray), and how many states are possible after all that were accepted (02: how
@@ -50,16 +44,11 @@ pub struct Release {
     pub size: u8,
 }
 
-#[derive(Clone, Copy)]
-pub enum OfferAnswer {
-    Refused(Refusal),
-    Released(Release),
-}
-
+// The enforcer after an offer, and what was released.
 #[derive(Clone, Copy)]
 pub struct OfferReply {
     pub enforcer: Enforcer,
-    pub answer: OfferAnswer,
+    pub answer: Result<Release, Refusal>,
 }
 
 // How many later symbols make a trace with this verdict safe.
@@ -89,7 +78,7 @@ fn wait_at(header: Header, further: Further, verdict: Verdict, i: u8) -> u8
 }
 
 // How many later symbols make a trace with these verdicts safe for all secrets. (Inner: for the crates above, which prove what it requires.)
-pub fn largest_wait(header: Header, further: Further, verdicts: VerdictsBy) -> u8
+pub fn largest_wait(header: Header, further: Further, verdicts: EachSecret<Verdict>) -> u8
     requires { (header.k ≤ 15) × Allowed further }
     ensures { LargestWait (secrets_of header further) (steps_each further verdicts) result }
 {
@@ -222,17 +211,17 @@ impl Enforcer {
             waits: [0u8; 16],
         };
         match answer {
-            Answer::Refused(refusal) => Start {
+            Err(refusal) => Start {
                 enforcer: none,
-                answer: StartAnswer::Refused(refusal),
+                answer: Err(refusal),
             },
-            Answer::Accepted(judgement) => {
+            Ok(judgement) => {
                 let verdicts = verifier::choose_each(notion, judgement.verdicts);
                 let largest = largest_wait(header, further, verdicts);
                 if largest != 0 { // the wait of a leak 0 is not over, and the empty trace has no other leak
                     return Start {
                         enforcer: none,
-                        answer: StartAnswer::Refused(Refusal::InitialLeak),
+                        answer: Err(Refusal::InitialLeak),
                     };
                 }
                 Start {
@@ -243,7 +232,7 @@ impl Enforcer {
                         pending: [0u8; 16],
                         waits: [0u8; 16],
                     },
-                    answer: StartAnswer::Started,
+                    answer: Ok(()),
                 }
             }
         }
@@ -278,11 +267,11 @@ impl Enforcer {
 
     // As it was, with the reason.
     fn refused(self, refusal: Refusal) -> OfferReply
-        ensures { (result.enforcer ≡ self) × (result.answer ≡ answer.Refused refusal) }
+        ensures { (result.enforcer ≡ self) × (result.answer ≡ Err refusal) }
     {
         OfferReply {
             enforcer: self,
-            answer: OfferAnswer::Refused(refusal),
+            answer: Err(refusal),
         }
     }
 
@@ -319,10 +308,7 @@ impl Enforcer {
                 pending: pending_after,
                 waits: waits_after,
             },
-            answer: OfferAnswer::Released(Release {
-                count: f,
-                size: size,
-            }),
+            answer: Ok(Release { count: f, size }),
         }
     }
 
@@ -347,8 +333,8 @@ impl Enforcer {
         let reply = estimator.accept_by(table, header, byte, notion);
         let answer = reply.answer;
         match answer {
-            AnswerBy::Refused(refusal) => self.refused(refusal),
-            AnswerBy::Accepted(judgement) => {
+            Err(refusal) => self.refused(refusal),
+            Ok(judgement) => {
                 let next = reply.estimator;
                 let verdicts = judgement.verdicts;
                 let w = largest_wait(header, further, verdicts);

@@ -6,11 +6,9 @@ ghost use Rattle.gateway.specs.Interface.{Decode, Fresh, Accept, Start, Offer, E
 
 use canonical::Answer as Canonical;
 use decoding::Answer as Decoded;
-use enforcer::{Enforcer, OfferAnswer, StartAnswer};
-use explore::ExploreAnswer;
+use enforcer::Enforcer;
 use layout::sizes;
-use leaks::LeakAnswer;
-use verifier::{Answer, Estimator};
+use verifier::Estimator;
 use witness::{Answer as Witness, Checked};
 
 // The refusal of a slice that has not the length of its layout, and of a notion that is none.
@@ -65,8 +63,8 @@ pub fn opacity_fresh(
     );
     let answer = reply.answer;
     match answer {
-        Answer::Refused(refusal) => refusal::number(refusal),
-        Answer::Accepted(told) => {
+        Err(refusal) => refusal::number(refusal),
+        Ok(told) => {
             let after = reply.estimator;
             layout::write_estimator(estimator, after);
             layout::write_judgement(judgement, told);
@@ -99,8 +97,8 @@ pub fn opacity_accept(
     let reply = before.accept(table, layout::read_header(header), symbol);
     let answer = reply.answer;
     match answer {
-        Answer::Refused(refusal) => refusal::number(refusal),
-        Answer::Accepted(told) => {
+        Err(refusal) => refusal::number(refusal),
+        Ok(told) => {
             let after = reply.estimator;
             layout::write_estimator(estimator, after);
             layout::write_judgement(judgement, told);
@@ -139,8 +137,8 @@ pub fn opacity_start(
     );
     let answer = start.answer;
     match answer {
-        StartAnswer::Refused(refusal) => refusal::number(refusal),
-        StartAnswer::Started => {
+        Err(refusal) => refusal::number(refusal),
+        Ok(()) => {
             let fresh = start.enforcer;
             layout::write_enforcer(enforcer, fresh);
             0
@@ -177,8 +175,8 @@ pub fn opacity_offer(
     let given = before.offer(table, layout::read_header(header), symbol, output);
     let answer = given.answer;
     match answer {
-        OfferAnswer::Refused(refusal) => refusal::number(refusal),
-        OfferAnswer::Released(told) => {
+        Err(refusal) => refusal::number(refusal),
+        Ok(told) => {
             let after = given.enforcer;
             layout::write_enforcer(enforcer, after);
             layout::write_release(release, told);
@@ -215,8 +213,8 @@ pub fn opacity_explore(
         budget,
     );
     match answer {
-        ExploreAnswer::Refused(refusal) => refusal::number(refusal),
-        ExploreAnswer::Explored(found) => {
+        Err(reason) => refusal::number(reason),
+        Ok(found) => {
             layout::write_exploration(exploration, found);
             0
         }
@@ -256,13 +254,9 @@ pub fn opacity_first_leak(
         events,
     );
     match answer {
-        LeakAnswer::Refused(refusal) => refusal::number(refusal),
-        LeakAnswer::Nowhere => {
-            layout::write_number(place, 0);
-            0
-        }
-        LeakAnswer::At(found) => {
-            layout::write_number(place, found);
+        Err(refusal) => refusal::number(refusal),
+        Ok(found) => {
+            layout::write_number(place, found.unwrap_or(0));
             0
         }
     }

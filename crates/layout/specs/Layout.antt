@@ -9,7 +9,6 @@ use Rattle.opacity.specs.declared.Notion.TheVariants.{Weak, Strong}
 use Rattle.opacity.specs.declared.Secret.{Secret}
 use Rattle.opacity.specs.declared.Further.{Further}
 use Rattle.verifier.specs.declared.Estimator.{Estimator}
-use Rattle.verifier.specs.declared.Judgement.{Judgement}
 use Rattle.opacity.specs.Secrets.{place_of}
 use Rattle.opacity.specs.Verdicts.{Steps, none, leak}
 use Rattle.verifier.specs.Replies.{Told, told_of, none_told, numbered, Findings}
@@ -17,6 +16,8 @@ use Rattle.enforcer.specs.declared.Enforcer.{Enforcer}
 use Rattle.enforcer.specs.declared.Release.{Release}
 use Rattle.explore.specs.declared.Exploration.{Exploration}
 use Rattle.layout.specs.Sizes as sizes
+use Rattle.verifier.specs.declared.Judgement.{Judgement}
+use Rattle.opacity.specs.declared.Verdicts.{Verdicts}
 
 -- a slice into which a text was stored from a place on; what stood elsewhere stays
 pub record Stored (before : List ℕ) (at : ℕ) (text after : List ℕ) : Type 0 where
@@ -186,7 +187,7 @@ abbrev pub judgement_bytes : Findings → List ℕ
 judgement_bytes j = told_bytes_at j 0 ++ (told_bytes_at j 1 ++ (told_bytes_at j 2 ++ (told_bytes_at j 3 ++ j.size ∷ [])))
 
 -- what a verifier's answer holds of all four places
-abbrev pub all_findings : Judgement → Findings
+abbrev pub all_findings : Judgement Verdicts → Findings
 all_findings j = record { each = map told_of (numbered j.verdicts); size = j.size }
 
 -- the verdicts and the number that its bytes hold, where so many further secrets are given

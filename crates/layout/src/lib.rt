@@ -334,7 +334,7 @@ fn store_verdicts(bytes: &mut [u8], at: usize, verdicts: Verdicts)
     put(bytes, at + sizes::STRONG_PLACE, verdict_byte(strong));
 }
 
-pub fn write_judgement(bytes: &mut [u8], judgement: Judgement)
+pub fn write_judgement(bytes: &mut [u8], judgement: Judgement<Verdicts>)
     requires { length bytes.old ≡ sizes.judgement_size }
     ensures { bytes.new ≡ judgement_bytes (all_findings judgement) }
 {

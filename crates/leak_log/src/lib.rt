@@ -10,9 +10,9 @@ ghost use Rattle.leak_log.specs.Feeding.{Begins, Turning, Fed, ReadOn, Ran, Sear
 
 use automaton::Header;
 use leaks::Search;
-use monitor::OpenAnswer;
 use opacity::Notion;
 use opening::open;
+use refusal::Refusal;
 use streams::reads::{fetch, gather, least};
 use streams::writes::refuse;
 use streams::{Fetched, Gathered};
@@ -29,13 +29,13 @@ pub enum Status {
     Failed,
 }
 
-// The automaton of a log, and the search of no event yet. (The table is no lent one: a refusal may come after it is filled.)
+// The automaton of a log, the search of no event yet, and where the events start. (The table is no lent one: a refusal may come after it is filled.)
 #[derive(Clone, Copy)]
 pub struct Opened {
     pub table: [u64; 2048],
     pub header: Header,
     pub search: Search,
-    pub answer: OpenAnswer,
+    pub answer: Result<usize, Refusal>,
 }
 
 // The search after the events among the first bytes of a log, and how many event bytes the log may still have.
@@ -190,11 +190,11 @@ fn run(
     let search = opened.search;
     let answer = opened.answer;
     match answer {
-        OpenAnswer::Refused(refusal) => {
+        Err(refusal) => {
             refuse(rt, refusal, out);
             size
         }
-        OpenAnswer::Started(first) => {
+        Ok(first) => {
             let begun = begin(search, &table, header, &input[first..n]);
             let part = least(piece, input.len());
             read_on(rt, begun, &table, header, &mut input[0..part], out, size)

@@ -1,21 +1,19 @@
 // How a log begins: the automaton of its encoding, and a search of no event yet; or what a refused log hands back.
-ghost use Rattle.std.specs.Prelude.{◌≡◌};
+ghost use Rattle.std.specs.Prelude.{◌≡◌, Err};
 ghost use Rattle.automaton.specs.Run.{WellFormed};
 ghost use Rattle.monitor.specs.Opening.{open_outcome as opened};
-ghost use Rattle.monitor.specs.declared.OpenAnswer.TheVariants as answer;
 ghost use Rattle.leak_log.specs.Opens.{NoSearch, StartedOn, Opening};
 
 use super::Opened;
 use automaton::Header;
 use leaks::Search;
-use monitor::OpenAnswer;
 use opacity::Notion;
 use refusal::Refusal;
 use verifier::Estimator;
 
 // What a refused log hands back: header and estimator are outside their limits.
 fn refused(refusal: Refusal, notion: Notion) -> Opened
-    ensures { (result.answer ≡ answer.Refused refusal) × NoSearch result.header result.search }
+    ensures { (result.answer ≡ Err refusal) × NoSearch result.header result.search }
 {
     let further = opacity::no_further();
     let estimator = Estimator {
@@ -40,7 +38,7 @@ fn refused(refusal: Refusal, notion: Notion) -> Opened
             symbols: [0u8; 32],
         },
         search: search,
-        answer: OpenAnswer::Refused(refusal),
+        answer: Err(refusal),
     }
 }
 
@@ -56,7 +54,7 @@ fn start(table: [u64; 2048], header: Header, events: usize, notion: Notion) -> O
         table: table,
         header: header,
         search: search,
-        answer: OpenAnswer::Started(events),
+        answer: Ok(events),
     }
 }
 

@@ -17,11 +17,11 @@ use Rattle.opacity.specs.Secrets.{secrets_of, secret_at, ForEach}
 use Rattle.opacity.specs.Verdicts.{none, leak, steps_of, Tells, IsVerdict}
 use Rattle.opacity.proofs.Exactness.{in_words}
 use Rattle.opacity.proofs.Numbering.{get_d_map}
-use Rattle.verifier.specs.declared.VerdictsBy.{VerdictsBy}
 use Rattle.verifier.specs.Replies.{numbered_by, steps_each}
 use Rattle.leaks.specs.FirstLeaks.{SomeLeak, NoneBelow, FirstLeak}
 use Rattle.leaks.specs.Inner.{LeakAmong}
 use Rattle.leaks.proofs.Parts.{part_append, part_exists}
+use Rattle.verifier.specs.declared.EachSecret.{EachSecret}
 
 -- ---- the four verdicts
 
@@ -36,11 +36,11 @@ none_is_none (verdict.Leak l) x = absurd (x (λ e. let z : ◌≡◌ {A = ℕ} 0
 pub leak_not_none : {v : Verdict} {l : ℕ} → v ≡ verdict.Leak l → v ≡ verdict.NoLeak → ⊥
 leak_not_none a b = let z : ◌≡◌ {A = ℕ} 0 1 = cc in absurd (omega arith)
 
-pub leak_among : (v : VerdictsBy) (i : ℕ) → (get_or (numbered_by v) i verdict.NoLeak ≡ verdict.NoLeak → ⊥) → LeakAmong v
+pub leak_among : (v : EachSecret Verdict) (i : ℕ) → (get_or (numbered_by v) i verdict.NoLeak ≡ verdict.NoLeak → ⊥) → LeakAmong v
 leak_among v i x = let y = leak_steps (get_or (numbered_by v) i verdict.NoLeak) x in record { number = i; steps = y.0; is = y.1 }
 
 -- where three of them are none, only the last can be a leak
-pub last_among : (v : VerdictsBy) → ((v.own ≡ verdict.NoLeak → ⊥) → ⊥) → ((v.first ≡ verdict.NoLeak → ⊥) → ⊥)
+pub last_among : (v : EachSecret Verdict) → ((v.own ≡ verdict.NoLeak → ⊥) → ⊥) → ((v.first ≡ verdict.NoLeak → ⊥) → ⊥)
     → ((v.second ≡ verdict.NoLeak → ⊥) → ⊥) → LeakAmong v → v.third ≡ verdict.NoLeak → ⊥
 last_among v a b c x d = go x.number x.is
   where
@@ -52,7 +52,7 @@ last_among v a b c x d = go x.number x.is
     go (suc (suc (suc (suc i)))) e = leak_not_none e refl
 
 -- the verdict of a secret that is given
-pub steps_at : (f : Further) (v : VerdictsBy) (i : ℕ) → i < suc f.count → get_or (steps_each f v) i none ≡ steps_of (get_or (numbered_by v) i verdict.NoLeak)
+pub steps_at : (f : Further) (v : EachSecret Verdict) (i : ℕ) → i < suc f.count → get_or (steps_each f v) i none ≡ steps_of (get_or (numbered_by v) i verdict.NoLeak)
 steps_at f v i given = get_or-take (suc f.count) (map steps_of (numbered_by v)) i none given ∙ get_d_map steps_of (numbered_by v) i verdict.NoLeak none refl
 
 -- ---- some leak of a trace

@@ -1,4 +1,5 @@
 -- A search after one byte more, after one block and then another, and after the leak is found. Assumes nothing.
+use Rattle.std.specs.Prelude.{Err, Ok, Result}
 use mathlib.Core.Path.{◌≡◌, refl, ap, sym, subst, ◌∙◌}
 use mathlib.Core.Bool.{Bool, true, false}
 use mathlib.Core.List.{List, [], ◌∷◌, ◌++◌, append_assoc, append-nil}
@@ -22,11 +23,7 @@ use Rattle.opacity.specs.Secrets.{secrets_of, secret_at, ForEach}
 use Rattle.opacity.specs.Verdicts.{none, steps_of, Tells, IsVerdict}
 use Rattle.opacity.proofs.Numbering.{how_many, same_secrets}
 use Rattle.verifier.specs.declared.Estimator.{Estimator}
-use Rattle.verifier.specs.declared.VerdictsBy.{VerdictsBy}
 use Rattle.verifier.specs.Estimators.{InLimits, GrownOn}
-use Rattle.verifier.specs.declared.JudgementBy.{JudgementBy}
-use Rattle.verifier.specs.declared.AnswerBy.{AnswerBy}
-use Rattle.verifier.specs.declared.AnswerBy.TheVariants as by
 use Rattle.refusal.specs.Refusals.{number_of}
 use Rattle.refusal.specs.declared.Refusal.{Refusal}
 use Rattle.verifier.specs.Replies.{numbered_by, steps_each, refused, verdicts, Accepting, not_observable, incompatible, Moved, TellsBy}
@@ -38,6 +35,9 @@ use Rattle.leaks.specs.Searches.{NotFound, Searched, Within, SearchedOn, said_of
 use Rattle.leaks.specs.Inner.{LeakAmong}
 use Rattle.leaks.proofs.Parts.{part_one, part_append, right_exists}
 use Rattle.leaks.proofs.Leaking.{leak_not_none, none_is_none, leak_among, steps_at, some_leak, none_leak, none_kept, take_whole, none_more, first_kept}
+use Rattle.verifier.specs.declared.EachSecret.{EachSecret}
+use Rattle.verifier.specs.declared.Judgement.{Judgement}
+use Rattle.opacity.specs.declared.Verdict.{Verdict}
 
 -- a search that has found no leak has not found one
 pub absent : {A : Type 0} {b : Bool} → b ≡ false → b ≡ true → A
@@ -143,7 +143,7 @@ module _ (t : List ℕ) (h : Header) where
             }
 
     -- one that is accepted is counted, and it is the first leak or none
-    module _ (m : Estimator) (size : ℕ) (v : VerdictsBy) (r : Bool) (moved : Moved t h self.estimator b size m)
+    module _ (m : Estimator) (size : ℕ) (v : EachSecret Verdict) (r : Bool) (moved : Moved t h self.estimator b size m)
         (tells : ForEach (secrets_of h self.estimator.further)
         (λ i c. TellsBy self.notion t h self.estimator b c (get_or (steps_each self.estimator.further v) i none)))
         (others : (i : ℕ) → self.estimator.further.count < i → get_or (numbered_by v) i verdict.NoLeak ≡ verdict.NoLeak)
@@ -235,17 +235,17 @@ module _ (t : List ℕ) (h : Header) where
 
   -- so by what the estimator answers
   module _ (self : Search) (b : ℕ) (within : Within t h self 1) (searching : self.found ≡ false) where
-    pub step_refused : {notion : Notion} (a : AnswerBy) (r : Refusal) (m : Estimator) → a ≡ by.Refused r
+    pub step_refused : {notion : Notion} (a : Result (Judgement Verdict) Refusal) (r : Refusal) (m : Estimator) → a ≡ Err r
         → AcceptingBy notion t h self.estimator b (said_by self.estimator.further a) m → SearchedOn t h self (b ∷ []) self
     step_refused {notion} a r m is x =
-        go (subst (λ (y : AnswerBy). AcceptingBy notion t h self.estimator b (said_by self.estimator.further y) m) is x)
+        go (subst (λ (y : Result (Judgement Verdict) Refusal). AcceptingBy notion t h self.estimator b (said_by self.estimator.further y) m) is x)
       where
         go : AcceptingBy notion t h self.estimator b (refused-by (number_of r)) m → SearchedOn t h self (b ∷ []) self
         go (turned_back y) = passed_over self b within searching (number_of r) m y
 
-    pub step_accepted : (j : JudgementBy) (m : Estimator) (r : Bool)
+    pub step_accepted : (j : Judgement Verdict) (m : Estimator) (r : Bool)
         → AcceptingBy self.notion t h self.estimator b (verdicts_by (findings_by self.estimator.further j)) m
-        → OthersBy self.estimator.further (by.Accepted j) → Decided r (LeakAmong j.verdicts)
+        → OthersBy self.estimator.further (Ok j) → Decided r (LeakAmong j.verdicts)
         → SearchedOn t h self (b ∷ []) (record { estimator = m; notion = self.notion; accepted = self.accepted + 1; found = r })
     step_accepted j m r (accepted_by moved as_many tells) others leaks =
         counted_on self b within searching m j.size j.verdicts r moved tells others leaks

@@ -1,5 +1,5 @@
 -- The first leak of an offered list (02, S-8), over lists and runs.
-use Rattle.std.specs.Prelude.{◌≡◌, List, [], ℕ, ◌+◌, ◌≤◌, ◌<◌, length, take}
+use Rattle.std.specs.Prelude.{◌≡◌, List, [], ℕ, ◌+◌, ◌≤◌, ◌<◌, length, take, Err, None, Ok, Option, Result, Some}
 use Rattle.automaton.specs.Run.{Automaton, automaton_of, WellFormed}
 use Rattle.refusal.specs.Refusals.{number_of}
 use Rattle.automaton.specs.declared.Header.{Header}
@@ -9,8 +9,7 @@ use Rattle.opacity.specs.declared.Further.{Further}
 use Rattle.opacity.specs.Secrets.{secrets_of, secret_at, ForEach, Allowed, TooLarge}
 use Rattle.opacity.specs.Verdicts.{none, leak, IsVerdict}
 use Rattle.verifier.specs.Calls.{Call, accepted_of, offered_of, AllAnswered}
-use Rattle.leaks.specs.declared.LeakAnswer.{LeakAnswer}
-use Rattle.leaks.specs.declared.LeakAnswer.TheVariants as answer
+use Rattle.refusal.specs.declared.Refusal.{Refusal}
 
 -- the accepted part of offered bytes, after those accepted before them, as the mission's second point has it: calls with these bytes, each answered as it says,
 -- judged with the bytes accepted before it. So a byte that 6 or 7 turns back is passed over. (On an automaton every list has one accepted part: proofs/Parts)
@@ -53,10 +52,10 @@ pub data Said : Type 0 where
   nowhere : Said
   at : ℕ → Said
 
-abbrev pub said : LeakAnswer → Said
-said (answer.Refused r) = refused (number_of r)
-said answer.Nowhere = nowhere
-said (answer.At place) = at place
+abbrev pub said : Result (Option ℕ) Refusal → Said
+said (Err r) = refused (number_of r)
+said (Ok None) = nowhere
+said (Ok (Some place)) = at place
 
 -- the question over an automaton (01: plan) with further secrets, a notion and a list of offered bytes: refused as a fresh estimator is, 9, 13, 14, and else
 -- answered. (There is no 8)

@@ -3,7 +3,7 @@
 // each block, which takes the search by value and hands it back. None of them demands anything of its caller.
 #![tactic(auto)]
 
-ghost use Rattle.std.specs.Prelude.{◌≡◌, false, [], ◌∷◌};
+ghost use Rattle.std.specs.Prelude.{◌≡◌, false, [], ◌∷◌, Ok};
 ghost use Rattle.stateset.specs.Set.{Decided};
 ghost use Rattle.opacity.specs.declared.Verdict.TheVariants as case;
 ghost use Rattle.leaks.specs.FirstLeaks.{said, Finding};
@@ -13,15 +13,7 @@ ghost use Rattle.leaks.specs.Inner.{LeakAmong};
 use automaton::Header;
 use opacity::{Further, Notion, Verdict};
 use refusal::Refusal;
-use verifier::{Answer, AnswerBy, Estimator, VerdictsBy};
-
-// What a search has found so far: the place of the first leak among the accepted events, from 1; or that none of them leaks.
-#[derive(Clone, Copy)]
-pub enum LeakAnswer {
-    Refused(Refusal),
-    Nowhere,
-    At(u64),
-}
+use verifier::{EachSecret, Estimator};
 
 // A search for the first leak by one notion: the estimator after the bytes so far, how many of them were accepted, and whether the last of these leaks. It is
 // the first then, and the search goes no further.
@@ -33,10 +25,12 @@ pub struct Search {
     pub found: bool,
 }
 
+// The search that is handed back, and what it has found so far: the place of the first leak among the accepted events, from 1; None where none of them
+// leaks.
 #[derive(Clone, Copy)]
 pub struct SearchReply {
     pub search: Search,
-    pub answer: LeakAnswer,
+    pub answer: Result<Option<u64>, Refusal>,
 }
 
 fn is_leak(verdict: Verdict) -> bool
@@ -49,7 +43,7 @@ fn is_leak(verdict: Verdict) -> bool
 }
 
 // Whether one of the verdicts is a leak. (Those of a secret that is not given are none.)
-fn any_leak(verdicts: VerdictsBy) -> bool
+fn any_leak(verdicts: EachSecret<Verdict>) -> bool
     ensures { Decided result (LeakAmong verdicts) }
 {
     let own = verdicts.own;
@@ -70,13 +64,13 @@ fn any_leak(verdicts: VerdictsBy) -> bool
 
 impl Search {
     // What it has found so far.
-    fn answer(self) -> LeakAnswer
-        ensures { said result ≡ said_of self }
+    fn answer(self) -> Option<u64>
+        ensures { said (Ok result) ≡ said_of self }
     {
         if self.found {
-            return LeakAnswer::At(self.accepted);
+            return Some(self.accepted);
         }
-        LeakAnswer::Nowhere
+        None
     }
 
     // The table and the header are an automaton, the estimator is within its limits, a leak that is found has a place, and, unless it is found, so many bytes
@@ -114,13 +108,13 @@ impl Search {
         };
         let answer = reply.answer;
         match answer {
-            Answer::Refused(refusal) => SearchReply {
-                search: search,
-                answer: LeakAnswer::Refused(refusal),
+            Err(refusal) => SearchReply {
+                search,
+                answer: Err(refusal),
             },
-            Answer::Accepted(_) => SearchReply {
-                search: search,
-                answer: LeakAnswer::Nowhere,
+            Ok(_) => SearchReply {
+                search,
+                answer: Ok(None),
             },
         }
     }
@@ -136,8 +130,8 @@ impl Search {
         let reply = estimator.accept_by(table, header, byte, notion);
         let answer = reply.answer;
         match answer {
-            AnswerBy::Refused(_) => self,
-            AnswerBy::Accepted(judgement) => {
+            Err(_) => self,
+            Ok(judgement) => {
                 let verdicts = judgement.verdicts;
                 let after = reply.estimator;
                 Search {
@@ -157,7 +151,7 @@ impl Search {
         if !self.within(table, header, bytes.len()) {
             return SearchReply {
                 search: self,
-                answer: LeakAnswer::Refused(Refusal::Malformed),
+                answer: Err(Refusal::Malformed),
             };
         }
         let mut now = self;
@@ -169,34 +163,25 @@ impl Search {
             now = now.step(table, header, bytes[i]);
             i += 1;
         }
-        let answer = now.answer();
         SearchReply {
             search: now,
-            answer: answer,
+            answer: Ok(now.answer()),
         }
     }
 }
 
-// The place of the first accepted event of the list whose verdict by the notion is a leak of any secret that is given, or that there is none.
+// The place of the first accepted event of the list whose verdict by the notion is a leak of any secret that is given; None where there is no such event.
 pub fn first_leak(
     table: &[u64],
     header: Header,
     further: Further,
     notion: Notion,
     bytes: &[u8],
-) -> LeakAnswer
+) -> Result<Option<u64>, Refusal>
     ensures { Finding notion table.now header further bytes.now (said result) }
 {
     let begun = Search::begin(table, header, further, notion);
-    let answer = begun.answer;
-    match answer {
-        LeakAnswer::Refused(refusal) => LeakAnswer::Refused(refusal),
-        LeakAnswer::Nowhere => {
-            let search = begun.search;
-            let reply = search.advance(table, header, bytes);
-            reply.answer
-        }
-        // Never: no byte is searched yet.
-        LeakAnswer::At(place) => LeakAnswer::At(place),
-    }
+    begun.answer?;
+    let reply = begun.search.advance(table, header, bytes);
+    reply.answer
 }

@@ -6,7 +6,6 @@ ghost use Rattle.log_output.specs.Whole.{Begins};
 use super::output::{going, with_room, with_status};
 use super::{Monitored, Part, Progress, Status};
 use automaton::Header;
-use monitor::{AdvanceAnswer, OpenAnswer};
 use streams::writes::refuse;
 
 // The event bytes for which the output has room.
@@ -20,11 +19,11 @@ fn advance(progress: Progress, table: &[u64], header: Header, events: &[u8], out
     let answer = advanced.answer;
     let after = advanced.monitor;
     match answer {
-        AdvanceAnswer::Refused(refusal) => Part {
-            progress: progress,
+        Err(_) => Part {
+            progress,
             taken: 0,
         },
-        AdvanceAnswer::Taken(advance) => Part {
+        Ok(advance) => Part {
             progress: Progress {
                 monitor: after,
                 at: advance.next,
@@ -76,7 +75,7 @@ pub fn start(rt: &(impl Print + Eprint), log: &[u8], out: &mut [u8]) -> Monitore
     let monitor = opened.monitor;
     let answer = opened.answer;
     match answer {
-        OpenAnswer::Refused(refusal) => {
+        Err(refusal) => {
             refuse(rt, refusal, out);
             Monitored {
                 table: table,
@@ -88,7 +87,7 @@ pub fn start(rt: &(impl Print + Eprint), log: &[u8], out: &mut [u8]) -> Monitore
                 },
             }
         }
-        OpenAnswer::Started(first) => {
+        Ok(first) => {
             let begun = Progress {
                 monitor: monitor,
                 at: 0,

@@ -3,12 +3,13 @@ use mathlib.Core.Path.{◌≡◌, refl, sym, ap}
 use mathlib.Core.List.{List, [], ◌++◌}
 use Prim.Native.Nat.{ℕ, zero, suc, ◌<◌}
 use native.Mathlib.Omega.{arith}
-use Rattle.verifier.specs.declared.Judgement.{Judgement}
 use Rattle.report.specs.Text.{idle_line, end_line}
 use Rattle.monitor.specs.Ending.{before_last, last_lines}
 use Rattle.monitor.specs.declared.Monitor.{Monitor}
+use Rattle.verifier.specs.declared.Judgement.{Judgement}
+use Rattle.opacity.specs.declared.Verdicts.{Verdicts}
 
-not_idle : (n : ℕ) (j : Judgement) → 0 < n → before_last n j ≡ []
+not_idle : (n : ℕ) (j : Judgement Verdicts) → 0 < n → before_last n j ≡ []
 not_idle zero j l = absurd (omega arith)
 not_idle (suc n) j l = refl
 

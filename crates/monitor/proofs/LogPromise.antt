@@ -12,7 +12,6 @@ use Rattle.refusal.specs.declared.Refusal.TheVariants.{NotObservable, Incompatib
 use Rattle.refusal.specs.Refusals.{number_of}
 use Rattle.opacity.specs.declared.Notion.TheVariants.{Weak}
 use Rattle.verifier.specs.declared.Estimator.{Estimator}
-use Rattle.verifier.specs.declared.Judgement.{Judgement}
 use Rattle.opacity.specs.Secrets.{no_further, secrets_of}
 use Rattle.verifier.specs.Estimators as estimators
 use Rattle.verifier.specs.Replies as verifier
@@ -35,6 +34,8 @@ use Rattle.monitor.specs.LogText as log
 use Rattle.monitor.specs.LogText.{Released, Prints, MonitorPromise}
 use Rattle.monitor.specs.declared.Monitor.{Monitor}
 use Rattle.monitor.proofs.Openings.{right_own}
+use Rattle.verifier.specs.declared.Judgement.{Judgement}
+use Rattle.opacity.specs.declared.Verdicts.{Verdicts}
 
 -- a refused event's line depends on the number alone
 refused_as : (b : ℕ) (r q : Refusal) → number_of q ≡ number_of r → refused_line b r ≡ refused_line b q
@@ -79,7 +80,7 @@ module _ (t : List ℕ) (h : Header) (well_formed : WellFormed t h) where
       impossible Weak trace (third.held Weak t h no_further trace m.enforcer a.enforcer) p.run p.compatible
 
   -- an event that both accept
-  record Accepted (trace : List ℕ) (r : ℕ) (m : Monitor) (b : ℕ) (j : Judgement) (s : Estimator) (f : ℕ) (e : Enforcer) (left : List ℕ) : Type 0 where
+  record Accepted (trace : List ℕ) (r : ℕ) (m : Monitor) (b : ℕ) (j : Judgement Verdicts) (s : Estimator) (f : ℕ) (e : Enforcer) (left : List ℕ) : Type 0 where
     observable : Observable h b
     possible : Possible (automaton_of t h) (trace ++ b ∷ [])
     told : RightOwn t h (trace ++ b ∷ []) j.verdicts.own j.size
@@ -87,7 +88,7 @@ module _ (t : List ℕ) (h : Header) (well_formed : WellFormed t h) where
     piece : take f left ≡ take f (drop r (trace ++ b ∷ []))
     then : After (trace ++ b ∷ []) (r + f) (accepted_once m s e f)
 
-  by_both : (trace : List ℕ) (r : ℕ) (m : Monitor) (b : ℕ) (j : Judgement) (s : Estimator) (q : Release) (e : Enforcer) (output left : List ℕ) → After trace r m
+  by_both : (trace : List ℕ) (r : ℕ) (m : Monitor) (b : ℕ) (j : Judgement Verdicts) (s : Estimator) (q : Release) (e : Enforcer) (output left : List ℕ) → After trace r m
       → Accepting t h m.estimator b (verifier.verdicts (findings m.estimator.further j)) s
       → Offering t h m.enforcer b output (enforcer.released q) e left → Accepted trace r m b j s q.count e left
   by_both trace r m b j s q e output left a (Accepting.accepted so li ob same ls many bounded size exact) off =
@@ -114,7 +115,7 @@ module _ (t : List ℕ) (h : Header) (well_formed : WellFormed t h) where
         };
       }
 
-  print_accepted : (trace : List ℕ) (r : ℕ) (m : Monitor) (b : ℕ) (j : Judgement) (s : Estimator) (f : ℕ) (e : Enforcer) (left bytes rest after : List ℕ)
+  print_accepted : (trace : List ℕ) (r : ℕ) (m : Monitor) (b : ℕ) (j : Judgement Verdicts) (s : Estimator) (f : ℕ) (e : Enforcer) (left bytes rest after : List ℕ)
       (r' : ℕ) → After trace r m
       → Accepted trace r m b j s f e left → Prints t h (trace ++ b ∷ []) (r + f) bytes rest after r'
       → Prints t h trace r (b ∷ bytes) (accepted_line (m.accepted + 1) b j.verdicts.own.weak j.verdicts.own.strong j.size

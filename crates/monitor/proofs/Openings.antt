@@ -7,7 +7,6 @@ use Rattle.automaton.specs.Run.{WellFormed}
 use Rattle.automaton.specs.declared.Header.{Header}
 use Rattle.opacity.specs.declared.Notion.TheVariants.{Weak, Strong}
 use Rattle.verifier.specs.declared.Estimator.{Estimator}
-use Rattle.verifier.specs.declared.Judgement.{Judgement}
 use Rattle.opacity.specs.declared.Further.{Further}
 use Rattle.opacity.specs.Secrets.{no_further}
 use Rattle.verifier.specs.Replies as verifier
@@ -21,6 +20,8 @@ use Rattle.enforcer.specs.Offerings as enforcer
 use Rattle.enforcer.specs.Offerings.{Starting}
 use Rattle.monitor.specs.Opening.{OpenOutcome, refused, started, front_size, RightOwn, Decodes, NoMonitor, Opening, opened, StartedOn, leaks, begun}
 use Rattle.monitor.specs.declared.Monitor.{Monitor}
+use Rattle.verifier.specs.declared.Judgement.{Judgement}
+use Rattle.opacity.specs.declared.Verdicts.{Verdicts}
 
 pub not_begun : (t : List ℕ) (h : Header) (events n : ℕ) (e : Enforcer) (t' : List ℕ) (h' : Header) (m : Monitor) → WellFormed t h
     → Starting t h no_further Weak (enforcer.not_started n) e → NoMonitor h' m → StartedOn t h events (refused n) t' h' m
@@ -30,14 +31,14 @@ not_begun t h events n e t' h' m so (Starting.look_back_too_large so' few large 
 not_begun t h events n e t' h' m so (Starting.initial_leak so' allowed opens out) b = leaks (Starting.initial_leak so' allowed opens out) b
 
 -- of all verdicts that are right, those of the automaton's own secret
-pub right_own : (t : List ℕ) (h : Header) (f : Further) (trace : List ℕ) (j : Judgement) → Right t h f trace (findings f j)
+pub right_own : (t : List ℕ) (h : Header) (f : Further) (trace : List ℕ) (j : Judgement Verdicts) → Right t h f trace (findings f j)
     → RightOwn t h trace j.verdicts.own j.size
 right_own t h f trace j x = record { weak = x.each Weak 0 (omega arith); strong = x.each Strong 0 (omega arith); size = x.size }
 
-abbrev fresh_of : Judgement → Estimator → Enforcer → Monitor
+abbrev fresh_of : Judgement Verdicts → Estimator → Enforcer → Monitor
 fresh_of j s e = record { opening = j; estimator = s; enforcer = e; offered = 0; accepted = 0; released = 0 }
 
-pub is_begun : (t : List ℕ) (h : Header) (events : ℕ) (e : Enforcer) (j : Judgement) (s : Estimator) → Starting t h no_further Weak enforcer.started e
+pub is_begun : (t : List ℕ) (h : Header) (events : ℕ) (e : Enforcer) (j : Judgement Verdicts) (s : Estimator) → Starting t h no_further Weak enforcer.started e
     → verifier.Opening t h no_further (verifier.verdicts (findings no_further j)) s → OthersNoLeak no_further j.verdicts
     → StartedOn t h events (started events) t h (fresh_of j s e)
 is_begun t h events e j s (Starting.ready so' allowed' tells same' grown) (verifier.Opening.opened so allowed same li many within x) others = begun record {

@@ -10,7 +10,6 @@ use Rattle.automaton.specs.declared.Header.{Header}
 use Rattle.refusal.specs.declared.Refusal.{Refusal}
 use Rattle.refusal.specs.Refusals.{number_of}
 use Rattle.verifier.specs.declared.Estimator.{Estimator}
-use Rattle.verifier.specs.declared.Judgement.{Judgement}
 use Rattle.verifier.specs.Estimators as estimators
 use Rattle.verifier.specs.Replies as verifier
 use Rattle.verifier.specs.Replies.{Findings, findings, Accepting}
@@ -26,6 +25,8 @@ use Rattle.report.specs.Writing.{Written, no_room, written}
 use Rattle.monitor.specs.Stepping.{Within, Countable, offered_once, accepted_once, not_verified, not_enforced, accepted, place_of, Printed, Stepped}
 use Rattle.monitor.specs.Advancing.{Ready}
 use Rattle.monitor.specs.declared.Monitor.{Monitor}
+use Rattle.verifier.specs.declared.Judgement.{Judgement}
+use Rattle.opacity.specs.declared.Verdicts.{Verdicts}
 
 -- a line for which there is room
 pub printed : {room at : ℕ} {before text after : List ℕ} {line : Line} → at + room ≤ length before → Written room before at text line after
@@ -85,7 +86,7 @@ countable t h m byte r e output left out at b ready off =
       released = omega (arith, b.balanced.among, b.balanced.balance, ready.allowed, c.kept);
     }
 
-pub by_both : (t : List ℕ) (h : Header) (m : Monitor) (byte : ℕ) (j : Judgement) (s : Estimator) (r : Release) (e : Enforcer) (output left : List ℕ)
+pub by_both : (t : List ℕ) (h : Header) (m : Monitor) (byte : ℕ) (j : Judgement Verdicts) (s : Estimator) (r : Release) (e : Enforcer) (output left : List ℕ)
     (after : Monitor)
     {out out' : List ℕ} {at next : ℕ} → Within t h m
     → Accepting t h m.estimator byte (verifier.verdicts (findings m.estimator.further j)) s

@@ -1,22 +1,21 @@
 -- What `advance` gives.
-use Rattle.std.specs.Prelude.{◌≡◌, List, [], ◌⊎◌, ℕ, ◌+◌, ◌≤◌, length, take}
+use Rattle.std.specs.Prelude.{◌≡◌, List, [], ◌⊎◌, ℕ, ◌+◌, ◌≤◌, length, take, Err, Ok, Result}
 use Rattle.std.proofs.lemmas.List.Edits.{sets}
 use Rattle.automaton.specs.declared.Header.{Header}
 use Rattle.refusal.specs.Refusals.{number_of}
 use Rattle.monitor.specs.Stepping.{Within, Lines, Printed}
 use Rattle.monitor.specs.declared.Monitor.{Monitor}
 use Rattle.monitor.specs.declared.Advance.{Advance}
-use Rattle.monitor.specs.declared.AdvanceAnswer.{AdvanceAnswer}
-use Rattle.monitor.specs.declared.AdvanceAnswer.TheVariants as answer
+use Rattle.refusal.specs.declared.Refusal.{Refusal}
 
 -- what an answer says: the number of a refusal, or how many event bytes were taken and where the next line goes
 pub data AdvanceOutcome : Type 0 where
   refused : ℕ → AdvanceOutcome
   taken : Advance → AdvanceOutcome
 
-abbrev pub advance_outcome : AdvanceAnswer → AdvanceOutcome
-advance_outcome (answer.Refused r) = refused (number_of r)
-advance_outcome (answer.Taken a) = taken a
+abbrev pub advance_outcome : Result Advance Refusal → AdvanceOutcome
+advance_outcome (Err r) = refused (number_of r)
+advance_outcome (Ok a) = taken a
 
 -- there is room for a line, and one more event byte is allowed: 01 ends a log after 4,294,967,295 of them
 pub record Ready (m : Monitor) (out : List ℕ) (at : ℕ) : Type 0 where

@@ -1,11 +1,10 @@
 -- How a log starts: two bytes, high first, the length of the encoding (01: description); the encoding; then one byte an event.
-use Rattle.std.specs.Prelude.{◌≡◌, List, [], ℕ, ◌+◌, ◌-◌, ◌*◌, ◌≤◌, ◌<◌, length, get_or, take, drop}
+use Rattle.std.specs.Prelude.{◌≡◌, List, [], ℕ, ◌+◌, ◌-◌, ◌*◌, ◌≤◌, ◌<◌, length, get_or, take, drop, Err, Ok, Result}
 use Rattle.automaton.specs.Run.{automaton_of}
 use Rattle.refusal.specs.Refusals.{number_of}
 use Rattle.automaton.specs.declared.Header.{Header}
 use Rattle.opacity.specs.declared.Notion.TheVariants.{Weak, Strong}
 use Rattle.opacity.specs.declared.Verdicts.{Verdicts}
-use Rattle.verifier.specs.declared.Judgement.{Judgement}
 use Rattle.opacity.specs.Secrets.{own, no_further}
 use Rattle.opacity.specs.Verdicts.{steps_of, Exactly}
 use Rattle.verifier.specs.Replies as verifier
@@ -18,17 +17,17 @@ use Rattle.enforcer.specs.Enforcers as enforcers
 use Rattle.enforcer.specs.Offerings.{Starting, not_started, Unusable}
 use Rattle.monitor.specs.Stepping.{Balanced}
 use Rattle.monitor.specs.declared.Monitor.{Monitor}
-use Rattle.monitor.specs.declared.OpenAnswer.{OpenAnswer}
-use Rattle.monitor.specs.declared.OpenAnswer.TheVariants as answer
+use Rattle.verifier.specs.declared.Judgement.{Judgement}
+use Rattle.refusal.specs.declared.Refusal.{Refusal}
 
 -- what an answer says: the number of a refusal, or where the events start
 pub data OpenOutcome : Type 0 where
   refused : ℕ → OpenOutcome
   started : ℕ → OpenOutcome
 
-abbrev pub open_outcome : OpenAnswer → OpenOutcome
-open_outcome (answer.Refused r) = refused (number_of r)
-open_outcome (answer.Started n) = started n
+abbrev pub open_outcome : Result ℕ Refusal → OpenOutcome
+open_outcome (Err r) = refused (number_of r)
+open_outcome (Ok n) = started n
 
 -- how many bytes the length and the encoding take. (Where a byte of the length is missing this is more than there are)
 abbrev pub front_size : List ℕ → ℕ
@@ -63,7 +62,7 @@ pub record Decodes (log : List ℕ) (h : Header) (answer : Outcome) (t : List �
   pub decoding : Decoding (encoding_of log) before h answer t
 
 -- no leak and no state to tell
-abbrev pub nothing_told : Judgement
+abbrev pub nothing_told : Judgement Verdicts
 nothing_told = record { verdicts = record { own = no_leaks; first = no_leaks; second = no_leaks; third = no_leaks }; size = 0 }
 
 -- what a refused log hands back: a header, an estimator and an enforcer that are outside their limits on every automaton, and a monitor that takes no byte

@@ -7,7 +7,6 @@ use Rattle.automaton.specs.declared.Header.{Header}
 use Rattle.refusal.specs.declared.Refusal.{Refusal}
 use Rattle.refusal.specs.Refusals.{number_of}
 use Rattle.verifier.specs.declared.Estimator.{Estimator}
-use Rattle.verifier.specs.declared.Judgement.{Judgement}
 use Rattle.verifier.specs.Estimators as estimators
 use Rattle.verifier.specs.Replies as verifier
 use Rattle.verifier.specs.Replies.{Findings, findings, Accepting}
@@ -20,6 +19,8 @@ use Rattle.report.specs.declared.Line.{Line}
 use Rattle.report.specs.declared.Line.TheVariants.{Next, NoRoom}
 use Rattle.report.specs.Text.{accepted_line, refused_line}
 use Rattle.monitor.specs.declared.Monitor.{Monitor}
+use Rattle.verifier.specs.declared.Judgement.{Judgement}
+use Rattle.opacity.specs.declared.Verdicts.{Verdicts}
 
 -- the counts agree: an accepted event was offered, and it is released or pending (01: accepted = freed + held)
 pub record Balanced (m : Monitor) : Type 0 where
@@ -69,7 +70,7 @@ pub data Stepping (t : List ℕ) (h : Header) (m : Monitor) (byte : ℕ) : List 
   not_enforced : (r : Refusal) {j : Findings} {s : Estimator} {e : Enforcer} {output left : List ℕ} → Accepting t h m.estimator byte (verifier.verdicts j) s
       → length output ≡ 17 → Offering t h m.enforcer byte output (enforcer.refused (number_of r)) e left
       → Stepping t h m byte (refused_line byte r) (offered_once m)
-  accepted : (j : Judgement) {s : Estimator} {r : Release} {e : Enforcer} {output left : List ℕ}
+  accepted : (j : Judgement Verdicts) {s : Estimator} {r : Release} {e : Enforcer} {output left : List ℕ}
       → Accepting t h m.estimator byte (verifier.verdicts (findings m.estimator.further j)) s
       → length output ≡ 17 → Offering t h m.enforcer byte output (enforcer.released r) e left
       → Stepping t h m byte (accepted_line (m.accepted + 1) byte j.verdicts.own.weak j.verdicts.own.strong j.size (take r.count left))

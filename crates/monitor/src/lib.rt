@@ -15,6 +15,7 @@ ghost use Rattle.monitor.specs.Ending.{last_lines};
 
 use automaton::Header;
 use enforcer::Enforcer;
+use opacity::Verdicts;
 use opening::{refused, start};
 use refusal::Refusal;
 use report::Line;
@@ -24,7 +25,7 @@ use verifier::{Estimator, Judgement};
 // and events released.
 #[derive(Clone, Copy)]
 pub struct Monitor {
-    pub opening: Judgement,
+    pub opening: Judgement<Verdicts>,
     pub estimator: Estimator,
     pub enforcer: Enforcer,
     pub offered: u32,
@@ -46,32 +47,20 @@ pub struct Advance {
     pub next: usize,
 }
 
-#[derive(Clone, Copy)]
-pub enum AdvanceAnswer {
-    Refused(Refusal),
-    Taken(Advance),
-}
-
+// The monitor after some events, and how far it came.
 #[derive(Clone, Copy)]
 pub struct Advanced {
     pub monitor: Monitor,
-    pub answer: AdvanceAnswer,
+    pub answer: Result<Advance, Refusal>,
 }
 
-#[derive(Clone, Copy)]
-pub enum OpenAnswer {
-    Refused(Refusal),
-    // Where the events start.
-    Started(usize),
-}
-
-// A log's automaton and its monitor. (The table is no lent one: a refusal may come after it is filled.)
+// A log's automaton and its monitor, and where the events start. (The table is no lent one: a refusal may come after it is filled.)
 #[derive(Clone, Copy)]
 pub struct Opened {
     pub table: [u64; 2048],
     pub header: Header,
     pub monitor: Monitor,
-    pub answer: OpenAnswer,
+    pub answer: Result<usize, Refusal>,
 }
 
 impl Monitor {
@@ -122,7 +111,7 @@ impl Monitor {
         if !self.well_formed(table, header) {
             return Advanced {
                 monitor: self,
-                answer: AdvanceAnswer::Refused(Refusal::Malformed),
+                answer: Err(Refusal::Malformed),
             };
         }
         let mut now = self;
@@ -139,10 +128,7 @@ impl Monitor {
         }
         Advanced {
             monitor: now,
-            answer: AdvanceAnswer::Taken(Advance {
-                taken: i,
-                next: next,
-            }),
+            answer: Ok(Advance { taken: i, next }),
         }
     }
 

@@ -1,18 +1,17 @@
 // How a log begins: a fresh verifier and a weak enforcer for its automaton, or what a refused log hands back.
-ghost use Rattle.std.specs.Prelude.{◌≡◌};
+ghost use Rattle.std.specs.Prelude.{◌≡◌, Err};
 ghost use Rattle.automaton.specs.Run.{WellFormed};
 ghost use Rattle.monitor.specs.Opening.{nothing_told, NoMonitor, StartedOn, open_outcome as opened};
-ghost use Rattle.monitor.specs.declared.OpenAnswer.TheVariants as answer;
 
-use super::{Monitor, OpenAnswer, Opened};
+use super::{Monitor, Opened};
 use automaton::Header;
-use enforcer::{Enforcer, StartAnswer};
+use enforcer::Enforcer;
 use opacity::{Notion, Verdict, Verdicts};
 use refusal::Refusal;
-use verifier::{Answer, Estimator, Judgement, SecretVerdicts};
+use verifier::{EachSecret, Estimator, Judgement};
 
 // No leak and no state to tell.
-fn nothing_told() -> Judgement
+fn nothing_told() -> Judgement<Verdicts>
     ensures { result ≡ nothing_told }
 {
     let silent = Verdicts {
@@ -20,7 +19,7 @@ fn nothing_told() -> Judgement
         strong: Verdict::NoLeak,
     };
     Judgement {
-        verdicts: SecretVerdicts {
+        verdicts: EachSecret {
             own: silent,
             first: silent,
             second: silent,
@@ -32,7 +31,7 @@ fn nothing_told() -> Judgement
 
 // What a refused log hands back: header, estimator and enforcer are outside their limits, and the monitor takes no byte.
 pub(crate) fn refused(refusal: Refusal) -> Opened
-    ensures { (result.answer ≡ answer.Refused refusal) × NoMonitor result.header result.monitor }
+    ensures { (result.answer ≡ Err refusal) × NoMonitor result.header result.monitor }
 {
     let further = opacity::no_further();
     let estimator = Estimator {
@@ -66,7 +65,7 @@ pub(crate) fn refused(refusal: Refusal) -> Opened
             accepted: 0,
             released: 0,
         },
-        answer: OpenAnswer::Refused(refusal),
+        answer: Err(refusal),
     }
 }
 
@@ -79,11 +78,11 @@ pub(crate) fn start(table: [u64; 2048], header: Header, events: usize) -> Opened
     let begun = Enforcer::start(&table, header, Notion::Weak, alone);
     let answer = begun.answer;
     match answer {
-        StartAnswer::Refused(refusal) => refused(refusal),
-        StartAnswer::Started => {
+        Err(refusal) => refused(refusal),
+        Ok(()) => {
             let reply = Estimator::fresh(&table, header, alone);
             let verified = reply.answer;
-            let Answer::Accepted(opening) = verified else {
+            let Ok(opening) = verified else {
                 return refused(Refusal::Malformed);
             };
             let estimator = reply.estimator;
@@ -99,7 +98,7 @@ pub(crate) fn start(table: [u64; 2048], header: Header, events: usize) -> Opened
                     accepted: 0,
                     released: 0,
                 },
-                answer: OpenAnswer::Started(events),
+                answer: Ok(events),
             }
         }
     }

@@ -9,10 +9,11 @@ ghost use Rattle.monitor.specs.Advancing.{Ready};
 
 use super::{Entry, Monitor};
 use automaton::Header;
-use enforcer::{Enforcer, OfferAnswer};
+use enforcer::Enforcer;
+use opacity::Verdicts;
 use refusal::Refusal;
 use report::Line;
-use verifier::{Answer, Estimator, Judgement};
+use verifier::{Estimator, Judgement};
 
 // Where the next line goes. (There is room for every line that is written here.)
 fn place(line: Line, at: usize) -> usize
@@ -69,7 +70,7 @@ impl Monitor {
         estimator: Estimator,
         enforcer: Enforcer,
         byte: u8,
-        judgement: Judgement,
+        judgement: Judgement<Verdicts>,
         released: &[u8],
         out: &mut [u8],
         at: usize,
@@ -99,7 +100,7 @@ impl Monitor {
     fn enforce(
         self,
         estimator: Estimator,
-        judgement: Judgement,
+        judgement: Judgement<Verdicts>,
         table: &[u64],
         header: Header,
         byte: u8,
@@ -115,8 +116,8 @@ impl Monitor {
         let given = enforcer.offer(table, header, byte, &mut output);
         let answer = given.answer;
         match answer {
-            OfferAnswer::Refused(refusal) => self.log_refused(byte, refusal, out, at),
-            OfferAnswer::Released(release) => {
+            Err(refusal) => self.log_refused(byte, refusal, out, at),
+            Ok(release) => {
                 let after = given.enforcer;
                 let m = release.count as usize;
                 self.log_accepted(estimator, after, byte, judgement, &output[0..m], out, at)
@@ -140,8 +141,8 @@ impl Monitor {
         let reply = estimator.accept(table, header, byte);
         let answer = reply.answer;
         match answer {
-            Answer::Refused(refusal) => self.log_refused(byte, refusal, out, at),
-            Answer::Accepted(judgement) => {
+            Err(refusal) => self.log_refused(byte, refusal, out, at),
+            Ok(judgement) => {
                 let after = reply.estimator;
                 self.enforce(after, judgement, table, header, byte, out, at)
             }

@@ -10,7 +10,7 @@ ghost use Rattle.report.specs.Text.{decimal, led, steps, symbols, accepted_line,
 ghost use Rattle.report.specs.Text.{place_line, no_place_line};
 ghost use Rattle.report.specs.Writing.{room_for, room_at_end, Written, Wrote};
 
-use opacity::Verdict;
+use opacity::{Verdict, Verdicts};
 use refusal::Refusal;
 use verifier::Judgement;
 
@@ -102,7 +102,7 @@ fn verdict_field(out: &mut [u8], at: usize, verdict: Verdict) -> usize
 
 // A space and the weak verdict of the automaton's own secret, a space and the strong one, a space and how many states are possible: for an event's line
 // and for the line of an idle log.
-fn judgement_fields(out: &mut [u8], at: usize, judgement: Judgement) -> usize
+fn judgement_fields(out: &mut [u8], at: usize, judgement: Judgement<Verdicts>) -> usize
     requires { at + 33 ≤ length out.old }
     ensures { Wrote 33 out.old at
         ((32 ∷ steps judgement.verdicts.own.weak) ++ ((32 ∷ steps judgement.verdicts.own.strong) ++ (32 ∷ decimal judgement.size)))
@@ -156,7 +156,7 @@ fn put_accepted(
     at: usize,
     place: u32,
     symbol: u8,
-    judgement: Judgement,
+    judgement: Judgement<Verdicts>,
     released: &[u8],
 ) -> usize
     requires { at + room_for (length released.now) ≤ length out.old }
@@ -171,7 +171,7 @@ fn put_accepted(
     put(out, d, 10)
 }
 
-fn put_idle(out: &mut [u8], at: usize, opening: Judgement) -> usize
+fn put_idle(out: &mut [u8], at: usize, opening: Judgement<Verdicts>) -> usize
     requires { at + room_for 0 ≤ length out.old }
     ensures { Wrote (room_for 0) out.old at (idle_line opening.verdicts.own.weak opening.verdicts.own.strong opening.size)
         out.new result }
@@ -207,7 +207,7 @@ fn put_end(out: &mut [u8], at: usize, accepted: u32, released: u32, pending: u32
 fn put_idle_end(
     out: &mut [u8],
     at: usize,
-    opening: Judgement,
+    opening: Judgement<Verdicts>,
     accepted: u32,
     released: u32,
     pending: u32,
@@ -278,7 +278,7 @@ pub fn accepted(
     at: usize,
     place: u32,
     symbol: u8,
-    judgement: Judgement,
+    judgement: Judgement<Verdicts>,
     released: &[u8],
 ) -> Line
     ensures { Written (room_for (length released.now)) out.old at
@@ -315,7 +315,7 @@ pub fn ended(out: &mut [u8], at: usize, accepted: u32, released: u32, pending: u
 pub fn idle(
     out: &mut [u8],
     at: usize,
-    opening: Judgement,
+    opening: Judgement<Verdicts>,
     accepted: u32,
     released: u32,
     pending: u32,

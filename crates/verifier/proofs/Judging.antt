@@ -1,5 +1,6 @@
 -- From what was judged to what is answered: from the steps that an estimator remembers to each secret's own K, from four places to the secrets that are
 -- given, and from what is asked for to both verdicts or one. Assumes nothing.
+use Rattle.std.specs.Prelude.{Err, Ok, Result}
 use mathlib.Core.Path.{◌≡◌, refl, sym, ap, ◌∙◌, subst}
 use mathlib.Core.Bool.{Bool, true, false}
 use mathlib.Core.List.{List, [], ◌∷◌, ◌++◌, map}
@@ -26,8 +27,6 @@ use Rattle.opacity.specs.declared.Verdict.TheVariants.{NoLeak}
 use Rattle.opacity.specs.declared.Verdicts.{Verdicts}
 use Rattle.opacity.specs.declared.Secret.{Secret}
 use Rattle.opacity.specs.declared.Further.{Further}
-use Rattle.verifier.specs.declared.SecretVerdicts.{SecretVerdicts}
-use Rattle.verifier.specs.declared.Judgement.{Judgement}
 use Rattle.verifier.specs.declared.Estimator.{Estimator}
 use Rattle.opacity.specs.Verdicts.{Steps, none, leak, steps_of, Tells, Bounded}
 use Rattle.opacity.specs.Secrets.{secret_of, own, secrets_of, secret_at, ForEach, look_back_of, cleared_of, Allowed}
@@ -38,13 +37,13 @@ use Rattle.verifier.specs.Replies.{AcceptingBy, turned_back, accepted_by}
 use Rattle.estimates.specs.StepsBack.{Found, Delayed}
 use Rattle.estimates.specs.declared.Remembered.{Remembered}
 use Rattle.verifier.specs.Inner.{up_to, Asks, ask_for, chosen_answer, WhereAsked, Judged, JudgedAt, JudgedAll, Opened, AcceptingAsked}
-use Rattle.verifier.specs.declared.Reply.{Reply}
 use Rattle.verifier.specs.declared.Asked.{Asked}
-use Rattle.verifier.specs.declared.Answer.{Answer}
-use Rattle.verifier.specs.declared.Answer.TheVariants as answer
 use Rattle.opacity.proofs.Exactness.{sure_any, clear_any}
 use Rattle.opacity.proofs.Numbering.{get_d_map, secret_back, how_many, how_many_most, same_secrets}
 use Rattle.verifier.proofs.Growing.{grown_remembers, grown_limits}
+use Rattle.verifier.specs.declared.EachSecret.{EachSecret}
+use Rattle.verifier.specs.declared.Judgement.{Judgement}
+use Rattle.verifier.specs.declared.Reply.{Reply}
 
 -- the states right after the last event
 pub grown_entry : (p : Automaton) (K : ℕ) (trace : List ℕ) (s : Estimator) → Grown p K trace s → Is (get_or s.entries 0 0) (Enters p trace)
@@ -141,13 +140,13 @@ at_place notion vs i = ap (steps_by notion) (get_d_map told_of vs i no_leaks non
     by Weak v = refl
     by Strong v = refl
 
-pub told_place : (h : Header) (f : Further) (v : SecretVerdicts) (notion : Notion) (i : ℕ) → i < length (secrets_of h f)
+pub told_place : (h : Header) (f : Further) (v : EachSecret Verdicts) (notion : Notion) (i : ℕ) → i < length (secrets_of h f)
     → told_at notion (told_each f v) i ≡ steps_of (chosen notion (get_or (numbered v) i no_leaks))
 told_place h f v notion i g =
     ap (steps_by notion) (get_or-take (suc f.count) (map told_of (numbered v)) i none_told (omega (arith, how_many_most h f))) ∙ at_place notion (numbered v) i
 
 -- with those of the other places none, they are the same at every number
-pub told_others : (f : Further) (v : SecretVerdicts) → OthersNoLeak f v → (i : ℕ) → get_or (told_each f v) i none_told ≡ get_or (map told_of (numbered v)) i none_told
+pub told_others : (f : Further) (v : EachSecret Verdicts) → OthersNoLeak f v → (i : ℕ) → get_or (told_each f v) i none_told ≡ get_or (map told_of (numbered v)) i none_told
 told_others f v others i = go (dec_lt i (suc f.count))
   where
     go : Dec (i < suc f.count) → get_or (told_each f v) i none_told ≡ get_or (map told_of (numbered v)) i none_told
@@ -157,14 +156,14 @@ told_others f v others i = go (dec_lt i (suc f.count))
         get_or-eq_default (told_each f v) none_told long
         ∙ sym (get_d_map told_of (numbered v) i no_leaks none_told refl ∙ ap told_of (others i (omega arith)))
 
-pub as_many : (h : Header) (f : Further) (v : SecretVerdicts) → f.count ≤ 3 → length (told_each f v) ≡ length (secrets_of h f)
+pub as_many : (h : Header) (f : Further) (v : EachSecret Verdicts) → f.count ≤ 3 → length (told_each f v) ≡ length (secrets_of h f)
 as_many h f v few = length-take-le (suc f.count) (map told_of (numbered v)) (omega arith) ∙ sym (how_many h f few)
 
-others_no_leak : (t : List ℕ) (h : Header) (s : Estimator) (a : Asked) (v : SecretVerdicts) → JudgedAll t h s a v → OthersNoLeak s.further v
+others_no_leak : (t : List ℕ) (h : Header) (s : Estimator) (a : Asked) (v : EachSecret Verdicts) → JudgedAll t h s a v → OthersNoLeak s.further v
 others_no_leak t h s a v j i more = (j i).other (omega (arith, how_many_most h s.further))
 
 -- the verdicts of a grown estimator, where both notions are asked for
-pub judged_tells : (t : List ℕ) (h : Header) (trace : List ℕ) (s : Estimator) (a : Asked) (v : SecretVerdicts) → Asks Weak a → Asks Strong a
+pub judged_tells : (t : List ℕ) (h : Header) (trace : List ℕ) (s : Estimator) (a : Asked) (v : EachSecret Verdicts) → Asks Weak a → Asks Strong a
     → GrownOn t h trace s
     → JudgedAll t h s a v → (notion : Notion) → ForEach (secrets_of h s.further)
     (λ i c. Tells notion (automaton_of t h) c trace (told_at notion (told_each s.further v) i))
@@ -174,7 +173,7 @@ judged_tells t h trace s a v weak strong g j notion i given =
     (found_tells notion _ _ _ trace s _ (secret_back h s.further i given) g (((j i).given given notion).found (both a weak strong notion)))
 
 -- the opening of an estimator with no symbol, from the estimate that was worked out and what was judged
-pub opened_of : (t : List ℕ) (h : Header) (s : Estimator) (a : Asked) (j : Judgement) (from : ℕ) (silent : List ℕ) (e : Estimate) → GrownOn t h [] s
+pub opened_of : (t : List ℕ) (h : Header) (s : Estimator) (a : Asked) (j : Judgement Verdicts) (from : ℕ) (silent : List ℕ) (e : Estimate) → GrownOn t h [] s
     → Estimated (automaton_of t h) from (get_or s.entries 0 0) silent e → JudgedAll t h s a j.verdicts × (j.size ≡ e.size) → Opened t h s a j
 opened_of t h s a j from silent e g estimate judged =
     let p = automaton_of t h in
@@ -184,8 +183,8 @@ opened_of t h s a j from silent e g estimate judged =
     }
 
 -- a fresh estimator's answer: the secrets are those that were given
-pub opening_of : (t : List ℕ) (h : Header) (f : Further) (s : Estimator) (a : Asked) (j : Judgement) → WellFormed t h → Allowed f → Asks Weak a → Asks Strong a
-    → s.further ≡ cleared_of f → GrownOn t h [] s → Opened t h s a j → Opening t h f (said f (answer.Accepted j)) s × Others f (answer.Accepted j)
+pub opening_of : (t : List ℕ) (h : Header) (f : Further) (s : Estimator) (a : Asked) (j : Judgement Verdicts) → WellFormed t h → Allowed f → Asks Weak a → Asks Strong a
+    → s.further ≡ cleared_of f → GrownOn t h [] s → Opened t h s a j → Opening t h f (said f (Ok j)) s × Others f (Ok j)
 opening_of t h f s a j so allowed weak strong same g o =
     let p = automaton_of t h in
     let secrets : secrets_of h s.further ≡ secrets_of h f = ap (secrets_of h) same ∙ same_secrets h f in
@@ -206,7 +205,7 @@ opening_of t h f s a j so allowed weak strong same g o =
     )
 
 -- a fresh estimator that is refused
-pub refused_opening : (t : List ℕ) (h : Header) (f : Further) (refusal : Refusal) (r : Reply) → r.answer ≡ answer.Refused refusal
+pub refused_opening : (t : List ℕ) (h : Header) (f : Further) (refusal : Refusal) (r : Reply Verdicts) → r.answer ≡ Err refusal
     → Opening t h f (refused (number_of refusal)) r.estimator → Opening t h f (said f r.answer) r.estimator × Others f r.answer
 refused_opening t h f refusal r e x = rw e (x, tt)
 
@@ -256,8 +255,8 @@ given_by : {notion : Notion} {a : Asked} {v : Verdict} {P Q : Type 0} → (P →
 given_by f g = record { found = λ asks. f (g.found asks); silent = g.silent }
 
 -- the verdicts that were found for an estimator, as those of the symbol that led to it
-pub judged_by : (a : Asked) (t : List ℕ) (h : Header) (self : Estimator) (symbol : ℕ) (j : Judgement) (s : Estimator) → Moved t h self symbol j.size s
-    → JudgedAll t h s a j.verdicts → AcceptingAsked a t h self symbol (answer.Accepted j) s
+pub judged_by : (a : Asked) (t : List ℕ) (h : Header) (self : Estimator) (symbol : ℕ) (j : Judgement Verdicts) (s : Estimator) → Moved t h self symbol j.size s
+    → JudgedAll t h s a j.verdicts → AcceptingAsked a t h self symbol (Ok j) s
 judged_by a t h self symbol j s m all = (
   m,
   subst (λ (f : Further). OthersNoLeak f j.verdicts) m.same (others_no_leak t h s a j.verdicts all),
@@ -269,16 +268,16 @@ judged_by a t h self symbol j s m all = (
 )
 
 -- a refusal
-pub refused_asked : (a : Asked) (t : List ℕ) (h : Header) (self : Estimator) (symbol : ℕ) (refusal : Refusal) (r : Reply) → r.estimator ≡ self
-    → r.answer ≡ answer.Refused refusal
+pub refused_asked : (a : Asked) (t : List ℕ) (h : Header) (self : Estimator) (symbol : ℕ) (refusal : Refusal) (r : Reply Verdicts) → r.estimator ≡ self
+    → r.answer ≡ Err refusal
     → Accepting t h self symbol (refused (number_of refusal)) self → AcceptingAsked a t h self symbol r.answer r.estimator
 refused_asked a t h self symbol refusal r e f x = rw (e, f) x
 
 -- both notions make both verdicts
-pub asked_both : (t : List ℕ) (h : Header) (self : Estimator) (symbol : ℕ) (a : Asked) (r : Answer) (s : Estimator) → Asks Weak a → Asks Strong a
+pub asked_both : (t : List ℕ) (h : Header) (self : Estimator) (symbol : ℕ) (a : Asked) (r : Result (Judgement Verdicts) Refusal) (s : Estimator) → Asks Weak a → Asks Strong a
     → AcceptingAsked a t h self symbol r s → Accepting t h self symbol (said self.further r) s × Others self.further r
-asked_both t h self symbol a (answer.Refused n) s weak strong x = (x, tt)
-asked_both t h self symbol a (answer.Accepted j) s weak strong x = (
+asked_both t h self symbol a (Err n) s weak strong x = (x, tt)
+asked_both t h self symbol a (Ok j) s weak strong x = (
   accepted m.well_formed m.limits m.observable m.same m.limits_after (as_many h self.further j.verdicts m.limits.allowed.few)
       (λ notion i given. subst (Bounded (secret_at (secrets_of h self.further) i).k) (sym (place notion i given)) (by notion i given).bounded)
       m.size_within
@@ -316,11 +315,11 @@ asks_one : (notion : Notion) → Asks notion (ask_for notion)
 asks_one Weak = refl
 asks_one Strong = refl
 
-pub asked_one : (notion : Notion) (t : List ℕ) (h : Header) (self : Estimator) (symbol : ℕ) (a : Asked) (r : Answer) (s : Estimator) → a ≡ ask_for notion
+pub asked_one : (notion : Notion) (t : List ℕ) (h : Header) (self : Estimator) (symbol : ℕ) (a : Asked) (r : Result (Judgement Verdicts) Refusal) (s : Estimator) → a ≡ ask_for notion
     → AcceptingAsked a t h self symbol r s
     → AcceptingBy notion t h self symbol (said_by self.further (chosen_answer notion r)) s × OthersBy self.further (chosen_answer notion r)
-asked_one notion t h self symbol a (answer.Refused n) s one x = (turned_back x, tt)
-asked_one notion t h self symbol a (answer.Accepted j) s one x = (
+asked_one notion t h self symbol a (Err n) s one x = (turned_back x, tt)
+asked_one notion t h self symbol a (Ok j) s one x = (
   accepted_by x.0 (length-take-le (suc self.further.count) (map (λ v. steps_of (chosen notion v)) (numbered j.verdicts)) (omega (arith, few))
       ∙ sym (how_many h self.further few))
       (λ i given.

@@ -1,5 +1,5 @@
 -- What a fresh estimator and an offered symbol give, in the order that 01 gives below its refusal table.
-use Rattle.std.specs.Prelude.{◌≡◌, List, [], ◌∷◌, ◌++◌, map, ℕ, suc, ◌≤◌, ◌<◌, length, get_or, take}
+use Rattle.std.specs.Prelude.{◌≡◌, List, [], ◌∷◌, ◌++◌, map, ℕ, suc, ◌≤◌, ◌<◌, length, get_or, take, Err, Ok, Result}
 use Rattle.automaton.specs.Run.{automaton_of, Possible, Impossible, Observable, WellFormed}
 use Rattle.automaton.specs.Reaching.{EstimateSize, SizeWithin}
 use Rattle.refusal.specs.Refusals.{number_of}
@@ -12,17 +12,12 @@ use Rattle.opacity.specs.declared.Notion.TheVariants.{Weak, Strong}
 use Rattle.opacity.specs.declared.Secret.{Secret}
 use Rattle.opacity.specs.declared.Further.{Further}
 use Rattle.verifier.specs.declared.Estimator.{Estimator}
-use Rattle.verifier.specs.declared.Answer.{Answer}
-use Rattle.verifier.specs.declared.Answer.TheVariants as answer
-use Rattle.verifier.specs.declared.AnswerBy.{AnswerBy}
-use Rattle.verifier.specs.declared.AnswerBy.TheVariants as by
 use Rattle.opacity.specs.declared.Verdict.{Verdict}
 use Rattle.opacity.specs.declared.Verdict.TheVariants.{NoLeak}
 use Rattle.opacity.specs.declared.Verdicts as declared
-use Rattle.verifier.specs.declared.SecretVerdicts.{SecretVerdicts}
-use Rattle.verifier.specs.declared.VerdictsBy.{VerdictsBy}
+use Rattle.verifier.specs.declared.EachSecret.{EachSecret}
 use Rattle.verifier.specs.declared.Judgement.{Judgement}
-use Rattle.verifier.specs.declared.JudgementBy.{JudgementBy}
+use Rattle.refusal.specs.declared.Refusal.{Refusal}
 
 -- the steps of the two verdicts of one secret
 pub record Told : Type 0 where
@@ -48,11 +43,11 @@ abbrev pub told_at : Notion → List Told → ℕ → Steps
 told_at notion vs i = steps_by notion (get_or vs i none_told)
 
 -- the verdicts of all four places, as the secrets are numbered
-abbrev pub numbered : SecretVerdicts → List declared.Verdicts
+abbrev pub numbered : EachSecret declared.Verdicts → List declared.Verdicts
 numbered v = v.own ∷ v.first ∷ v.second ∷ v.third ∷ []
 
 -- those of the secrets that are given: two for each
-abbrev pub told_each : Further → SecretVerdicts → List Told
+abbrev pub told_each : Further → EachSecret declared.Verdicts → List Told
 told_each f v = take (suc f.count) (map told_of (numbered v))
 
 -- what an accepting answer tells: the steps of the two verdicts of each secret that is given, and how many states are possible
@@ -60,7 +55,7 @@ pub record Findings : Type 0 where
   pub each : List Told
   pub size : ℕ
 
-abbrev pub findings : Further → Judgement → Findings
+abbrev pub findings : Further → Judgement declared.Verdicts → Findings
 findings f j = record { each = told_each f j.verdicts; size = j.size }
 
 -- what an answer says: the number of a refusal, or that
@@ -68,17 +63,17 @@ pub data Said : Type 0 where
   refused : ℕ → Said
   verdicts : Findings → Said
 
-abbrev pub said : Further → Answer → Said
-said f (answer.Refused r) = refused (number_of r)
-said f (answer.Accepted j) = verdicts (findings f j)
+abbrev pub said : Further → Result (Judgement declared.Verdicts) Refusal → Said
+said f (Err r) = refused (number_of r)
+said f (Ok j) = verdicts (findings f j)
 
 -- the places of secrets that are not given hold no leak
-abbrev pub OthersNoLeak : Further → SecretVerdicts → Type 0
+abbrev pub OthersNoLeak : Further → EachSecret declared.Verdicts → Type 0
 OthersNoLeak f v = (i : ℕ) → f.count < i → get_or (numbered v) i no_leaks ≡ no_leaks
 
-abbrev pub Others : Further → Answer → Type 0
-Others f (answer.Refused r) = Unit {0}
-Others f (answer.Accepted j) = OthersNoLeak f j.verdicts
+abbrev pub Others : Further → Result (Judgement declared.Verdicts) Refusal → Type 0
+Others f (Err r) = Unit {0}
+Others f (Ok j) = OthersNoLeak f j.verdicts
 
 -- the verdicts after a trace, two for each secret by its own K, how many states are possible, and the estimator that has grown by it. Some run is
 -- compatible with the trace: else a leak would say nothing
@@ -123,29 +118,29 @@ pub data SaidBy : Type 0 where
   refused-by : ℕ → SaidBy
   verdicts_by : FindingsBy → SaidBy
 
-abbrev pub numbered_by : VerdictsBy → List Verdict
+abbrev pub numbered_by : EachSecret Verdict → List Verdict
 numbered_by v = v.own ∷ v.first ∷ v.second ∷ v.third ∷ []
 
 -- those of the secrets that are given: one for each
-abbrev pub steps_each : Further → VerdictsBy → List Steps
+abbrev pub steps_each : Further → EachSecret Verdict → List Steps
 steps_each f v = take (suc f.count) (map steps_of (numbered_by v))
 
-abbrev pub findings_by : Further → JudgementBy → FindingsBy
+abbrev pub findings_by : Further → Judgement Verdict → FindingsBy
 findings_by f j = record { each = steps_each f j.verdicts; size = j.size }
 
-abbrev pub said_by : Further → AnswerBy → SaidBy
-said_by f (by.Refused r) = refused-by (number_of r)
-said_by f (by.Accepted j) = verdicts_by (findings_by f j)
+abbrev pub said_by : Further → Result (Judgement Verdict) Refusal → SaidBy
+said_by f (Err r) = refused-by (number_of r)
+said_by f (Ok j) = verdicts_by (findings_by f j)
 
-abbrev pub OthersBy : Further → AnswerBy → Type 0
-OthersBy f (by.Refused r) = Unit {0}
-OthersBy f (by.Accepted j) = (i : ℕ) → f.count < i → get_or (numbered_by j.verdicts) i NoLeak ≡ NoLeak
+abbrev pub OthersBy : Further → Result (Judgement Verdict) Refusal → Type 0
+OthersBy f (Err r) = Unit {0}
+OthersBy f (Ok j) = (i : ℕ) → f.count < i → get_or (numbered_by j.verdicts) i NoLeak ≡ NoLeak
 
 abbrev pub chosen : Notion → declared.Verdicts → Verdict
 chosen Weak v = v.weak
 chosen Strong v = v.strong
 
-abbrev pub chosen_each : Notion → SecretVerdicts → VerdictsBy
+abbrev pub chosen_each : Notion → EachSecret declared.Verdicts → EachSecret Verdict
 chosen_each notion v =
     record { own = chosen notion v.own; first = chosen notion v.first; second = chosen notion v.second; third = chosen notion v.third }
 

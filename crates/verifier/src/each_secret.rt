@@ -8,7 +8,7 @@ ghost use Rattle.opacity.specs.Secrets.{own, secrets_of, secret_at};
 ghost use Rattle.verifier.specs.Inner.{PreparedFor, Explored, StrongGiven, StrongEach, Asks, Judged, JudgedAt, JudgedAll};
 
 use super::several::{strong_each, up_to};
-use super::{Asked, Estimator, Judgement, SecretVerdicts, VerdictsBy, remembered_of};
+use super::{Asked, EachSecret, Estimator, Judgement, remembered_of};
 use automaton::Header;
 use estimates::Estimate;
 use estimates::look_back::{
@@ -155,9 +155,9 @@ impl Estimator {
         table: &[u64],
         header: Header,
         past: &[u64],
-        found: VerdictsBy,
+        found: EachSecret<Verdict>,
         asked: Asked,
-    ) -> SecretVerdicts
+    ) -> EachSecret<Verdicts>
         requires { (self.count ≤ 15) × (self.further.count ≤ 3) × (length past.now ≡ 16)
             × (Asks notion.Weak asked → Delayed (automaton_of table.now header) self.symbols self.entries self.count past.now)
             × StrongEach table.now header self asked found }
@@ -171,7 +171,7 @@ impl Estimator {
         let first = self.judge_at(table, header, past, 1, found_first, asked);
         let second = self.judge_at(table, header, past, 2, found_second, asked);
         let third = self.judge_at(table, header, past, 3, found_third, asked);
-        SecretVerdicts {
+        EachSecret {
             own: own,
             first: first,
             second: second,
@@ -189,7 +189,7 @@ impl Estimator {
         back: &[u64],
         estimate: Estimate,
         asked: Asked,
-    ) -> SecretVerdicts
+    ) -> EachSecret<Verdicts>
         requires { PreparedFor table.now header sets.now self silent.now back.now estimate.near
             × UnobservableReach (automaton_of table.now header) (get_or self.entries 0 0) estimate.states }
         ensures { JudgedAll table.now header self asked result }
@@ -221,7 +221,7 @@ impl Estimator {
         back: &[u64],
         estimate: Estimate,
         asked: Asked,
-    ) -> SecretVerdicts
+    ) -> EachSecret<Verdicts>
         requires { PreparedFor table.now header sets.now self silent.now back.now estimate.near
             × UnobservableReach (automaton_of table.now header) (get_or self.entries 0 0) estimate.states }
         ensures { JudgedAll table.now header self asked result }
@@ -234,7 +234,7 @@ impl Estimator {
             weak: Verdict::NoLeak,
             strong: Verdict::NoLeak,
         };
-        SecretVerdicts {
+        EachSecret {
             own: own,
             first: none,
             second: none,
@@ -252,7 +252,7 @@ impl Estimator {
         back: &mut [u64],
         estimate: Estimate,
         asked: Asked,
-    ) -> Judgement
+    ) -> Judgement<Verdicts>
         requires { Explored table.now header sets.now self silent.now estimate × (back.old ≡ replicate 64 0) }
         ensures { JudgedAll table.now header self asked result.verdicts × (result.size ≡ estimate.size) }
     {

@@ -7,7 +7,7 @@
 mod several; // the strong verdicts of several secrets in one pass
 mod each_secret; // the verdicts of each secret
 
-ghost use Rattle.std.specs.Prelude.{◌≡◌, List, [], ◌∷◌, ◌++◌, ℕ, ◌≤◌, get_or};
+ghost use Rattle.std.specs.Prelude.{◌≡◌, List, [], ◌∷◌, ◌++◌, ℕ, ◌≤◌, get_or, Err};
 ghost use Rattle.stateset.specs.Set.{Is, Decided};
 ghost use Rattle.automaton.specs.Run.{Automaton, Possible, WellFormed};
 ghost use Rattle.automaton.specs.Reaching.{Enters};
@@ -15,7 +15,6 @@ ghost use Rattle.relation.specs.Relation.{Sub};
 ghost use Rattle.estimates.specs.Estimates.{Inside};
 ghost use Rattle.opacity.specs.Secrets.{Allowed};
 ghost use Rattle.verifier.specs.Estimators.{remembered_of, Limits, InLimits, Grown, GrownOn};
-ghost use Rattle.verifier.specs.declared.Answer.TheVariants as answer;
 ghost use Rattle.verifier.specs.Replies.{said, said_by, chosen, chosen_each, Others, OthersBy, Unusable, Opening, Accepting, AcceptingBy};
 ghost use Rattle.verifier.specs.Inner.{ask_for, chosen_answer, Opened, AcceptingAsked};
 
@@ -24,26 +23,21 @@ use estimates::{NextEstimate, Remembered};
 use opacity::{Further, Notion, Verdict, Verdicts};
 use refusal::Refusal;
 
-// The two verdicts of each secret: the automaton's own, number 0, and the further ones, 1 to 3. Those of a place that is not given are NoLeak.
+// What there is for each secret: the automaton's own, number 0, and the further ones, 1 to 3. It is both verdicts of each (`Verdicts`), or the
+// verdict by one notion alone (`Verdict`); those of a place that is not given are NoLeak.
 #[derive(Clone, Copy)]
-pub struct SecretVerdicts {
-    pub own: Verdicts,
-    pub first: Verdicts,
-    pub second: Verdicts,
-    pub third: Verdicts,
+pub struct EachSecret<V> {
+    pub own: V,
+    pub first: V,
+    pub second: V,
+    pub third: V,
 }
 
 // What an accepted answer holds: how many states are possible (02: how many fit), 1 to 64, and the verdicts.
 #[derive(Clone, Copy)]
-pub struct Judgement {
+pub struct Judgement<V> {
     pub size: u8,
-    pub verdicts: SecretVerdicts,
-}
-
-#[derive(Clone, Copy)]
-pub enum Answer {
-    Refused(Refusal),
-    Accepted(Judgement),
+    pub verdicts: EachSecret<V>,
 }
 
 // The last symbols (02: lamps), the newest first, and for each step back the states right after the last one that is left; and the further secrets
@@ -56,37 +50,11 @@ pub struct Estimator {
     pub further: Further,
 }
 
+// The estimator that an entry hands back, and what it answers.
 #[derive(Clone, Copy)]
-pub struct Reply {
+pub struct Reply<V> {
     pub estimator: Estimator,
-    pub answer: Answer,
-}
-
-// The verdict of each secret by one notion alone.
-#[derive(Clone, Copy)]
-pub struct VerdictsBy {
-    pub own: Verdict,
-    pub first: Verdict,
-    pub second: Verdict,
-    pub third: Verdict,
-}
-
-#[derive(Clone, Copy)]
-pub struct JudgementBy {
-    pub verdicts: VerdictsBy,
-    pub size: u8,
-}
-
-#[derive(Clone, Copy)]
-pub enum AnswerBy {
-    Refused(Refusal),
-    Accepted(JudgementBy),
-}
-
-#[derive(Clone, Copy)]
-pub struct ReplyBy {
-    pub estimator: Estimator,
-    pub answer: AnswerBy,
+    pub answer: Result<Judgement<V>, Refusal>,
 }
 
 // The notions whose verdicts are asked for.
@@ -123,10 +91,10 @@ pub fn choose(notion: Notion, verdicts: Verdicts) -> Verdict
 }
 
 // The verdict of each secret by the notion.
-pub fn choose_each(notion: Notion, verdicts: SecretVerdicts) -> VerdictsBy
+pub fn choose_each(notion: Notion, verdicts: EachSecret<Verdicts>) -> EachSecret<Verdict>
     ensures { result ≡ chosen_each notion verdicts }
 {
-    VerdictsBy {
+    EachSecret {
         own: choose(notion, verdicts.own),
         first: choose(notion, verdicts.first),
         second: choose(notion, verdicts.second),
@@ -148,19 +116,17 @@ pub fn remembered_of(estimator: Estimator) -> Remembered
 }
 
 // The answer with the verdicts by the notion alone.
-fn choose_answer(notion: Notion, answer: Answer) -> AnswerBy
+fn choose_answer(
+    notion: Notion,
+    answer: Result<Judgement<Verdicts>, Refusal>,
+) -> Result<Judgement<Verdict>, Refusal>
     ensures { result ≡ chosen_answer notion answer }
 {
-    match answer {
-        Answer::Refused(refusal) => AnswerBy::Refused(refusal),
-        Answer::Accepted(judgement) => {
-            let verdicts = choose_each(notion, judgement.verdicts);
-            AnswerBy::Accepted(JudgementBy {
-                verdicts: verdicts,
-                size: judgement.size,
-            })
-        }
-    }
+    let judgement = answer?;
+    Ok(Judgement {
+        size: judgement.size,
+        verdicts: choose_each(notion, judgement.verdicts),
+    })
 }
 
 impl Estimator {
@@ -238,18 +204,17 @@ impl Estimator {
     }
 
     // Outside its limits, with the reason.
-    fn turned_down(refusal: Refusal) -> Reply
-        ensures { Unusable result.estimator × (result.answer ≡ answer.Refused refusal) }
+    fn turned_down(refusal: Refusal) -> Reply<Verdicts>
+        ensures { Unusable result.estimator × (result.answer ≡ Err refusal) }
     {
-        let estimator = Estimator::none();
         Reply {
-            estimator: estimator,
-            answer: Answer::Refused(refusal),
+            estimator: Estimator::none(),
+            answer: Err(refusal),
         }
     }
 
     // With no symbol yet: the verdicts of the empty trace, and how many states are possible then.
-    fn opening(self, table: &[u64], header: Header, asked: Asked) -> Judgement
+    fn opening(self, table: &[u64], header: Header, asked: Asked) -> Judgement<Verdicts>
         requires { WellFormed table.now header × GrownOn table.now header [] self }
         ensures { Opened table.now header self asked result }
     {
@@ -263,7 +228,7 @@ impl Estimator {
     }
 
     // A fresh estimator with these further secrets, with the verdicts of the empty trace and how many states are possible then.
-    pub fn fresh(table: &[u64], header: Header, further: Further) -> Reply
+    pub fn fresh(table: &[u64], header: Header, further: Further) -> Reply<Verdicts>
         ensures { Opening table.now header further (said further result.answer) result.estimator × Others further result.answer }
     {
         if !automaton::well_formed(table, header) {
@@ -284,24 +249,24 @@ impl Estimator {
         };
         let judgement = estimator.opening(table, header, asked);
         Reply {
-            estimator: estimator,
-            answer: Answer::Accepted(judgement),
+            estimator,
+            answer: Ok(judgement),
         }
     }
 
     // As it was, with the reason.
-    fn refused(self, refusal: Refusal) -> Reply
-        ensures { (result.estimator ≡ self) × (result.answer ≡ answer.Refused refusal) }
+    fn refused(self, refusal: Refusal) -> Reply<Verdicts>
+        ensures { (result.estimator ≡ self) × (result.answer ≡ Err refusal) }
     {
         Reply {
             estimator: self,
-            answer: Answer::Refused(refusal),
+            answer: Err(refusal),
         }
     }
 
     // Accepts one symbol, or hands back the estimator as it was. (01: "An event on which no run is left is turned back, and the watch stays.") Only
     // the verdicts that are asked for are found.
-    fn accept_asked(self, table: &[u64], header: Header, symbol: u8, asked: Asked) -> Reply
+    fn accept_asked(self, table: &[u64], header: Header, symbol: u8, asked: Asked) -> Reply<Verdicts>
         ensures { AcceptingAsked asked table.now header self symbol result.answer result.estimator }
     {
         if !self.well_formed(table, header) {
@@ -328,12 +293,12 @@ impl Estimator {
         let judgement = after.assess(table, header, &sets, &silent, &mut back, estimate, asked);
         Reply {
             estimator: after,
-            answer: Answer::Accepted(judgement),
+            answer: Ok(judgement),
         }
     }
 
     // Accepts one symbol, with both verdicts of each secret.
-    pub fn accept(self, table: &[u64], header: Header, symbol: u8) -> Reply
+    pub fn accept(self, table: &[u64], header: Header, symbol: u8) -> Reply<Verdicts>
         ensures { Accepting table.now header self symbol (said self.further result.answer) result.estimator
             × Others self.further result.answer }
     {
@@ -345,17 +310,14 @@ impl Estimator {
     }
 
     // Accepts one symbol, with the verdict of each secret by one notion: an enforcer pays for the look backs of that notion alone.
-    pub fn accept_by(self, table: &[u64], header: Header, symbol: u8, notion: Notion) -> ReplyBy
+    pub fn accept_by(self, table: &[u64], header: Header, symbol: u8, notion: Notion) -> Reply<Verdict>
         ensures { AcceptingBy notion table.now header self symbol (said_by self.further result.answer) result.estimator
             × OthersBy self.further result.answer }
     {
         let reply = self.accept_asked(table, header, symbol, ask(notion));
-        let estimator = reply.estimator;
-        let answer = reply.answer;
-        let answer_by = choose_answer(notion, answer);
-        ReplyBy {
-            estimator: estimator,
-            answer: answer_by,
+        Reply {
+            estimator: reply.estimator,
+            answer: choose_answer(notion, reply.answer),
         }
     }
 }

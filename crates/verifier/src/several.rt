@@ -10,7 +10,7 @@ ghost use Rattle.opacity.specs.Secrets.{secret_of, secrets_of, secret_at};
 ghost use Rattle.estimates.specs.StepsBack.{Prepared, Found};
 ghost use Rattle.verifier.specs.Inner.{verdict_at, WithStep, StrongEach};
 
-use super::{Asked, Estimator, VerdictsBy};
+use super::{Asked, EachSecret, Estimator};
 use automaton::Header;
 use opacity::{Further, Notion, Verdict};
 use relation::StateSets;
@@ -31,14 +31,14 @@ fn with_step(found: Verdict, entry: u64, then: u64, l: u8) -> Verdict
 }
 
 // So for each of four.
-fn with_steps(found: VerdictsBy, entry: u64, then: StateSets, l: u8) -> VerdictsBy
+fn with_steps(found: EachSecret<Verdict>, entry: u64, then: StateSets, l: u8) -> EachSecret<Verdict>
     ensures { (i : ℕ) → i < 4 → WithStep entry (set_at then i) l (verdict_at found i) (verdict_at result i) }
 {
     let own = found.own;
     let first = found.first;
     let second = found.second;
     let third = found.third;
-    VerdictsBy {
+    EachSecret {
         own: with_step(own, entry, then.own, l),
         first: with_step(first, entry, then.first, l),
         second: with_step(second, entry, then.second, l),
@@ -47,10 +47,10 @@ fn with_steps(found: VerdictsBy, entry: u64, then: StateSets, l: u8) -> Verdicts
 }
 
 // No verdict found yet.
-fn none_found() -> VerdictsBy
+fn none_found() -> EachSecret<Verdict>
     ensures { (i : ℕ) → i < 4 → verdict_at result i ≡ verdict.NoLeak }
 {
-    VerdictsBy {
+    EachSecret {
         own: Verdict::NoLeak,
         first: Verdict::NoLeak,
         second: Verdict::NoLeak,
@@ -69,7 +69,7 @@ fn strong_verdicts(
     back: &[u64],
     states: u64,
     clear: StateSets,
-) -> VerdictsBy
+) -> EachSecret<Verdict>
     requires { Prepared table.now header sets.now estimator.entries silent.now back.now states estimator.count }
     ensures { (i secret : ℕ) → i < 4 → secret < 2 ^ 64 → set_at clear i ≡ bit_and states (complement secret)
         → Found notion.Strong (automaton_of table.now header) (secret_of secret estimator.count) estimator.count estimator.symbols
@@ -116,7 +116,7 @@ pub(crate) fn strong_each(
     back: &[u64],
     states: u64,
     asked: Asked,
-) -> VerdictsBy
+) -> EachSecret<Verdict>
     requires { Prepared table.now header sets.now estimator.entries silent.now back.now states estimator.count }
     ensures { StrongEach table.now header estimator asked result }
 {

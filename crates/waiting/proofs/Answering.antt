@@ -1,4 +1,5 @@
 -- Each symbol that can follow is answered: an outcome by the contract of `offer` exists. Assumes nothing.
+use Rattle.std.specs.Prelude.{Ok}
 use mathlib.Core.Path.{◌≡◌, refl, ap, ◌∙◌, subst, sym}
 use mathlib.Core.List.{List, [], ◌∷◌, ◌++◌}
 use mathlib.Core.Logic.{◌↔◌}
@@ -16,7 +17,6 @@ use Rattle.verifier.specs.declared.Estimator.{Estimator}
 use Rattle.verifier.specs.Replies.{TellsBy}
 use Rattle.enforcer.specs.declared.Enforcer.{Enforcer}
 use Rattle.enforcer.specs.declared.Release.{Release}
-use Rattle.enforcer.specs.declared.OfferAnswer.TheVariants.{Released}
 use Rattle.enforcer.specs.Waits.{wait_of}
 use Rattle.enforcer.specs.Enforcers.{Padded, secrets_in, GrownOn}
 use Rattle.enforcer.specs.Inner.{Ready, Enqueued}
@@ -195,6 +195,6 @@ answered notion t h well_formed trace s b output room g possible =
       r = r;
       after = x.after;
       left = x.left;
-      offering = taken_outcome t h s b output (list_of v n) w z m (Released r) x.after x.left well_formed g.limits room
+      offering = taken_outcome t h s b output (list_of v n) w z m (Ok r) x.after x.left well_formed g.limits room
           (moved t h well_formed trace e b g.estimator possible) told-each (λ k. largest_is waits n k) (x.took, refl);
     }

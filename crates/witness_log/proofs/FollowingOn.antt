@@ -1,4 +1,5 @@
 -- What was followed after one byte more, after some bytes and then others, and read after read. Assumes nothing.
+use Rattle.std.specs.Prelude.{Err, Ok, Result}
 use mathlib.Core.Path.{◌≡◌, refl, ap, sym, subst, ◌∙◌}
 use mathlib.Core.List.{List, [], ◌∷◌, ◌++◌, append_assoc, append-nil}
 use mathlib.Core.Logic.{◌⊎◌, inl, inr}
@@ -15,9 +16,6 @@ use Rattle.opacity.specs.declared.Notion.{Notion}
 use Rattle.verifier.specs.Estimators.{GrownOn}
 use Rattle.verifier.specs.Calls.{Answered}
 use Rattle.verifier.specs.declared.Estimator.{Estimator}
-use Rattle.verifier.specs.declared.AnswerBy.{AnswerBy}
-use Rattle.verifier.specs.declared.AnswerBy.TheVariants as by
-use Rattle.verifier.specs.declared.JudgementBy.{JudgementBy}
 use Rattle.verifier.specs.Replies.{refused, verdicts, Accepting, not_observable, incompatible}
 use Rattle.verifier.specs.Replies.{findings_by, said_by, refused-by, verdicts_by, AcceptingBy, turned_back, accepted_by}
 use Rattle.verifier.proofs.Growing.{grown_limits}
@@ -27,6 +25,8 @@ use Rattle.streams.specs.declared.Fetched.TheVariants as fetched
 use Rattle.witness_log.specs.Following.{After, On, Begins, Turning, brought, Fed}
 use Rattle.witness_log.specs.declared.Followed.{Followed}
 use Rattle.witness_log.specs.declared.Reading.{Reading}
+use Rattle.verifier.specs.declared.Judgement.{Judgement}
+use Rattle.opacity.specs.declared.Verdict.{Verdict}
 
 -- what a read brought can be counted
 pub few_follow : (accepted left n : ℕ) (input : List ℕ) → accepted + left ≤ 4294967295 → n ≤ left → accepted + length (take (n - 0) input) ≤ 4294967295
@@ -53,11 +53,11 @@ module _ (t : List ℕ) (h : Header) where
   refused_answer trace s b n m sound g (not_observable so li never) = inl (refl, never)
   refused_answer trace s b n m sound g (incompatible so li ob impossible) = inr (refl, ob, impossible trace g)
 
-  module _ (s : Followed) (b : ℕ) {notion : Notion} (a : AnswerBy) (m : Estimator)
+  module _ (s : Followed) (b : ℕ) {notion : Notion} (a : Result (Judgement Verdict) Refusal) (m : Estimator)
       (x : AcceptingBy notion t h s.estimator b (said_by s.estimator.further a) m) where
     -- one that is refused is passed over
-    pub step_refused : (r : Refusal) → a ≡ by.Refused r → On t h s (b ∷ []) s
-    step_refused r is = go (subst (λ (y : AnswerBy). AcceptingBy notion t h s.estimator b (said_by s.estimator.further y) m) is x)
+    pub step_refused : (r : Refusal) → a ≡ Err r → On t h s (b ∷ []) s
+    step_refused r is = go (subst (λ (y : Result (Judgement Verdict) Refusal). AcceptingBy notion t h s.estimator b (said_by s.estimator.further y) m) is x)
       where
         go : AcceptingBy notion t h s.estimator b (refused-by (number_of r)) m → On t h s (b ∷ []) s
         go (turned_back y) = record {
@@ -74,8 +74,8 @@ module _ (t : List ℕ) (h : Header) where
         }
 
     -- one that is accepted is counted
-    pub step_accepted : (j : JudgementBy) → a ≡ by.Accepted j → On t h s (b ∷ []) (record { estimator = m; accepted = s.accepted + 1 })
-    step_accepted j is = go (subst (λ (y : AnswerBy). AcceptingBy notion t h s.estimator b (said_by s.estimator.further y) m) is x)
+    pub step_accepted : (j : Judgement Verdict) → a ≡ Ok j → On t h s (b ∷ []) (record { estimator = m; accepted = s.accepted + 1 })
+    step_accepted j is = go (subst (λ (y : Result (Judgement Verdict) Refusal). AcceptingBy notion t h s.estimator b (said_by s.estimator.further y) m) is x)
       where
         go : AcceptingBy notion t h s.estimator b (verdicts_by (findings_by s.estimator.further j)) m
             → On t h s (b ∷ []) (record { estimator = m; accepted = s.accepted + 1 })

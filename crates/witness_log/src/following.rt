@@ -5,7 +5,6 @@ ghost use Rattle.witness_log.specs.Following.{On};
 use super::Followed;
 use automaton::Header;
 use opacity::Notion;
-use verifier::AnswerBy;
 
 // One byte more. (Verdicts are not asked for; one notion pays for the fewest look backs.)
 fn step(followed: Followed, table: &[u64], header: Header, byte: u8) -> Followed
@@ -17,8 +16,8 @@ fn step(followed: Followed, table: &[u64], header: Header, byte: u8) -> Followed
     let reply = estimator.accept_by(table, header, byte, Notion::Weak);
     let answer = reply.answer;
     match answer {
-        AnswerBy::Refused(_) => followed,
-        AnswerBy::Accepted(_) => {
+        Err(_) => followed,
+        Ok(_) => {
             let after = reply.estimator;
             Followed {
                 estimator: after,

@@ -13,7 +13,6 @@ ghost use Rattle.witness_log.specs.Printing.{Ready, ReadOn, Ran, Leaves};
 use automaton::Header;
 use following::follow;
 use leak_log::opening::open;
-use monitor::OpenAnswer;
 use opacity::Notion;
 use streams::reads::{fetch, gather, least};
 use streams::writes::{flush, place};
@@ -173,8 +172,8 @@ fn run(rt: &(impl Input + Eprint), input: &mut [u8], n: usize, out: &mut [u8]) -
     let search = opened.search;
     let answer = opened.answer;
     match answer {
-        OpenAnswer::Refused(refusal) => place(report::refused_log(out, 0, refusal)),
-        OpenAnswer::Started(first) => {
+        Err(refusal) => place(report::refused_log(out, 0, refusal)),
+        Ok(first) => {
             let estimator = search.estimator;
             let start = Followed {
                 estimator: estimator,

@@ -7,7 +7,6 @@ use borrow.Author.Rules.{rules}
 use lib.ListN.{length, get_or}
 use Rattle.automaton.specs.declared.Header.{Header}
 use Rattle.opacity.specs.declared.Further.{Further}
-use Rattle.verifier.specs.declared.VerdictsBy.{VerdictsBy}
 use Rattle.opacity.specs.Secrets.{secrets_of, Allowed}
 use Rattle.opacity.specs.Verdicts.{Steps, none, steps_of}
 use Rattle.verifier.specs.Replies.{numbered_by}
@@ -18,9 +17,11 @@ use Rattle.enforcer.specs.Inner.{WaitAt}
 use Rattle.enforcer.proofs.ForAll.{no_wait, largest_of_four, largest_given}
 use Rattle.enforcer.proofs.largest_wait.Statement.{statement}
 use Rattle.enforcer.proofs.largest_wait.Tie as tie
+use Rattle.verifier.specs.declared.EachSecret.{EachSecret}
+use Rattle.opacity.specs.declared.Verdict.{Verdict}
 
 -- from the waits of the four places
-module _ (h : Header) (f : Further) (v : VerdictsBy) where
+module _ (h : Header) (f : Further) (v : EachSecret Verdict) where
   abbrev steps : List Steps
   steps = map steps_of (numbered_by v)
 

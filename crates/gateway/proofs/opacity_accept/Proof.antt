@@ -36,7 +36,7 @@ enum-known-answer c = search rules
 number-requires : tie.Need-number-requires
 number-requires c κs = search rules
 
-enum-known-answer-2 : tie.Need-enum_known-answer-in-Accepted-1
+enum-known-answer-2 : tie.Need-enum_known-answer-in-Ok-1
 enum-known-answer-2 c = search rules
 
 write-estimator-requires : tie.Need-write_estimator-requires
@@ -45,30 +45,30 @@ write-estimator-requires c κs = search rules
 write-judgement-requires : tie.Need-write_judgement-requires
 write-judgement-requires c κs = search rules
 
-same_length : tie.Need-shape_of-estimator-in-Refused
+same_length : tie.Need-shape_of-estimator-in-Err
 same_length c = search rules
 
-returns-4 : tie.Need-returns-in-Refused
+returns-4 : tie.Need-returns-in-Err
 returns-4 c =
     let a = (start c.before.before.before.before.before).args in
     accept_refused a.table.now a.header.now a.estimator.now a.judgement.now c.read_header.result
     c.accept-reply.result.estimator c.accept-reply.result.answer (sized c.before.before.before.before.before) c.read_header.ensures
     a.symbol c.read_estimator-before.result c.read_estimator-before.ensures c.accept-reply.ensures
-    c.in-Refused.refusal _ c.in-Refused.is c.number.ensures
+    c.in-Err.refusal _ c.in-Err.is c.number.ensures
 
-same-length-2 : tie.Need-shape_of-estimator-in-Accepted
+same-length-2 : tie.Need-shape_of-estimator-in-Ok
 same-length-2 c = search rules
 
 same-length-3 : tie.Need-shape_of-judgement
 same-length-3 c = search rules
 
-returns-5 : tie.Need-returns-in-Accepted
+returns-5 : tie.Need-returns-in-Ok
 returns-5 c =
     let a = (start c.before.before.before.before.before.before.before.before.before.before.before.before.before).args in
     accept_accepted a.table.now a.header.now a.estimator.now a.judgement.now c.read_header.result
     c.accept-reply.result.estimator c.accept-reply.result.answer (sized c.before.before.before.before.before.before.before.before.before.before.before.before.before) c.read_header.ensures
     a.symbol c.read_estimator-before.result c.read_estimator-before.ensures c.accept-reply.ensures
-    c.in-Accepted.told _ _ c.in-Accepted.is
+    c.in-Ok.told _ _ c.in-Ok.is
     c.write_estimator.ensures c.write_judgement.ensures
 
 pub opacity_accept_spec : {M : Type 1} → statement M

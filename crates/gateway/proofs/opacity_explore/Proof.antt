@@ -36,30 +36,30 @@ enum-known-answer c = search rules
 number-requires : tie.Need-number-requires
 number-requires c κs = search rules
 
-enum-known-answer-2 : tie.Need-enum_known-answer-in-Explored-1
+enum-known-answer-2 : tie.Need-enum_known-answer-in-Ok-1
 enum-known-answer-2 c = search rules
 
 write-exploration-requires : tie.Need-write_exploration-requires
 write-exploration-requires c κs = search rules
 
-returns-4 : tie.Need-returns-in-Refused
+returns-4 : tie.Need-returns-in-Err
 returns-4 c =
     let a = (start c.before.before.before.before.before).args in
     explore_refused a.table.now a.header.now a.further.now a.budget a.exploration.now c.read_header.result
     c.read_further.result c.explore-answer.result (sized c.before.before.before.before.before) c.read_header.ensures c.read_further.ensures
     c.explore-answer.ensures
-    c.in-Refused.refusal _ c.in-Refused.is c.number.ensures
+    c.in-Err.reason _ c.in-Err.is c.number.ensures
 
 same_length : tie.Need-shape_of-exploration
 same_length c = search rules
 
-returns-5 : tie.Need-returns-in-Explored
+returns-5 : tie.Need-returns-in-Ok
 returns-5 c =
     let a = (start c.before.before.before.before.before.before.before.before).args in
     explore_explored a.table.now a.header.now a.further.now a.budget a.exploration.now c.read_header.result
     c.read_further.result c.explore-answer.result (sized c.before.before.before.before.before.before.before.before) c.read_header.ensures c.read_further.ensures
     c.explore-answer.ensures
-    c.in-Explored.found _ c.in-Explored.is c.write_exploration.ensures
+    c.in-Ok.found _ c.in-Ok.is c.write_exploration.ensures
 
 pub opacity_explore_spec : {M : Type 1} → statement M
 opacity_explore_spec =

@@ -1,7 +1,7 @@
 -- `gateway::opacity_first_leak` meets its contract.
 use native.Mathlib.Omega.{arith}
 use Rattle.gateway.specs.Interface.{FirstLeakSizes, FirstLeakCall}
-use Rattle.gateway.proofs.Entries.{leak_refused, leak_nowhere, leak_found}
+use Rattle.gateway.proofs.Entries.{leak_refused, leak_found}
 use borrow.Author.Rules.{rules}
 use Rattle.gateway.proofs.opacity_first_leak.Statement.{statement}
 use Rattle.gateway.proofs.opacity_first_leak.Tie as tie
@@ -49,47 +49,33 @@ enum-known-answer c = search rules
 number-requires : tie.Need-number-requires
 number-requires c κs = search rules
 
-enum_told : tie.Need-enum_told-1
-enum_told c = search rules
+enum-known-answer-2 : tie.Need-enum_known-answer-in-Ok-1
+enum-known-answer-2 c = search rules
+
+unwrap-or-requires : tie.Need-unwrap_or-requires
+unwrap-or-requires c κs = search rules
 
 write-number-requires : tie.Need-write_number-requires
 write-number-requires c κs = search rules
 
-enum-known-answer-2 : tie.Need-enum_known-answer-in-At-1
-enum-known-answer-2 c = search rules
-
-write-number-requires-2 : tie.Need-write_number-requires-in-At
-write-number-requires-2 c κs = search rules
-
-returns-5 : tie.Need-returns-in-Refused
+returns-5 : tie.Need-returns-in-Err
 returns-5 c =
     let a = (start c.before.before.before.before.before.before).args in
     leak_refused a.table.now a.header.now a.notion a.further.now a.events.now a.place.now c.read_header.result
     c.read_further.result c.notion_of.result c.first_leak-answer.result (sized c.before.before.before.before.before.before) c.read_header.ensures
     c.read_further.ensures c.notion_of.ensures c.first_leak-answer.ensures
-    c.in-Refused.refusal _ c.in-Refused.is c.number.ensures
+    c.in-Err.refusal _ c.in-Err.is c.number.ensures
 
-same_length : tie.Need-shape_of-place-in-Nowhere
+same_length : tie.Need-shape_of-place
 same_length c = search rules
 
-returns-6 : tie.Need-returns-in-Nowhere
+returns-6 : tie.Need-returns-in-Ok
 returns-6 c =
-    let a = (start c.before.before.before.before.before.before.before.before.before).args in
-    leak_nowhere a.table.now a.header.now a.notion a.further.now a.events.now a.place.now c.read_header.result
-    c.read_further.result c.notion_of.result c.first_leak-answer.result (sized c.before.before.before.before.before.before.before.before.before) c.read_header.ensures
-    c.read_further.ensures c.notion_of.ensures c.first_leak-answer.ensures
-    _ c.in-Nowhere.is c.write_number.ensures
-
-same-length-2 : tie.Need-shape_of-place-in-At
-same-length-2 c = search rules
-
-returns-7 : tie.Need-returns-in-At
-returns-7 c =
-    let a = (start c.before.before.before.before.before.before.before.before.before).args in
+    let a = (start c.before.before.before.before.before.before.before.before.before.before).args in
     leak_found a.table.now a.header.now a.notion a.further.now a.events.now a.place.now c.read_header.result
-    c.read_further.result c.notion_of.result c.first_leak-answer.result (sized c.before.before.before.before.before.before.before.before.before) c.read_header.ensures
+    c.read_further.result c.notion_of.result c.first_leak-answer.result (sized c.before.before.before.before.before.before.before.before.before.before) c.read_header.ensures
     c.read_further.ensures c.notion_of.ensures c.first_leak-answer.ensures
-    c.in-At.found _ (omega (arith, (start c.before.before.before.before.before.before.before.before.before).well_formed)) c.in-At.is c.write_number-in-At.ensures
+    c.in-Ok.found c.unwrap_or.result _ (omega (arith, (start c.before.before.before.before.before.before.before.before.before.before).well_formed)) c.in-Ok.is c.unwrap_or.ensures c.write_number.ensures
 
 pub opacity_first_leak_spec : {M : Type 1} → statement M
 opacity_first_leak_spec =
@@ -105,12 +91,9 @@ opacity_first_leak_spec =
     first-leak-requires
     enum-known-answer
     number-requires
-    enum_told
-    write-number-requires
     enum-known-answer-2
-    write-number-requires-2
+    unwrap-or-requires
+    write-number-requires
     returns-5
     same_length
-    returns-6
-    same-length-2
-    returns-7)
+    returns-6)

@@ -45,7 +45,7 @@ enum-known-answer c = search rules
 number-requires : tie.Need-number-requires
 number-requires c κs = search rules
 
-enum-known-answer-2 : tie.Need-enum_known-answer-in-Accepted-1
+enum-known-answer-2 : tie.Need-enum_known-answer-in-Ok-1
 enum-known-answer-2 c = search rules
 
 write-estimator-requires : tie.Need-write_estimator-requires
@@ -54,14 +54,14 @@ write-estimator-requires c κs = search rules
 write-judgement-requires : tie.Need-write_judgement-requires
 write-judgement-requires c κs = search rules
 
-returns-5 : tie.Need-returns-in-Refused
+returns-5 : tie.Need-returns-in-Err
 returns-5 c =
     let a = (start c.before.before.before.before.before).args in
     let all = sized c.before.before.before.before.before in
     fresh_refused a.table.now a.header.now a.estimator.now a.judgement.now c.read_header.result
     c.fresh-reply.result.estimator c.fresh-reply.result.answer all.verifier c.read_header.ensures
     a.further.now c.read_further.result all c.read_further.ensures c.fresh-reply.ensures
-    c.in-Refused.refusal _ c.in-Refused.is c.number.ensures
+    c.in-Err.refusal _ c.in-Err.is c.number.ensures
 
 same_length : tie.Need-shape_of-estimator
 same_length c = search rules
@@ -69,14 +69,14 @@ same_length c = search rules
 same-length-2 : tie.Need-shape_of-judgement
 same-length-2 c = search rules
 
-returns-6 : tie.Need-returns-in-Accepted
+returns-6 : tie.Need-returns-in-Ok
 returns-6 c =
     let a = (start c.before.before.before.before.before.before.before.before.before.before.before.before.before).args in
     let all = sized c.before.before.before.before.before.before.before.before.before.before.before.before.before in
     fresh_accepted a.table.now a.header.now a.estimator.now a.judgement.now c.read_header.result
     c.fresh-reply.result.estimator c.fresh-reply.result.answer all.verifier c.read_header.ensures
     a.further.now c.read_further.result all c.read_further.ensures c.fresh-reply.ensures
-    c.in-Accepted.told _ _ c.in-Accepted.is
+    c.in-Ok.told _ _ c.in-Ok.is
     c.write_estimator.ensures c.write_judgement.ensures
 
 pub opacity_fresh_spec : {M : Type 1} → statement M

@@ -49,7 +49,7 @@ enum-known-answer c = search rules
 number-requires : tie.Need-number-requires
 number-requires c κs = search rules
 
-enum-known-answer-2 : tie.Need-enum_known-answer-in-Released-1
+enum-known-answer-2 : tie.Need-enum_known-answer-in-Ok-1
 enum-known-answer-2 c = search rules
 
 write-enforcer-requires : tie.Need-write_enforcer-requires
@@ -58,36 +58,36 @@ write-enforcer-requires c κs = search rules
 write-release-requires : tie.Need-write_release-requires
 write-release-requires c κs = search rules
 
-same_length : tie.Need-shape_of-enforcer-in-Refused
+same_length : tie.Need-shape_of-enforcer-in-Err
 same_length c = search rules
 
-same-length-2 : tie.Need-shape_of-output-in-Refused
+same-length-2 : tie.Need-shape_of-output-in-Err
 same-length-2 c = search rules
 
-returns-5 : tie.Need-returns-in-Refused
+returns-5 : tie.Need-returns-in-Err
 returns-5 c =
     let a = (start c.before.before.before.before.before.before.before.before).args in
     offer_refused a.table.now a.header.now a.symbol a.enforcer.now a.output.now a.release.now _
     c.read_header.result c.read_enforcer-before.result c.offer-given.result.enforcer c.offer-given.result.answer (sized c.before.before.before.before.before.before.before.before)
     c.read_header.ensures c.read_enforcer-before.ensures c.offer-given.ensures
-    c.in-Refused.refusal _ c.in-Refused.is c.number.ensures
+    c.in-Err.refusal _ c.in-Err.is c.number.ensures
 
-same-length-3 : tie.Need-shape_of-enforcer-in-Released
+same-length-3 : tie.Need-shape_of-enforcer-in-Ok
 same-length-3 c = search rules
 
-same-length-4 : tie.Need-shape_of-output-in-Released
+same-length-4 : tie.Need-shape_of-output-in-Ok
 same-length-4 c = search rules
 
 same-length-5 : tie.Need-shape_of-release
 same-length-5 c = search rules
 
-returns-6 : tie.Need-returns-in-Released
+returns-6 : tie.Need-returns-in-Ok
 returns-6 c =
     let a = (start c.before.before.before.before.before.before.before.before.before.before.before.before.before.before.before.before).args in
     offer_released a.table.now a.header.now a.symbol a.enforcer.now a.output.now a.release.now _
     c.read_header.result c.read_enforcer-before.result c.offer-given.result.enforcer c.offer-given.result.answer (sized c.before.before.before.before.before.before.before.before.before.before.before.before.before.before.before.before)
     c.read_header.ensures c.read_enforcer-before.ensures c.offer-given.ensures
-    c.in-Released.told _ _ c.in-Released.is
+    c.in-Ok.told _ _ c.in-Ok.is
     c.write_enforcer.ensures c.write_release.ensures
 
 pub opacity_offer_spec : {M : Type 1} → statement M

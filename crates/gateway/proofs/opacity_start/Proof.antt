@@ -55,26 +55,26 @@ enum_told c = search rules
 write-enforcer-requires : tie.Need-write_enforcer-requires
 write-enforcer-requires c κs = search rules
 
-returns-5 : tie.Need-returns-in-Refused
+returns-5 : tie.Need-returns-in-Err
 returns-5 c =
     let a = (start c.before.before.before.before.before.before).args in
     start_refused a.table.now a.header.now a.notion a.further.now a.enforcer.now
     c.read_header.result c.notion_of.result c.read_further.result
     c.start-start.result.enforcer c.start-start.result.answer (sized c.before.before.before.before.before.before)
     c.read_header.ensures c.notion_of.ensures c.read_further.ensures c.start-start.ensures
-    c.in-Refused.refusal _ c.in-Refused.is c.number.ensures
+    c.in-Err.refusal _ c.in-Err.is c.number.ensures
 
 same_length : tie.Need-shape_of-enforcer
 same_length c = search rules
 
-returns-6 : tie.Need-returns-in-Started
+returns-6 : tie.Need-returns-in-Ok
 returns-6 c =
     let a = (start c.before.before.before.before.before.before.before.before.before.before).args in
     start_started a.table.now a.header.now a.notion a.further.now a.enforcer.now
     c.read_header.result c.notion_of.result c.read_further.result
     c.start-start.result.enforcer c.start-start.result.answer (sized c.before.before.before.before.before.before.before.before.before.before)
     c.read_header.ensures c.notion_of.ensures c.read_further.ensures c.start-start.ensures
-    _ c.in-Started.is c.write_enforcer.ensures
+    _ c.in-Ok.is c.write_enforcer.ensures
 
 pub opacity_start_spec : {M : Type 1} → statement M
 opacity_start_spec =

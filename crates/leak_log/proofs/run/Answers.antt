@@ -1,14 +1,15 @@
+use Rattle.std.specs.Prelude.{Result}
 use Rattle.std.proofs.Common.{List, ℕ, refl, subst, ◌-◌, ◌≤◌, length, take}
 use Rattle.automaton.specs.declared.Header.{Header}
 use Rattle.opacity.specs.declared.Notion.{Notion}
 use Rattle.leaks.specs.declared.Search.{Search}
-use Rattle.monitor.specs.declared.OpenAnswer.{OpenAnswer}
 use Rattle.monitor.specs.Opening.{open_outcome, started}
 use Rattle.leak_log.specs.Opens.{Opening}
 use Rattle.leak_log.specs.Feeding.{not_opened, searched}
 use Rattle.leak_log.proofs.Beginnings.{started_within, first_within, among_first}
 use Rattle.leak_log.proofs.ReadingOn.{begun_few}
 use Rattle.leak_log.proofs.run.Goals as goal
+use Rattle.refusal.specs.declared.Refusal.{Refusal}
 
 -- its events are behind its front
 behind : {notion : Notion} (input : List ℕ) {t : List ℕ} {h : Header} {s : Search} {first : ℕ} (n : ℕ) → n ≤ length input
@@ -18,20 +19,20 @@ behind input n here o = first_within input n here (started_within o).1
 pub read_on-requires : goal.read_on-requires
 read_on-requires g c =
     let called = c.open-opened in
-    begun_few (subst (λ (r : OpenAnswer). Opening c.args.notion (take (c.args.n - 0) c.args.input.now) (open_outcome r) called.result.table
-    called.result.header called.result.search) c.in-Started.is called.ensures) c.begin-begun.ensures
+    begun_few (subst (λ (r : Result ℕ Refusal). Opening c.args.notion (take (c.args.n - 0) c.args.input.now) (open_outcome r) called.result.table
+    called.result.header called.result.search) c.in-Ok.is called.ensures) c.begin-begun.ensures
 
-pub returns-in-Refused : goal.returns-in-Refused
-returns-in-Refused g c =
+pub returns-in-Err : goal.returns-in-Err
+returns-in-Err g c =
     let called = c.open-opened in
-    not_opened c.in-Refused.refusal
-    (subst (λ (r : OpenAnswer). Opening c.args.notion (take (c.args.n - 0) c.args.input.now) (open_outcome r) called.result.table
-    called.result.header called.result.search) c.in-Refused.is called.ensures) c.refuse.ensures refl
+    not_opened c.in-Err.refusal
+    (subst (λ (r : Result ℕ Refusal). Opening c.args.notion (take (c.args.n - 0) c.args.input.now) (open_outcome r) called.result.table
+    called.result.header called.result.search) c.in-Err.is called.ensures) c.refuse.ensures refl
 
-pub returns-in-Started : goal.returns-in-Started
-returns-in-Started g c =
+pub returns-in-Ok : goal.returns-in-Ok
+returns-in-Ok g c =
     let a = c.args in
     let called = c.open-opened in
-    let o = subst (λ (r : OpenAnswer). Opening a.notion (take (a.n - 0) a.input.now) (open_outcome r) called.result.table
-    called.result.header called.result.search) c.in-Started.is called.ensures in
-    searched o (among_first c.in-Started.first a.n a.input.now (behind a.input.now a.n c.requires o) c.requires c.begin-begun.ensures) c.read_on.ensures
+    let o = subst (λ (r : Result ℕ Refusal). Opening a.notion (take (a.n - 0) a.input.now) (open_outcome r) called.result.table
+    called.result.header called.result.search) c.in-Ok.is called.ensures in
+    searched o (among_first c.in-Ok.first a.n a.input.now (behind a.input.now a.n c.requires o) c.requires c.begin-begun.ensures) c.read_on.ensures

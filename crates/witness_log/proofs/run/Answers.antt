@@ -1,8 +1,8 @@
+use Rattle.std.specs.Prelude.{Result}
 use Rattle.std.proofs.Common.{List, ℕ, subst, ◌-◌, ◌≤◌, length, take, drop}
 use Rattle.automaton.specs.declared.Header.{Header}
 use Rattle.opacity.specs.declared.Notion.TheVariants.{Weak}
 use Rattle.leaks.specs.declared.Search.{Search}
-use Rattle.monitor.specs.declared.OpenAnswer.{OpenAnswer}
 use Rattle.monitor.specs.Opening.{open_outcome, started}
 use Rattle.leak_log.specs.Opens.{Opening}
 use Rattle.leak_log.proofs.Beginnings.{started_within, first_within}
@@ -10,6 +10,7 @@ use Rattle.witness_log.specs.declared.Begun.{Begun}
 use Rattle.witness_log.specs.Following.{Begins}
 use Rattle.witness_log.proofs.PrintedLog.{start_of, among_first, ready, ran_read, ran_refused}
 use Rattle.witness_log.proofs.run.Goals as goal
+use Rattle.refusal.specs.declared.Refusal.{Refusal}
 
 -- the log has begun: its events are behind its front
 begun : (input : List ℕ) (n first : ℕ) {t : List ℕ} {h : Header} {s : Search} {b : Begun} → n ≤ length input
@@ -21,23 +22,23 @@ pub read_on-requires : goal.read_on-requires
 read_on-requires g c =
     let a = c.args in
     let called = c.open-opened in
-    let o = subst (λ (r : OpenAnswer). Opening Weak (take (a.n - 0) a.input.now) (open_outcome r) called.result.table called.result.header
-    called.result.search) c.in-Started.is called.ensures in
-    ready (take (a.n - 0) a.input.now) _ _ _ _ _ _ o (begun a.input.now a.n c.in-Started.first c.requires.0 o c.begin-begun.ensures) c.requires.1
+    let o = subst (λ (r : Result ℕ Refusal). Opening Weak (take (a.n - 0) a.input.now) (open_outcome r) called.result.table called.result.header
+    called.result.search) c.in-Ok.is called.ensures in
+    ready (take (a.n - 0) a.input.now) _ _ _ _ _ _ o (begun a.input.now a.n c.in-Ok.first c.requires.0 o c.begin-begun.ensures) c.requires.1
 
-pub returns-in-Refused : goal.returns-in-Refused
-returns-in-Refused g c =
+pub returns-in-Err : goal.returns-in-Err
+returns-in-Err g c =
     let a = c.args in
     let called = c.open-opened in
-    ran_refused (take (a.n - 0) a.input.now) _ c.in-Refused.refusal _ _ _ c.refused_log.result _ _
-    (subst (λ (r : OpenAnswer). Opening Weak (take (a.n - 0) a.input.now) (open_outcome r) called.result.table called.result.header
-    called.result.search) c.in-Refused.is called.ensures) c.requires.1 c.refused_log.ensures c.place.ensures
+    ran_refused (take (a.n - 0) a.input.now) _ c.in-Err.refusal _ _ _ c.refused_log.result _ _
+    (subst (λ (r : Result ℕ Refusal). Opening Weak (take (a.n - 0) a.input.now) (open_outcome r) called.result.table called.result.header
+    called.result.search) c.in-Err.is called.ensures) c.requires.1 c.refused_log.ensures c.place.ensures
 
-pub returns-in-Started : goal.returns-in-Started
-returns-in-Started g c =
+pub returns-in-Ok : goal.returns-in-Ok
+returns-in-Ok g c =
     let a = c.args in
     let called = c.open-opened in
-    let o = subst (λ (r : OpenAnswer). Opening Weak (take (a.n - 0) a.input.now) (open_outcome r) called.result.table called.result.header
-    called.result.search) c.in-Started.is called.ensures in
-    ran_read (take (a.n - 0) a.input.now) _ _ _ _ _ _ _ _ o (begun a.input.now a.n c.in-Started.first c.requires.0 o c.begin-begun.ensures)
+    let o = subst (λ (r : Result ℕ Refusal). Opening Weak (take (a.n - 0) a.input.now) (open_outcome r) called.result.table called.result.header
+    called.result.search) c.in-Ok.is called.ensures in
+    ran_read (take (a.n - 0) a.input.now) _ _ _ _ _ _ _ _ o (begun a.input.now a.n c.in-Ok.first c.requires.0 o c.begin-begun.ensures)
     c.read_on.ensures

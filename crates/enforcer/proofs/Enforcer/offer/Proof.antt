@@ -1,9 +1,9 @@
 -- `Enforcer::offer` meets its contract: the tests in their order, and the verdicts by the enforcer's notion.
+use Rattle.std.specs.Prelude.{Result}
 use mathlib.Core.Path.{subst}
 use Prim.Native.Nat.{ℕ, ◌≤◌}
 use native.Mathlib.Omega.{arith}
 use lib.ListN.{get_or}
-use Rattle.verifier.specs.declared.AnswerBy.{AnswerBy}
 use Rattle.opacity.specs.Secrets.{ForEach, look_back_of}
 use Rattle.opacity.specs.Verdicts.{none}
 use Rattle.verifier.specs.Replies.{said_by, AcceptingBy, Moved, TellsBy}
@@ -22,6 +22,9 @@ use Rattle.enforcer.proofs.TakingIn.{limits_joined}
 use borrow.Author.Rules.{rules}
 use Rattle.enforcer.proofs.Enforcer.offer.Statement.{statement}
 use Rattle.enforcer.proofs.Enforcer.offer.Tie as tie
+use Rattle.verifier.specs.declared.Judgement.{Judgement}
+use Rattle.refusal.specs.declared.Refusal.{Refusal}
+use Rattle.opacity.specs.declared.Verdict.{Verdict}
 
 -- the second test decides whether the pending symbols are within their limits, by the largest K
 pending_test : (u : tie.After-pending_within) → Decided u.pending_within.result
@@ -35,22 +38,22 @@ pending : (x : tie.Else-not-pending_within) → PendingWithin (look_back_of x.ar
 pending x = holds x.pending_within.result x.if-not-pending_within.false (pending_test x.before)
 
 -- and where the verifier has accepted the symbol, it has tested the rest
-all : (x : tie.In-Accepted) → Moved x.args.table.now x.args.header x.args.self.estimator x.args.byte
-    x.in-Accepted.judgement.size
+all : (x : tie.In-Ok) → Moved x.args.table.now x.args.header x.args.self.estimator x.args.byte
+    x.in-Ok.judgement.size
     x.accept_by-reply.result.estimator
     × ForEach (secrets_in x.args.header x.args.self)
     (λ i c. TellsBy x.args.self.notion x.args.table.now x.args.header
     x.args.self.estimator x.args.byte c
-    (get_or (steps_each x.args.self.estimator.further x.in-Accepted.judgement.verdicts) i none))
+    (get_or (steps_each x.args.self.estimator.further x.in-Ok.judgement.verdicts) i none))
 all x =
     let a = x.args in
     accepted-of
-    (subst (λ (y : AnswerBy). AcceptingBy a.self.notion a.table.now a.header a.self.estimator a.byte (said_by a.self.estimator.further y)
+    (subst (λ (y : Result (Judgement Verdict) Refusal). AcceptingBy a.self.notion a.table.now a.header a.self.estimator a.byte (said_by a.self.estimator.further y)
     x.accept_by-reply.result.estimator)
-    x.in-Accepted.is x.accept_by-reply.ensures.0)
+    x.in-Ok.is x.accept_by-reply.ensures.0)
 
 -- so the largest K is at most 15
-small : (x : tie.In-Accepted) → look_back_of x.args.header x.args.self.estimator.further ≤ 15
+small : (x : tie.In-Ok) → look_back_of x.args.header x.args.self.estimator.further ≤ 15
 small x = let m = (all x).0 in look_back_small x.args.header x.args.self.estimator.further m.well_formed.back m.limits.allowed
 
 well-formed-requires : tie.Need-well_formed-requires
@@ -96,7 +99,7 @@ accept-by-requires c κs = search rules
 enum-known-answer : tie.Need-enum_known-answer
 enum-known-answer c = search rules
 
-enum-known-answer-2 : tie.Need-enum_known-answer-in-Accepted-1
+enum-known-answer-2 : tie.Need-enum_known-answer-in-Ok-1
 enum-known-answer-2 c = search rules
 
 largest-wait-requires : tie.Need-largest_wait-w-requires
@@ -107,29 +110,29 @@ take-in-requires c κs =
     let k = c.look_back-k.ensures in
     (omega (arith, k, small c.before.before.before.before), omega (arith, k, (pending c.before.before.before.before.before.before).few), c.if-output-lt17.false)
 
-refused-requires-4 : tie.Need-refused-requires-in-Refused
+refused-requires-4 : tie.Need-refused-requires-in-Err
 refused-requires-4 c κs = search rules
 
-returns-4 : tie.Need-returns-in-Refused
+returns-4 : tie.Need-returns-in-Err
 returns-4 c =
-    let r = c.refused-in-Refused.ensures in
+    let r = c.refused-in-Err.ensures in
     let a = c.args in
-    refused_given _ _ _ _ _ c.in-Refused.refusal _ r.0 r.1
-    (refused_outcome a.table.now a.header a.self a.byte a.output.now (number_of c.in-Refused.refusal) c.accept_by-reply.result.estimator
+    refused_given _ _ _ _ _ c.in-Err.refusal _ r.0 r.1
+    (refused_outcome a.table.now a.header a.self a.byte a.output.now (number_of c.in-Err.refusal) c.accept_by-reply.result.estimator
     (pending c.before.before.before) c.if-output-lt17.false
     (refused_of
-    (subst (λ (x : AnswerBy). AcceptingBy a.self.notion a.table.now a.header a.self.estimator a.byte (said_by a.self.estimator.further x)
+    (subst (λ (x : Result (Judgement Verdict) Refusal). AcceptingBy a.self.notion a.table.now a.header a.self.estimator a.byte (said_by a.self.estimator.further x)
     c.accept_by-reply.result.estimator)
-    c.in-Refused.is c.accept_by-reply.ensures.0)))
+    c.in-Err.is c.accept_by-reply.ensures.0)))
 
 same_length : tie.Need-shape_of-output
 same_length c = search rules
 
-returns-5 : tie.Need-returns-in-Accepted
+returns-5 : tie.Need-returns-in-Ok
 returns-5 c =
     let a = c.args in
     let taken = c.take_in in
-    let j = c.in-Accepted.judgement in
+    let j = c.in-Ok.judgement in
     let moved = (all c.before.before.before.before.before.before.before).0 in
     taken_outcome a.table.now a.header a.self a.byte a.output.now (steps_each a.self.estimator.further j.verdicts)
     c.largest_wait-w.result j.size

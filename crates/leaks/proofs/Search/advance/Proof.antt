@@ -47,14 +47,14 @@ loop-again c =
     let l = c.loop-i in
     along_next _ _ _ _ l.now l.i c.step-now.result l.invariant c.loop-i-test.true c.step-now.ensures
 
-answer-requires : tie.Need-answer-answer-requires invariant-loop decreases-loop
+answer-requires : tie.Need-answer-requires invariant-loop decreases-loop
 answer-requires c κs = search rules
 
 returns-2 : tie.Need-returns invariant-loop decreases-loop
 returns-2 c =
     let a = c.args in
     let l = c.loop-i in
-    rw c.answer-answer.ensures
+    rw c.answer.ensures
     (⊎_elim
     (λ w. along_end a.table.now a.header a.self a.bytes.now l.now l.i l.invariant (inl (omega arith)))
     (λ w. along_end a.table.now a.header a.self a.bytes.now l.now l.i l.invariant (inr w.if-now.true))

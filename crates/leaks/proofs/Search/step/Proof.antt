@@ -1,12 +1,15 @@
 -- `leaks::Search::step` meets its contract: by what the estimator answers.
+use Rattle.std.specs.Prelude.{Result}
 use mathlib.Core.Path.{subst}
 use native.Mathlib.Omega.{arith}
 use borrow.Author.Rules.{rules}
-use Rattle.verifier.specs.declared.AnswerBy.{AnswerBy}
 use Rattle.verifier.specs.Replies.{said_by, OthersBy, AcceptingBy}
 use Rattle.leaks.proofs.Searching.{step_refused, step_accepted}
 use Rattle.leaks.proofs.Search.step.Statement.{statement}
 use Rattle.leaks.proofs.Search.step.Tie as tie
+use Rattle.verifier.specs.declared.Judgement.{Judgement}
+use Rattle.refusal.specs.declared.Refusal.{Refusal}
+use Rattle.opacity.specs.declared.Verdict.{Verdict}
 
 add-next : tie.Need-overflow_add-next
 add-next c = omega (arith, c.requires.0.countable c.requires.1)
@@ -23,22 +26,22 @@ enum-known-answer c = search rules
 any-leak-requires : tie.Need-any_leak-requires
 any-leak-requires c κs = search rules
 
-returns : tie.Need-returns-in-Refused
+returns : tie.Need-returns-in-Err
 returns c =
     let called = c.accept_by-reply in
     let a = c.args in
-    step_refused a.table.now a.header a.self a.byte c.requires.0 c.requires.1 _ _ called.result.estimator c.in-Refused.is
+    step_refused a.table.now a.header a.self a.byte c.requires.0 c.requires.1 _ _ called.result.estimator c.in-Err.is
     called.ensures.0
 
-returns-2 : tie.Need-returns-in-Accepted
+returns-2 : tie.Need-returns-in-Ok
 returns-2 c =
     let called = c.accept_by-reply in
     let a = c.args in
-    step_accepted a.table.now a.header a.self a.byte c.requires.0 c.requires.1 c.in-Accepted.judgement called.result.estimator
+    step_accepted a.table.now a.header a.self a.byte c.requires.0 c.requires.1 c.in-Ok.judgement called.result.estimator
     c.any_leak.result
-    (subst (λ (x : AnswerBy). AcceptingBy a.self.notion a.table.now a.header a.self.estimator a.byte
-    (said_by a.self.estimator.further x) called.result.estimator) c.in-Accepted.is called.ensures.0)
-    (subst (OthersBy a.self.estimator.further) c.in-Accepted.is called.ensures.1)
+    (subst (λ (x : Result (Judgement Verdict) Refusal). AcceptingBy a.self.notion a.table.now a.header a.self.estimator a.byte
+    (said_by a.self.estimator.further x) called.result.estimator) c.in-Ok.is called.ensures.0)
+    (subst (OthersBy a.self.estimator.further) c.in-Ok.is called.ensures.1)
     c.any_leak.ensures
 
 pub step_spec : {M : Type 1} → statement M

@@ -1,3 +1,4 @@
+use Rattle.std.specs.Prelude.{Result}
 use Prim.Native.Nat.{ℕ, ◌≤◌}
 use mathlib.Core.Path.{◌≡◌, refl, sym, subst}
 use mathlib.Core.List.{List}
@@ -6,41 +7,41 @@ use Rattle.monitor.specs.Stepping.{Countable, accepted_once}
 use lib.ListN.{length, replicate}
 use Rattle.enforcer.specs.Offerings as enforcer
 use Rattle.enforcer.specs.Offerings.{Offering}
-use Rattle.enforcer.specs.declared.OfferAnswer.{OfferAnswer}
 use Rattle.enforcer.specs.declared.Release.{Release}
 use Rattle.monitor.proofs.Outcomes.{countable, part_size, part_is, by_enforcer, by_both}
 use borrow.Author.Rules.{rules}
 use Rattle.monitor.proofs.Monitor.enforce.Statement.{statement}
 use Rattle.monitor.proofs.Monitor.enforce.Tie as tie
+use Rattle.refusal.specs.declared.Refusal.{Refusal}
 
 -- what the enforcer answered to a byte that it accepted
-abbrev left : tie.In-Released → List ℕ
+abbrev left : tie.In-Ok → List ℕ
 left x = x.offer-given.new.output
 
-abbrev given : tie.In-Released → Release
-given x = x.in-Released.release
+abbrev given : tie.In-Ok → Release
+given x = x.in-Ok.release
 
-abbrev count : tie.In-Released → ℕ
+abbrev count : tie.In-Ok → ℕ
 count x = (given x).count
 
-offered : (x : tie.In-Released)
+offered : (x : tie.In-Ok)
     → Offering x.args.table.now x.args.header x.args.self.enforcer x.args.byte (replicate 17 0)
     (enforcer.released (given x)) x.offer-given.result.enforcer (left x)
 offered x =
     let a = x.args in
     let called = x.offer-given in
-    subst (λ (r : OfferAnswer). Offering a.table.now a.header a.self.enforcer a.byte (replicate 17 0) (enforcer.offer_outcome r)
+    subst (λ (r : Result Release Refusal). Offering a.table.now a.header a.self.enforcer a.byte (replicate 17 0) (enforcer.offer_outcome r)
     called.result.enforcer (left x))
-    x.in-Released.is called.ensures
+    x.in-Ok.is called.ensures
 
-counts : (x : tie.In-Released) → Countable x.args.self (count x)
+counts : (x : tie.In-Ok) → Countable x.args.self (count x)
 counts x =
     let a = x.args in
     let p = x.requires in
     countable a.table.now a.header a.self a.byte (given x) x.offer-given.result.enforcer (replicate 17 0) (left x)
     a.out.now a.at p.0 p.1 (offered x)
 
-within : (x : tie.In-Released) → count x ≤ length (left x)
+within : (x : tie.In-Ok) → count x ≤ length (left x)
 within x = omega (arith, (counts x).few)
 
 slice-aggregate-offer : tie.Need-slice_bounds-offer-end
@@ -55,7 +56,7 @@ enum-known-answer c = search rules
 log-refused-requires : tie.Need-log_refused-requires
 log-refused-requires c κs = search rules
 
-enum-known-answer-2 : tie.Need-enum_known-answer-in-Released-1
+enum-known-answer-2 : tie.Need-enum_known-answer-in-Ok-1
 enum-known-answer-2 c = search rules
 
 cast-m : tie.Need-overflow_cast-m
@@ -77,27 +78,27 @@ log-accepted-requires c κs = (
       (counts c.before.before.before.before),
 )
 
-same_length : tie.Need-shape_of-out-in-Refused
+same_length : tie.Need-shape_of-out-in-Err
 same_length c = search rules
 
-returns : tie.Need-returns-in-Refused
+returns : tie.Need-returns-in-Err
 returns c =
     let a = c.args in
     let p = c.requires in
     let called = c.offer-given in
     let done = c.log_refused in
-    let r = c.in-Refused.refusal in
+    let r = c.in-Err.refusal in
     by_enforcer a.table.now a.header a.self a.byte r _ a.estimator called.result.enforcer (replicate 17 0) called.new.output
     done.result.monitor
     p.0 p.2 refl
-    (subst (λ (x : OfferAnswer). Offering a.table.now a.header a.self.enforcer a.byte (replicate 17 0) (enforcer.offer_outcome x)
-    called.result.enforcer called.new.output) c.in-Refused.is called.ensures)
+    (subst (λ (x : Result Release Refusal). Offering a.table.now a.header a.self.enforcer a.byte (replicate 17 0) (enforcer.offer_outcome x)
+    called.result.enforcer called.new.output) c.in-Err.is called.ensures)
     done.ensures.0 done.ensures.1
 
-same-length-2 : tie.Need-shape_of-out-in-Released
+same-length-2 : tie.Need-shape_of-out-in-Ok
 same-length-2 c = search rules
 
-returns-2 : tie.Need-returns-in-Released
+returns-2 : tie.Need-returns-in-Ok
 returns-2 c =
     let a = c.args in
     let p = c.requires in

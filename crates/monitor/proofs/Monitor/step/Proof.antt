@@ -1,11 +1,14 @@
+use Rattle.std.specs.Prelude.{Result}
 use mathlib.Core.Path.{subst}
 use Rattle.verifier.specs.Replies as verifier
 use Rattle.verifier.specs.Replies.{Accepting}
-use Rattle.verifier.specs.declared.Answer.{Answer}
 use Rattle.monitor.proofs.Outcomes.{by_verifier}
 use borrow.Author.Rules.{rules}
 use Rattle.monitor.proofs.Monitor.step.Statement.{statement}
 use Rattle.monitor.proofs.Monitor.step.Tie as tie
+use Rattle.verifier.specs.declared.Judgement.{Judgement}
+use Rattle.refusal.specs.declared.Refusal.{Refusal}
+use Rattle.opacity.specs.declared.Verdicts.{Verdicts}
 
 accept-requires : tie.Need-accept-reply-requires
 accept-requires c κs = search rules
@@ -16,7 +19,7 @@ enum-known-answer c = search rules
 log-refused-requires : tie.Need-log_refused-requires
 log-refused-requires c κs = search rules
 
-enum-known-answer-2 : tie.Need-enum_known-answer-in-Accepted-1
+enum-known-answer-2 : tie.Need-enum_known-answer-in-Ok-1
 enum-known-answer-2 c = search rules
 
 enforce-requires : tie.Need-enforce-requires
@@ -25,28 +28,28 @@ enforce-requires c κs =
     let called = c.accept-reply in (
       c.requires.0,
       c.requires.1,
-      subst (λ (x : Answer). Accepting a.table.now a.header a.self.estimator a.byte (verifier.said a.self.estimator.further x)
-          called.result.estimator) c.in-Accepted.is called.ensures.0,
+      subst (λ (x : Result (Judgement Verdicts) Refusal). Accepting a.table.now a.header a.self.estimator a.byte (verifier.said a.self.estimator.further x)
+          called.result.estimator) c.in-Ok.is called.ensures.0,
     )
 
-same_length : tie.Need-shape_of-out-in-Refused
+same_length : tie.Need-shape_of-out-in-Err
 same_length c = search rules
 
-returns : tie.Need-returns-in-Refused
+returns : tie.Need-returns-in-Err
 returns c =
     let a = c.args in
     let called = c.accept-reply in
     let done = c.log_refused in
-    by_verifier a.table.now a.header a.self a.byte c.in-Refused.refusal called.result.estimator
+    by_verifier a.table.now a.header a.self a.byte c.in-Err.refusal called.result.estimator
     done.result.monitor c.requires.0
-    (subst (λ (x : Answer). Accepting a.table.now a.header a.self.estimator a.byte (verifier.said a.self.estimator.further x)
-    called.result.estimator) c.in-Refused.is called.ensures.0)
+    (subst (λ (x : Result (Judgement Verdicts) Refusal). Accepting a.table.now a.header a.self.estimator a.byte (verifier.said a.self.estimator.further x)
+    called.result.estimator) c.in-Err.is called.ensures.0)
     done.ensures.0 done.ensures.1
 
-same-length-2 : tie.Need-shape_of-out-in-Accepted
+same-length-2 : tie.Need-shape_of-out-in-Ok
 same-length-2 c = search rules
 
-returns-2 : tie.Need-returns-in-Accepted
+returns-2 : tie.Need-returns-in-Ok
 returns-2 c = search rules
 
 pub step_spec : {M : Type 1} → statement M

@@ -1,17 +1,19 @@
 -- `monitor::opening::start` meets its contract: a start and a fresh verifier with no further secret.
+use Rattle.std.specs.Prelude.{Result}
 use mathlib.Core.Path.{subst}
 use Rattle.refusal.specs.Refusals.{number_of}
 use Rattle.opacity.specs.declared.Notion.TheVariants.{Weak}
 use Rattle.opacity.specs.declared.Further.{Further}
-use Rattle.verifier.specs.declared.Answer.{Answer}
 use Rattle.opacity.specs.Secrets.{no_further}
 use Rattle.verifier.specs.Replies as verifier
-use Rattle.enforcer.specs.declared.StartAnswer.{StartAnswer}
 use Rattle.enforcer.specs.Offerings.{start_outcome, Starting}
 use Rattle.monitor.proofs.Openings.{not_begun, is_begun, verified}
 use borrow.Author.Rules.{rules}
 use Rattle.monitor.proofs.opening.start.Statement.{statement}
 use Rattle.monitor.proofs.opening.start.Tie as tie
+use Rattle.verifier.specs.declared.Judgement.{Judgement}
+use Rattle.refusal.specs.declared.Refusal.{Refusal}
+use Rattle.opacity.specs.declared.Verdicts.{Verdicts}
 
 no-further-requires : tie.Need-no_further-alone-requires
 no-further-requires c κs = search rules
@@ -67,24 +69,24 @@ refused-requires-2 c κs = search rules
 -- a fresh verifier refuses no automaton
 returns : tie.Need-returns-in_default
 returns c =
-    absurd (verified c.requires (subst (λ (x : Answer). verifier.Opening c.args.table c.args.header no_further (verifier.said no_further x)
+    absurd (verified c.requires (subst (λ (x : Result (Judgement Verdicts) Refusal). verifier.Opening c.args.table c.args.header no_further (verifier.said no_further x)
     c.fresh-reply.result.estimator)
     c.in_default.is (fresh c.before.before)))
 
-returns-2 : tie.Need-returns-in-Refused
+returns-2 : tie.Need-returns-in-Err
 returns-2 c =
-    rw c.refused.ensures.0 (not_begun c.args.table c.args.header c.args.events (number_of c.in-Refused.refusal) c.start-begun.result.enforcer _ _ _ c.requires
-    (subst (λ (x : StartAnswer). Starting c.args.table c.args.header no_further Weak (start_outcome x) c.start-begun.result.enforcer) c.in-Refused.is (started c.before.before))
+    rw c.refused.ensures.0 (not_begun c.args.table c.args.header c.args.events (number_of c.in-Err.refusal) c.start-begun.result.enforcer _ _ _ c.requires
+    (subst (λ (x : Result Unit Refusal). Starting c.args.table c.args.header no_further Weak (start_outcome x) c.start-begun.result.enforcer) c.in-Err.is (started c.before.before))
     c.refused.ensures.1)
 
-returns-3 : tie.Need-returns-in-Accepted
+returns-3 : tie.Need-returns-in-Ok-verified
 returns-3 c =
-    is_begun c.args.table c.args.header c.args.events c.start-begun.result.enforcer c.in-Accepted.opening c.fresh-reply.result.estimator
-    (subst (λ (x : StartAnswer). Starting c.args.table c.args.header no_further Weak (start_outcome x) c.start-begun.result.enforcer)
-    c.in-Started.is (started c.before.before.before.before.before.before))
-    (subst (λ (x : Answer). verifier.Opening c.args.table c.args.header no_further (verifier.said no_further x) c.fresh-reply.result.estimator) c.in-Accepted.is
+    is_begun c.args.table c.args.header c.args.events c.start-begun.result.enforcer c.in-Ok-verified.opening c.fresh-reply.result.estimator
+    (subst (λ (x : Result Unit Refusal). Starting c.args.table c.args.header no_further Weak (start_outcome x) c.start-begun.result.enforcer)
+    c.in-Ok.is (started c.before.before.before.before.before.before))
+    (subst (λ (x : Result (Judgement Verdicts) Refusal). verifier.Opening c.args.table c.args.header no_further (verifier.said no_further x) c.fresh-reply.result.estimator) c.in-Ok-verified.is
     (fresh c.before.before.before))
-    (subst (verifier.Others no_further) c.in-Accepted.is (no_others c.before.before.before))
+    (subst (verifier.Others no_further) c.in-Ok-verified.is (no_others c.before.before.before))
 
 pub start_spec : {M : Type 1} → statement M
 start_spec =

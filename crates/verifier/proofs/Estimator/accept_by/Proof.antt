@@ -10,12 +10,12 @@ ask-requires c κs = search rules
 accept-asked-requires : tie.Need-accept_asked-reply-requires
 accept-asked-requires c κs = search rules
 
-choose-answer-requires : tie.Need-choose_answer-answer_by-requires
+choose-answer-requires : tie.Need-choose_answer-requires
 choose-answer-requires c κs = search rules
 
 returns : tie.Need-returns
 returns c =
-    rw c.choose_answer-answer_by.ensures (asked_one _ _ _ _ _ _ c.accept_asked-reply.result.answer c.accept_asked-reply.result.estimator
+    rw c.choose_answer.ensures (asked_one _ _ _ _ _ _ c.accept_asked-reply.result.answer c.accept_asked-reply.result.estimator
     c.ask.ensures c.accept_asked-reply.ensures)
 
 pub accept_by_spec : {M : Type 1} → statement M

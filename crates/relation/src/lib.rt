@@ -22,14 +22,11 @@ pub fn put_rows(rows: &mut [u64], first: usize, eight: [u64; 8]) -> u64
     requires { (length rows.old ≡ 64) × (first ≤ 56) }
     ensures { Put rows.old first eight rows.new result }
 {
-    let n = rows.len() / 8;
     let mut to: u64 = 0;
-    let mut i: usize = 0;
-    while i < n {
+    for i in 0..rows.len() / 8 {
         let row = eight[i];
         rows[first + i] |= row;
         to |= row;
-        i += 1;
     }
     to
 }
@@ -130,10 +127,8 @@ pub fn preimage(rows: &[u64], pairs: usize, set: u64) -> u64
     ensures { Is result (λ q. (q < 2 * pairs) × Preimage (Row rows.now) set q) }
 {
     let mut r: u64 = 0;
-    let mut left = pairs;
-    while 0 < left {
-        left -= 1;
-        r = r << 2 | pair(rows, 2 * left, set);
+    for p in (0..pairs).rev() {
+        r = r << 2 | pair(rows, 2 * p, set);
     }
     r
 }

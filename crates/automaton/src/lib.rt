@@ -33,27 +33,13 @@ pub struct Reach {
 pub fn in_range(bytes: &[u8], count: u8) -> bool
     ensures { Decided result ((i : ℕ) → i < count → get_or bytes.now i 0 ≤ 31) }
 {
-    let n = count as usize;
-    let mut i: usize = 0;
-    while i < n {
-        if bytes.len() <= i {
-            return true;
-        }
-        if 31 < bytes[i] {
-            return false;
-        }
-        i += 1;
-    }
-    true
+    bytes.iter().take(count as usize).all(|b| *b <= 31)
 }
 
 pub fn larger(a: u8, b: u8) -> u8
     ensures { result ≡ max a b }
 {
-    if a < b {
-        return b;
-    }
-    a
+    a.max(b)
 }
 
 // A number that none of the 32 symbols is above, those of unobservable events among them.
@@ -61,8 +47,8 @@ fn upper_bound(symbols: [u8; 32]) -> u8
     ensures { (e : ℕ) → e < 32 → get_or symbols e 0 ≤ result }
 {
     let mut most: u8 = 0;
-    for e in 0..32 {
-        most = larger(most, symbols[e]);
+    for s in symbols {
+        most = most.max(s);
     }
     most
 }

@@ -33,7 +33,8 @@ pub struct Reach {
 pub fn in_range(bytes: &[u8], count: u8) -> bool
     ensures { Decided result ((i : ℕ) → i < count → get_or bytes.now i 0 ≤ 31) }
 {
-    bytes.iter().take(count as usize).all(|b| *b <= 31)
+    let n = bytes.len().min(count as usize);
+    bytes[..n].iter().all(|b| *b <= 31)
 }
 
 pub fn larger(a: u8, b: u8) -> u8

@@ -7,7 +7,7 @@ ghost use Rattle.automaton.specs.Run.{Automaton, automaton_of, SmallSymbols, Wel
 ghost use Rattle.automaton.specs.Reaching.{Enters, Arrives, Leaves, Showing, BySymbol, Listed, Known, Gained, Closed, Entered};
 ghost use Rattle.relation.specs.Relation.{Image, Preimage, Sub, set_at};
 
-use relation::StateSets;
+use relation::{Sets, StateSets};
 
 // What an encoding says beside its transitions (01: head): the initial state, the look-back K, the secret states, the observable events, and
 // the observation symbol of each event (02: lamp), which counts only where the event is observable. (The symbols stand first: a header is copied
@@ -33,27 +33,14 @@ pub struct Reach {
 pub fn in_range(bytes: &[u8], count: u8) -> bool
     ensures { Decided result ((i : ℕ) → i < count → get_or bytes.now i 0 ≤ 31) }
 {
-    let n = count as usize;
-    let mut i: usize = 0;
-    while i < n {
-        if bytes.len() <= i {
-            return true;
-        }
-        if 31 < bytes[i] {
-            return false;
-        }
-        i += 1;
-    }
-    true
+    let n = bytes.len().min(count as usize);
+    bytes[..n].iter().all(|b| *b <= 31)
 }
 
 pub fn larger(a: u8, b: u8) -> u8
     ensures { result ≡ max a b }
 {
-    if a < b {
-        return b;
-    }
-    a
+    a.max(b)
 }
 
 // A number that none of the 32 symbols is above, those of unobservable events among them.
@@ -61,8 +48,8 @@ fn upper_bound(symbols: [u8; 32]) -> u8
     ensures { (e : ℕ) → e < 32 → get_or symbols e 0 ≤ result }
 {
     let mut most: u8 = 0;
-    for e in 0..32 {
-        most = larger(most, symbols[e]);
+    for s in symbols {
+        most = most.max(s);
     }
     most
 }
@@ -198,32 +185,17 @@ fn image_by(table: &[u64], events: u64, set: u64) -> u64
     r
 }
 
-// The states of the first `pairs` pairs from which the events of a mask lead into a set.
-pub fn preimage_by(table: &[u64], events: u64, pairs: usize, set: u64) -> u64
-    requires { (length table.now ≡ 2048) × ((e : ℕ) → In e events → e < 32) × (pairs ≤ 32) }
-    ensures { Is result (λ q. (q < 2 * pairs) × Preimage (Listed table.now events) set q) }
+// The states that the first `steps` steps look at, from which the events of a mask lead into each set.
+pub fn preimage_by<S: Sets>(table: &[u64], events: u64, steps: usize, set: S) -> S
+    requires { (length table.now ≡ 2048) × ((e : ℕ) → In e events → e < 32) × (S.far steps ≤ 64) }
+    ensures { S.Each (λ i. Is (S.at result i) (λ q. (q < S.far steps) × Preimage (Listed table.now events) (S.at set i) q)) }
 {
     let mut todo = events;
-    let mut r: u64 = 0;
+    let mut r = S::none();
     while todo != 0 {
         let e = u64::trailing_zeros(todo) as usize;
-        r |= relation::preimage(event_rows(table, e), pairs, set);
-        todo &= todo - 1;
-    }
-    r
-}
-
-// The states below `few` from which the events of a mask lead into each of four sets.
-fn preimages_by(table: &[u64], events: u64, few: usize, into: StateSets) -> StateSets
-    requires { (length table.now ≡ 2048) × ((e : ℕ) → In e events → e < 32) × (few ≤ 64) }
-    ensures { (i : ℕ) → i < 4 → Is (set_at result i) (λ q. (q < few) × Preimage (Listed table.now events) (set_at into i) q) }
-{
-    let mut todo = events;
-    let mut r = relation::no_sets();
-    while todo != 0 {
-        let e = u64::trailing_zeros(todo) as usize;
-        let some = relation::preimages(event_rows(table, e), few, into);
-        r = relation::join(r, some);
+        let some = set.preimage(event_rows(table, e), steps);
+        r = r.join(some);
         todo &= todo - 1;
     }
     r
@@ -248,14 +220,16 @@ pub fn observable_reach(table: &[u64], events: u64, estimate: u64) -> u64
     image_by(table, events, estimate)
 }
 
-// From the states that some symbols can follow, those that the same symbols can follow with one more before them, through allowed states alone.
-pub fn backward_reach(table: &[u64], back: &[u64], allowed: u64, events: u64, then: u64) -> u64
+// From the states that some symbols can follow, those that the same symbols can follow with one more before them, for each set through its own allowed
+// states alone.
+pub fn backward_reach<S: Sets>(table: &[u64], back: &[u64], allowed: S, events: u64, then: S) -> S
     requires { (length table.now ≡ 2048) × (length back.now ≡ 64) × ((e : ℕ) → In e events → e < 32) }
-    ensures { (p : Automaton) (states : ℕ) (rest : List ℕ) (symbol : ℕ) → p.table ≡ table.now → Showing p symbol events
-        → Entered p states back.now → Sub allowed states → Is then (Leaves p allowed rest) → Is result (Leaves p allowed (symbol ∷ rest)) }
+    ensures { S.Each (λ i. (p : Automaton) (states : ℕ) (rest : List ℕ) (symbol : ℕ) → p.table ≡ table.now → Showing p symbol events
+        → Entered p states back.now → Sub (S.at allowed i) states → Is (S.at then i) (Leaves p (S.at allowed i) rest)
+        → Is (S.at result i) (Leaves p (S.at allowed i) (symbol ∷ rest))) }
 {
-    let pairs = (stateset::bound(allowed) + 1) / 2;
-    let into = preimage_by(table, events, pairs, then);
+    let below = stateset::bound(allowed.any());
+    let into = preimage_by(table, events, S::steps(below), then);
     relation::closure(back, allowed, into)
 }
 
@@ -274,8 +248,8 @@ pub fn backward_reaches(
         → Is (set_at result i) (Leaves p (set_at allowed i) (symbol ∷ rest)) }
 {
     let few = stateset::bound(states);
-    let into = preimages_by(table, events, few, then);
-    relation::closures(back, allowed, into)
+    let into = preimage_by(table, events, few, then);
+    relation::closure(back, allowed, into)
 }
 
 // The unobservable events the other way round, from states of the set. (To a lent slice: an array that is handed back would be copied.)
@@ -288,6 +262,5 @@ pub fn silent_back(silent: &[u64], states: u64, back: &mut [u64])
         relation::transpose_few(silent, few, back);
         return;
     }
-    let all = relation::transpose(silent);
-    relation::copy(&all, back);
+    back.copy_from_slice(&relation::transpose(silent));
 }

@@ -2,6 +2,8 @@
 use mathlib.Core.Logic.{◌⊎◌, inl, inr}
 use Prim.Native.Nat.{ℕ, zero, suc, ◌+◌, ◌≤◌, ◌<◌}
 use native.Mathlib.Omega.{arith}
+use native.Mathlib.Decide.{ℕ_discrete}
+use mathlib.Core.Path.{◌≡◌, subst}
 use lib.Bits.{bit_or}
 use Rattle.stateset.specs.Set.{In, Is}
 use Rattle.stateset.proofs.Bits.{union_is}
@@ -38,15 +40,21 @@ module _ (s : StateSets) where
       number q (inl (inr i)) = (2, omega arith, i)
       number q (inr i) = (3, omega arith, i)
 
--- the four numbers in all: it falls where one of them does and none grows
-abbrev pub total : StateSets → ℕ
-total s = s.own + s.first + s.second + s.third
+-- the first n numbers in all: the sum falls where one of them does and none grows
+abbrev pub total : (ℕ → ℕ) → ℕ → ℕ
+total f zero = 0
+total f (suc n) = total f n + f n
 
-pub total_less : (a b : StateSets) → ((i : ℕ) → i < 4 → set_at b i ≤ set_at a i) → (i : ℕ) → i < 4 → set_at b i < set_at a i → total b < total a
-total_less a b le =
-    let own : b.own ≤ a.own = le 0 (omega arith) in
-    let first : b.first ≤ a.first = le 1 (omega arith) in
-    let second : b.second ≤ a.second = le 2 (omega arith) in
-    let third : b.third ≤ a.third = le 3 (omega arith) in
-    four (λ i. set_at b i < set_at a i → total b < total a) (λ l. omega (arith, own, first, second, third, l)) (λ l. omega (arith, own, first, second, third, l))
-    (λ l. omega (arith, own, first, second, third, l)) (λ l. omega (arith, own, first, second, third, l))
+total_le : (f g : ℕ → ℕ) (n : ℕ) → ((i : ℕ) → i < n → g i ≤ f i) → total g n ≤ total f n
+total_le f g zero le = omega arith
+total_le f g (suc n) le = omega (arith, total_le f g n (λ i l. le i (omega arith)), le n (omega arith))
+
+pub total_less : (f g : ℕ → ℕ) (n : ℕ) → ((i : ℕ) → i < n → g i ≤ f i) → (i : ℕ) → i < n → g i < f i → total g n < total f n
+total_less f g zero le i l h = absurd (omega arith)
+total_less f g (suc n) le i l h = go (ℕ_discrete i n) (total_less f g n (λ k m. le k (omega arith)) i)
+  where
+    go : Dec (i ≡ n) → (i < n → g i < f i → total g n < total f n) → total g (suc n) < total f (suc n)
+    go (yes e) before =
+        let last : g n < f n = subst (λ (k : ℕ). g k < f k) e h in
+        omega (arith, total_le f g n (λ k m. le k (omega arith)), last)
+    go (no d) before = omega (arith, before (omega arith) h, le n (omega arith))

@@ -1,11 +1,13 @@
 -- A loop that walks through the members e of a set and joins, for each, the word of the numbers that have `P e`. Assumes nothing.
 use mathlib.Core.Path.{◌≡◌, subst}
 use mathlib.Core.Logic.{◌⊎◌, inl, inr, ⊎_elim}
+use mathlib.Core.List.{List}
 use Prim.Native.Nat.{ℕ}
 use native.Mathlib.Omega.{arith}
 use lib.Bits.{bit_or}
 use Rattle.stateset.specs.Set.{In, Is}
 use Rattle.stateset.proofs.Bits.{Taken, bit_zero, empty}
+use Rattle.relation.specs.Relation.{Row, Image, Sub}
 use Rattle.relation.proofs.Words.{own_is, or_is}
 
 pub record Joined (P : ℕ → ℕ → Type 0) (set todo r : ℕ) : Type 0 where
@@ -37,3 +39,15 @@ module _ (P : ℕ → ℕ → Type 0) (set : ℕ) where
         sound = g.sound;
         whole = λ q s. ⊎_elim (λ i. absurd (empty s.0 todo z i)) (λ d. d) (g.whole s.0 q s.1 s.2);
       }
+
+-- what the state q adds to what comes back for a set
+abbrev pub Adds : List ℕ → ℕ → ℕ → ℕ → Type 0
+Adds rows set q x = In q set × Row rows q x
+
+-- the states of the set are among those that were walked through
+pub joined_whole : (rows : List ℕ) (set all r : ℕ) → Sub set all → Is r (λ x. (q : ℕ) × In q all × Adds rows set q x) → Is r (Image (Row rows) set)
+joined_whole rows set all r sub g =
+    record {
+      sound = λ x i. let m = g.sound x i in (m.0, m.2.0, m.2.1);
+      whole = λ x m. g.whole x (m.0, sub m.0 m.1, (m.1, m.2));
+    }

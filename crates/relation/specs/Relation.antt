@@ -1,6 +1,7 @@
 -- A relation between states as 64 words: word q is the set of what q is related to.
-use Rattle.std.specs.Prelude.{◌≡◌, List, [], ◌∷◌, ◌⊎◌, ℕ, ◌+◌, ◌-◌, ◌*◌, ◌/◌, ◌%◌, ◌^◌, ◌<◌, ◌≤◌, get_or, length}
+use Rattle.std.specs.Prelude.{◌≡◌, List, [], ◌∷◌, ◌⊎◌, ℕ, zero, suc, ◌+◌, ◌-◌, ◌*◌, ◌/◌, ◌%◌, ◌^◌, ◌<◌, ◌≤◌, get_or, length}
 use Rattle.std.specs.Int.Bits.{bit_or}
+use Rattle.std.proofs.Math.Nat.{zero-lt-suc, not-suc-le-zero, le_of_suc-le-suc}
 use Rattle.stateset.specs.Set.{bit, In, Is}
 use Rattle.relation.specs.declared.StateSets.{StateSets}
 
@@ -53,3 +54,11 @@ pub record Swapped (j : ℕ) (old new : List ℕ) : Type 0 where
   pub small : (i : ℕ) → i < 64 → get_or new i 0 < 2 ^ 64
   pub each : (i c d x : ℕ) → i < 32 → c / j % 2 ≡ 0 → j + c < 64 → d < 2 → x < 2
       → bit (d * j + c) (get_or new (2 * i + x) 0) ≡ bit (x * j + c) (get_or old (32 * d + i) 0)
+
+-- of a set alone: what holds of its number, 0, holds of each number below 1, of which there is one
+abbrev pub some_below : 0 < 1
+some_below = zero-lt-suc 0
+
+pub one : (P : ℕ → Type 0) → P 0 → (i : ℕ) → i < 1 → P i
+one P p zero l = p
+one P p (suc i) l = absurd (not-suc-le-zero (le_of_suc-le-suc l))

@@ -2,10 +2,10 @@
 // and of four sets side by side. Nothing here knows an automaton. (All of it inner: for the crates above, which hold the conditions.)
 #![tactic(auto)]
 
-ghost use Rattle.std.specs.Prelude.{◌≡◌, ◌⊎◌, ℕ, ◌+◌, ◌-◌, ◌*◌, ◌<◌, ◌≤◌, length, replicate};
+ghost use Rattle.std.specs.Prelude.{◌≡◌, ◌⊎◌, ℕ, ◌+◌, ◌-◌, ◌*◌, ◌^◌, ◌<◌, ◌≤◌, length, replicate};
 ghost use Rattle.std.specs.Int.Bits.{bit_and, bit_or};
 ghost use Rattle.stateset.specs.Set.{In, Is, complement};
-ghost use Rattle.relation.specs.Relation.{Row, Rows, Image, Preimage, Reached, Put, Masks, Swapped, set_at};
+ghost use Rattle.relation.specs.Relation.{Row, Rows, Image, Preimage, Reached, Put, Masks, Swapped, set_at, some_below, one};
 
 // Four sets of states side by side, one for each of four secrets: what is asked of all is worked out in one pass.
 #[derive(Clone, Copy)]
@@ -22,14 +22,11 @@ pub fn put_rows(rows: &mut [u64], first: usize, eight: [u64; 8]) -> u64
     requires { (length rows.old ≡ 64) × (first ≤ 56) }
     ensures { Put rows.old first eight rows.new result }
 {
-    let n = rows.len() / 8;
     let mut to: u64 = 0;
-    let mut i: usize = 0;
-    while i < n {
+    for i in 0..rows.len() / 8 {
         let row = eight[i];
         rows[first + i] |= row;
         to |= row;
-        i += 1;
     }
     to
 }
@@ -78,32 +75,6 @@ pub fn transpose_few(rows: &[u64], few: usize, out: &mut [u64])
     }
 }
 
-pub fn copy(from: &[u64], to: &mut [u64])
-    requires { (length from.now ≡ 64) × (length to.old ≡ 64) }
-    ensures { to.new ≡ from.now }
-{
-    let mut i: usize = 0;
-    while i < 64 {
-        to[i] = from[i];
-        i += 1;
-    }
-}
-
-// Where the relation leads from the states of a set.
-pub fn image(rows: &[u64], set: u64) -> u64
-    requires { length rows.now ≡ 64 }
-    ensures { Is result (Image (Row rows.now) set) }
-{
-    let mut todo = set;
-    let mut r: u64 = 0;
-    while todo != 0 {
-        let q = u64::trailing_zeros(todo) as usize;
-        r |= rows[q];
-        todo &= todo - 1;
-    }
-    r
-}
-
 // r moved up by one, with the bit of one more row below it: 1 where the row and the set share a state.
 fn shift(r: u64, row: u64, set: u64) -> u64
     ensures { Is result (λ p. ((1 ≤ p) × (p < 64) × In (p - 1) r) ⊎ ((p ≡ 0) × ((x : ℕ) × In x set × In x row))) }
@@ -123,114 +94,192 @@ fn pair(rows: &[u64], first: usize, set: u64) -> u64
     shift(second, rows[first], set)
 }
 
-// The states of the first `pairs` pairs from which the relation leads into a set. (From the highest down: a shift by two is faster than one by q.
-// Two at a time: the bits of a pair need not wait for the shift.)
-pub fn preimage(rows: &[u64], pairs: usize, set: u64) -> u64
-    requires { (length rows.now ≡ 64) × (pairs ≤ 32) }
-    ensures { Is result (λ q. (q < 2 * pairs) × Preimage (Row rows.now) set q) }
-{
-    let mut r: u64 = 0;
-    let mut left = pairs;
-    while 0 < left {
-        left -= 1;
-        r = r << 2 | pair(rows, 2 * left, set);
-    }
-    r
+// One set of states, or several side by side, each with its number: what is asked of all of them is worked out in one pass. (Of one set alone each method
+// is the operation on words that it names.)
+pub trait Sets: Copy {
+    // How many sets there are, and the set with a number; `Each` P says that P holds of each number.
+    ghost count: { ℕ };
+
+    ghost at: { Self → ℕ → ℕ };
+
+    ghost Each: { (ℕ → Type 0) → Type 0 };
+
+    ghost each_of: { (P : ℕ → Type 0) → ((i : ℕ) → i < count → P i) → Each P };
+
+    ghost of_each: { (P : ℕ → Type 0) → Each P → (i : ℕ) → i < count → P i };
+
+    // How many of the first states a number of steps of `preimage` look at.
+    ghost far: { ℕ → ℕ };
+
+    // Sets without states.
+    fn none() -> Self
+        ensures { Each (λ i. at result i ≡ 0) };
+
+    // Unions, intersections and differences, of all at a time.
+    fn join(self, other: Self) -> Self
+        ensures { Each (λ i. at result i ≡ bit_or (at self i) (at other i)) };
+
+    fn both(self, other: Self) -> Self
+        ensures { Each (λ i. at result i ≡ bit_and (at self i) (at other i)) };
+
+    fn without(self, other: Self) -> Self
+        ensures { Each (λ i. (at self i < 2 ^ 64) × (at result i ≡ bit_and (at self i) (complement (at other i)))) };
+
+    // The states that are in some of them.
+    fn any(self) -> u64
+        ensures { Is result (λ q. (i : ℕ) × (i < count) × In q (at self i)) };
+
+    // The row of state q, which is in some wave, joined to each set whose wave it is in.
+    fn pick(self, row: u64, waves: Self, q: u32) -> Self
+        requires { (q < 64) × ((i : ℕ) × (i < count) × In q (at waves i)) }
+        ensures { Each (λ i. Is (at result i) (λ x. In x (at self i) ⊎ (In q (at waves i) × In x row))) };
+
+    // How many steps look at all states below a number.
+    fn steps(below: usize) -> usize
+        requires { below ≤ 64 }
+        ensures { (below ≤ far result) × (far result ≤ 64) };
+
+    // The states that the first `steps` steps look at, from which the relation leads into each of them.
+    fn preimage(self, rows: &[u64], steps: usize) -> Self
+        requires { (length rows.now ≡ 64) × (far steps ≤ 64) }
+        ensures { Each (λ i. Is (at result i) (λ q. (q < far steps) × Preimage (Row rows.now) (at self i) q)) };
 }
 
-// The states that a set reaches by the relation, through allowed states alone. (Wave by wave: a wave is what the one before it leads to and is
-// still missing. Once no allowed state is missing, there is nothing left to find.)
-pub fn closure(rows: &[u64], allowed: u64, from: u64) -> u64
-    requires { length rows.now ≡ 64 }
-    ensures { Is result (Reached (Row rows.now) allowed from) }
-{
-    let mut wave = from & allowed;
-    let mut missing = allowed & !wave;
-    while missing != 0 {
-        wave = image(rows, wave) & missing;
-        if wave == 0 {
-            return allowed & !missing;
+impl Sets for u64 {
+    ghost count = { 1 };
+
+    ghost at = { λ s _. s };
+
+    ghost Each = { λ P. P 0 };
+
+    ghost each_of = { λ P f. f 0 some_below };
+
+    ghost of_each = { one };
+
+    ghost far = { λ steps. 2 * steps };
+
+    fn none() -> u64 {
+        0
+    }
+
+    fn join(self, other: u64) -> u64 {
+        self | other
+    }
+
+    fn both(self, other: u64) -> u64 {
+        self & other
+    }
+
+    fn without(self, other: u64) -> u64 {
+        self & !other
+    }
+
+    fn any(self) -> u64 {
+        self
+    }
+
+    fn pick(self, row: u64, _waves: u64, _q: u32) -> u64 {
+        self | row
+    }
+
+    fn steps(below: usize) -> usize {
+        (below + 1) / 2
+    }
+
+    // Two rows a step: the bits of a pair need not wait for the shift. (From the highest down: a shift by two is faster than one by q.)
+    fn preimage(self, rows: &[u64], steps: usize) -> u64 {
+        let mut r: u64 = 0;
+        for p in (0..steps).rev() {
+            r = r << 2 | pair(rows, 2 * p, self);
         }
-        missing &= !wave;
-    }
-    allowed
-}
-
-// Four sets without states.
-pub fn no_sets() -> StateSets
-    ensures { (i : ℕ) → i < 4 → set_at result i ≡ 0 }
-{
-    StateSets {
-        own: 0,
-        first: 0,
-        second: 0,
-        third: 0,
+        r
     }
 }
 
-// Unions, intersections and differences, for all four at a time.
-pub fn join(a: StateSets, b: StateSets) -> StateSets
-    ensures { (i : ℕ) → i < 4 → set_at result i ≡ bit_or (set_at a i) (set_at b i) }
-{
-    StateSets {
-        own: a.own | b.own,
-        first: a.first | b.first,
-        second: a.second | b.second,
-        third: a.third | b.third,
-    }
-}
+impl Sets for StateSets {
+    ghost count = { 4 };
 
-fn both(a: StateSets, b: StateSets) -> StateSets
-    ensures { (i : ℕ) → i < 4 → set_at result i ≡ bit_and (set_at a i) (set_at b i) }
-{
-    StateSets {
-        own: a.own & b.own,
-        first: a.first & b.first,
-        second: a.second & b.second,
-        third: a.third & b.third,
-    }
-}
+    ghost at = { set_at };
 
-fn without(a: StateSets, b: StateSets) -> StateSets
-    ensures { (i : ℕ) → i < 4 → set_at result i ≡ bit_and (set_at a i) (complement (set_at b i)) }
-{
-    StateSets {
-        own: a.own & !b.own,
-        first: a.first & !b.first,
-        second: a.second & !b.second,
-        third: a.third & !b.third,
-    }
-}
+    ghost Each = { λ P. (i : ℕ) → i < 4 → P i };
 
-// The states that are in some of the four.
-fn any(s: StateSets) -> u64
-    ensures { Is result (λ q. (i : ℕ) × (i < 4) × In q (set_at s i)) }
-{
-    s.own | s.first | s.second | s.third
-}
+    ghost each_of = { λ P f. f };
 
-// The states below `few` from which the relation leads into each of four sets: each row is read once.
-pub fn preimages(rows: &[u64], few: usize, into: StateSets) -> StateSets
-    requires { (length rows.now ≡ 64) × (few ≤ 64) }
-    ensures { (i : ℕ) → i < 4 → Is (set_at result i) (λ q. (q < few) × Preimage (Row rows.now) (set_at into i) q) }
-{
-    let mut r = no_sets();
-    let mut q = few;
-    while 0 < q {
-        q -= 1;
-        let row = rows[q];
-        r = StateSets {
-            own: shift(r.own, row, into.own),
-            first: shift(r.first, row, into.first),
-            second: shift(r.second, row, into.second),
-            third: shift(r.third, row, into.third),
-        };
+    ghost of_each = { λ P f. f };
+
+    ghost far = { λ steps. steps };
+
+    fn none() -> StateSets {
+        StateSets {
+            own: 0,
+            first: 0,
+            second: 0,
+            third: 0,
+        }
     }
-    r
+
+    fn join(self, other: StateSets) -> StateSets {
+        StateSets {
+            own: self.own | other.own,
+            first: self.first | other.first,
+            second: self.second | other.second,
+            third: self.third | other.third,
+        }
+    }
+
+    fn both(self, other: StateSets) -> StateSets {
+        StateSets {
+            own: self.own & other.own,
+            first: self.first & other.first,
+            second: self.second & other.second,
+            third: self.third & other.third,
+        }
+    }
+
+    fn without(self, other: StateSets) -> StateSets {
+        StateSets {
+            own: self.own & !other.own,
+            first: self.first & !other.first,
+            second: self.second & !other.second,
+            third: self.third & !other.third,
+        }
+    }
+
+    fn any(self) -> u64 {
+        self.own | self.first | self.second | self.third
+    }
+
+    fn pick(self, row: u64, waves: StateSets, q: u32) -> StateSets {
+        StateSets {
+            own: picked(self.own, row, waves.own, q),
+            first: picked(self.first, row, waves.first, q),
+            second: picked(self.second, row, waves.second, q),
+            third: picked(self.third, row, waves.third, q),
+        }
+    }
+
+    fn steps(below: usize) -> usize {
+        below
+    }
+
+    // One row a step, which is read once for all four.
+    fn preimage(self, rows: &[u64], steps: usize) -> StateSets {
+        let mut r = StateSets::none();
+        for q in (0..steps).rev() {
+            let row = rows[q];
+            r = StateSets {
+                own: shift(r.own, row, self.own),
+                first: shift(r.first, row, self.first),
+                second: shift(r.second, row, self.second),
+                third: shift(r.third, row, self.third),
+            };
+        }
+        r
+    }
 }
 
 // r with the row of state q, where q is in the set.
-fn pick(r: u64, row: u64, wave: u64, q: u32) -> u64
+fn picked(r: u64, row: u64, wave: u64, q: u32) -> u64
     requires { q < 64 }
     ensures { Is result (λ x. In x r ⊎ (In q wave × In x row)) }
 {
@@ -240,41 +289,35 @@ fn pick(r: u64, row: u64, wave: u64, q: u32) -> u64
     r
 }
 
-// `image` of each of four sets: the row of a state that is in some of them is read once.
-fn images(rows: &[u64], waves: StateSets) -> StateSets
+// Where the relation leads from the states of each set. (The row of a state that is in some of them is read once.)
+pub fn image<S: Sets>(rows: &[u64], set: S) -> S
     requires { length rows.now ≡ 64 }
-    ensures { (i : ℕ) → i < 4 → Is (set_at result i) (Image (Row rows.now) (set_at waves i)) }
+    ensures { S.Each (λ i. Is (S.at result i) (Image (Row rows.now) (S.at set i))) }
 {
-    let mut todo = any(waves);
-    let mut r = no_sets();
+    let mut todo = set.any();
+    let mut r = S::none();
     while todo != 0 {
         let q = u64::trailing_zeros(todo);
-        let row = rows[q as usize];
-        r = StateSets {
-            own: pick(r.own, row, waves.own, q),
-            first: pick(r.first, row, waves.first, q),
-            second: pick(r.second, row, waves.second, q),
-            third: pick(r.third, row, waves.third, q),
-        };
+        r = r.pick(rows[q as usize], set, q);
         todo &= todo - 1;
     }
     r
 }
 
-// `closure` of each of four sets, their waves together.
-pub fn closures(rows: &[u64], allowed: StateSets, from: StateSets) -> StateSets
+// The states that each set reaches by the relation, through its allowed states alone. (Wave by wave: a wave is what the one before it leads to and is
+// still missing. Once no allowed state is missing, there is nothing left to find.)
+pub fn closure<S: Sets>(rows: &[u64], allowed: S, from: S) -> S
     requires { length rows.now ≡ 64 }
-    ensures { (i : ℕ) → i < 4 → Is (set_at result i) (Reached (Row rows.now) (set_at allowed i) (set_at from i)) }
+    ensures { S.Each (λ i. Is (S.at result i) (Reached (Row rows.now) (S.at allowed i) (S.at from i))) }
 {
-    let mut wave = both(from, allowed);
-    let mut missing = without(allowed, wave);
-    while any(missing) != 0 {
-        let next = images(rows, wave);
-        wave = both(next, missing);
-        if any(wave) == 0 {
-            return without(allowed, missing);
+    let mut wave = from.both(allowed);
+    let mut missing = allowed.without(wave);
+    while missing.any() != 0 {
+        wave = image(rows, wave).both(missing);
+        if wave.any() == 0 {
+            return allowed.without(missing);
         }
-        missing = without(missing, wave);
+        missing = missing.without(wave);
     }
     allowed
 }

@@ -74,9 +74,12 @@ events-with-requires c κs = (begin c.before).requires.0.looks.sets_are.size
 backward-reach-requires : tie.Need-backward_reach-then-requires invariant-loop decreases-loop
 backward-reach-requires c κs =
     let a = begin c.before.before in (
-      a.requires.0.words,
-      (a.requires.0.looks.back_are (omega (arith, c.loop-l.invariant.2))).size,
-      λ e i. ((showing c _ a.requires.0.looks).sound e i).0,
+      search rules,
+      (
+        a.requires.0.words,
+        (a.requires.0.looks.back_are (omega (arith, c.loop-l.invariant.2))).size,
+        λ e i. ((showing c _ a.requires.0.looks).sound e i).0,
+      ),
     )
 
 add-l : tie.Need-overflow_add-l invariant-loop decreases-loop

@@ -147,7 +147,7 @@ events-with-requires c κs = (begin c.before.before).requires.looks.sets_are.siz
 backward-reach-requires : tie.Need-backward_reach-then-requires invariant-steps decreases-steps
 backward-reach-requires c κs =
     let a = begin c.before.before.before in
-    (a.requires.words, (a.requires.looks.back_are (omega arith)).size, λ e i. ((showing c _ a.requires.looks).sound e i).0)
+    (search rules, (a.requires.words, (a.requires.looks.back_are (omega arith)).size, λ e i. ((showing c _ a.requires.looks).sound e i).0))
 
 add-l : tie.Need-overflow_add-l invariant-steps decreases-steps
 add-l c = omega arith

@@ -209,7 +209,7 @@ events-with-requires c κs = (begin c.before.before.before.before).requires.0.lo
 backward-reach-requires : tie.Need-backward_reach-then-requires invariant-states decreases-states invariant-steps decreases-steps
 backward-reach-requires c κs =
     let a = begin c.before.before.before.before.before in
-    (a.requires.0.words, (a.requires.0.looks.back_are (omega arith)).size, λ e i. ((showing c _ a.requires.0.looks).sound e i).0)
+    (search rules, (a.requires.0.words, (a.requires.0.looks.back_are (omega arith)).size, λ e i. ((showing c _ a.requires.0.looks).sound e i).0))
 
 add-l : tie.Need-overflow_add-l invariant-states decreases-states invariant-steps decreases-steps
 add-l c = omega arith

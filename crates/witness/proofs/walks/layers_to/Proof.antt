@@ -2,6 +2,7 @@
 use mathlib.Core.Path.{◌≡◌, sym, ◌∙◌}
 use Prim.Native.Nat.{◌-◌, ◌≤◌}
 use native.Mathlib.Omega.{arith}
+use borrow.Author.Rules.{rules}
 use lib.ListN.{length, length-set}
 use Rattle.relation.specs.Relation.{Row}
 use Rattle.witness.proofs.Layering.{Layering, layer_start, layer_turn, layer_end}
@@ -24,7 +25,7 @@ slice-write-layers : tie.Need-bounds-layers-d invariant-loop decreases-loop
 slice-write-layers c = omega (arith, c.loop-d.invariant.0)
 
 image-requires : tie.Need-image-requires invariant-loop decreases-loop
-image-requires c κs = c.requires.0
+image-requires c κs = (search rules, c.requires.0)
 
 add-d : tie.Need-overflow_add-d invariant-loop decreases-loop
 add-d c = omega arith

@@ -10,7 +10,7 @@ use Rattle.witness.proofs.walks.observable_walk.Tie as tie
 preimage-by-requires : tie.Need-preimage_by-into-requires
 preimage-by-requires c κs =
     let x = c.requires.1 in
-    (c.requires.0, (λ e i. (x.2.1.sound e i).0), omega arith)
+    (search rules, (c.requires.0, (λ e i. (x.2.1.sound e i).0), omega arith))
 
 silent-walk-requires : tie.Need-silent_walk-mid-requires
 silent-walk-requires c κs =

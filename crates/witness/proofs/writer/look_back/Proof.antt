@@ -2,6 +2,7 @@
 use mathlib.Core.Path.{◌≡◌, refl, ◌∙◌}
 use Prim.Native.Nat.{ℕ, ◌-◌, ◌≤◌}
 use native.Mathlib.Omega.{arith}
+use borrow.Author.Rules.{rules}
 use lib.ListN.{length, set, replicate, length-set}
 use Rattle.automaton.specs.Run.{Automaton}
 use Rattle.witness.specs.Inner.{Prepared, LookedBack}
@@ -44,7 +45,7 @@ array-read-backward-reach c = omega (arith, c.loop-i.invariant.0, c.loop-i.invar
 backward-reach-requires : tie.Need-backward_reach-next-requires invariant-loop decreases-loop
 backward-reach-requires c κs =
     let x = c.requires.4 in
-    (c.requires.0, c.requires.1, λ e i. ((c.events_with-events.ensures x.0 x.2.symbols_small x.2.sets_are).sound e i).0)
+    (search rules, (c.requires.0, c.requires.1, λ e i. ((c.events_with-events.ensures x.0 x.2.symbols_small x.2.sets_are).sound e i).0))
 
 add-i : tie.Need-overflow_add-i invariant-loop decreases-loop
 add-i c = omega (arith, c.loop-i.invariant.2)

@@ -15,7 +15,7 @@ array-read-target : tie.Need-bounds-then-n
 array-read-target c = search rules
 
 closure-requires : tie.Need-closure-reached-requires
-closure-requires c κs = c.requires.2.1.silently.entered.size
+closure-requires c κs = (search rules, c.requires.2.1.silently.entered.size)
 
 returns : tie.Need-returns-then-starts-eq0
 returns c = λ p P L.

@@ -1,15 +1,16 @@
 -- Which events have a symbol other than their own number: tests of one event, of all below a number, and the symbols that are listed then.
 use Prim.Native.Nat.{ℕ, zero, suc, ◌+◌, ◌≤◌, ◌<◌}
 use mathlib.Core.Path.{◌≡◌, refl, sym, ap, ap₂, ◌∙◌}
-use mathlib.Core.Bool.{Bool, true, false, not, ◌&&◌, ◌||◌, or-true, false≢true}
-use mathlib.Core.List.{List, [], ◌∷◌}
+use mathlib.Core.Bool.{Bool, true, false, not, ◌&&◌, ◌||◌, or-true, or-false, false≢true}
+use mathlib.Core.List.{List, [], ◌∷◌, ◌++◌}
 use mathlib.Core.Logic.{◌⊎◌, inl, inr, ⊎_elim}
 use native.Mathlib.Omega.{arith}
-use native.Mathlib.Numerals.{add-one}
 use native.Mathlib.Nat.{zero-add, eq-or-lt_of_le, le_of_suc-le-suc}
 use native.Mathlib.Decide.{ℕ_discrete, dec_lt}
 use borrow.Author.Tests.{eq-eqb, ne_eqb}
 use lib.Dec.{eqb}
+use Rattle.std.specs.List.{list_any, range_with_len}
+use Rattle.std.proofs.lemmas.List.Folds.{list_any-append}
 use lib.ListN.{length, get_or, take, get_or-eq_default}
 use Rattle.stateset.specs.Set.{bit, In}
 use Rattle.stateset.proofs.Bits.{in?}
@@ -32,15 +33,20 @@ own_number observable symbols e i own = rw (eq-eqb (bit e observable) 1 i, eq-eq
 pub other_number : (observable : ℕ) (symbols : ℕ → ℕ) (e : ℕ) → In e observable → (symbols e ≡ e → ⊥) → true ≡ renamed observable symbols e
 other_number observable symbols e i other = rw (eq-eqb (bit e observable) 1 i, ne_eqb (symbols e) e other)
 
--- all below a number: none so far, one more, and the first that is
-pub none_start : (observable : ℕ) (symbols : ℕ → ℕ) → some_renamed observable symbols 0 ≡ false
-unfolding some_renamed
-none_start observable symbols = refl
+-- all below a number, as `any` tests them in turn; and where one is
+range_snoc : (a n : ℕ) → range_with_len a (suc n) ≡ range_with_len a n ++ ((a + n) ∷ [])
+range_snoc a zero = ap (λ (x : ℕ). x ∷ []) (omega arith)
+range_snoc a (suc n) =
+    ap (λ (l : List ℕ). a ∷ l) (range_snoc (a + 1) n ∙ ap (λ (x : ℕ). range_with_len (a + 1) n ++ (x ∷ [])) (omega arith))
 
-pub none_turn : (observable : ℕ) (symbols : ℕ → ℕ) (e : ℕ) → some_renamed observable symbols e ≡ false → renamed observable symbols e ≡ false
-    → some_renamed observable symbols (e + 1) ≡ false
+pub any_renamed : (observable : ℕ) (symbols : ℕ → ℕ) (n : ℕ) → list_any (renamed observable symbols) (range_with_len 0 n) ≡ some_renamed observable symbols n
 unfolding some_renamed
-none_turn observable symbols e earlier this = rw (add-one, earlier, this)
+any_renamed observable symbols zero = refl
+any_renamed observable symbols (suc n) =
+    let e : 0 + n ≡ n = zero-add n in
+    ap (list_any (renamed observable symbols)) (range_snoc 0 n)
+    ∙ list_any-append (renamed observable symbols) (range_with_len 0 n) ((0 + n) ∷ [])
+    ∙ ap₂ (λ (a b : Bool). a || b) (any_renamed observable symbols n) (or-false (renamed observable symbols (0 + n)) ∙ ap (renamed observable symbols) e)
 
 pub some_found : (observable : ℕ) (symbols : ℕ → ℕ) (e n : ℕ) → renamed observable symbols e ≡ true → e < n → some_renamed observable symbols n ≡ true
 unfolding some_renamed

@@ -35,7 +35,7 @@ pub record Found (bytes : List ℕ) (f form : Front) (symbols : List ℕ) (size 
   pub size_is : size ≡ size_of (preamble_end form + form.fixed.count * 17)
 
 -- the symbols that were tested are those of the meaning
-pub needed_is : (bytes : List ℕ) (f : Front) (symbols : List ℕ) (needed : Bool) → FrontSmall f
+needed_is : (bytes : List ℕ) (f : Front) (symbols : List ℕ) (needed : Bool) → FrontSmall f
     → symbols ≡ header_symbols f.observable (given_symbols (bits_of bytes) f)
     → needed ≡ some_renamed f.observable (λ e. get_or symbols e 0) (f.fixed.topevent + 1) → needed ≡ symbols_needed (meant bytes f)
 needed_is bytes f symbols needed small s n =
@@ -43,8 +43,8 @@ needed_is bytes f symbols needed small s n =
     ∙ needed_same f.observable (given_symbols (bits_of bytes) f) (f.fixed.topevent + 1) (omega (arith, small.fixed.topevent))
 
 -- the numbers of the form's front are small too
-pub flagged_small : (f form : Front) (flag : ℕ) (needed : Bool) → FrontSmall f → flag ≡ one_if needed → form ≡ with_flag f flag → FrontSmall form
-flagged_small f form flag needed small is e =
+pub flagged_small : (f form : Front) (needed : Bool) → FrontSmall f → form ≡ with_flag f (one_if needed) → FrontSmall form
+flagged_small f form needed small e =
     let fixed = small.fixed in
     subst FrontSmall (sym e) (record {
       fixed = record {
@@ -53,11 +53,22 @@ flagged_small f form flag needed small is e =
         k = fixed.k;
         initial = fixed.initial;
         count = fixed.count;
-        symbols = omega (arith, flag_small needed);
+        symbols = flag_small needed;
       };
       states = small.states;
       events = small.events;
     })
+
+pub found : {bytes : List ℕ} {f form : Front} {symbols : List ℕ} {size : ℕ} (needed : Bool)
+    → encoding (bits_of bytes) 0 ≡ encoding_means (bits_of bytes) (Value f) → symbols ≡ header_symbols f.observable (given_symbols (bits_of bytes) f)
+    → needed ≡ some_renamed f.observable (λ e. get_or symbols e 0) (f.fixed.topevent + 1) → form ≡ with_flag f (one_if needed)
+    → size ≡ size_of (preamble_end form + form.fixed.count * 17) → Found bytes f form symbols size
+found {bytes} {f} {symbols = symbols} needed accepted s n form size = record {
+  accepted = accepted;
+  symbols_are = s;
+  form_is = form ∙ ap (λ (b : Bool). with_flag f (one_if b)) (needed_is bytes f symbols needed (encoding_in bytes accepted).front s n);
+  size_is = size;
+}
 
 -- what is written is the canonical form
 form_canonical : (bits : List ℕ) (f : Front) → Valid (encoding_at bits f)

@@ -5,6 +5,7 @@ use mathlib.Core.Path.{◌≡◌, refl, sym, subst, ◌∙◌}
 use mathlib.Core.List.{List, [], ◌∷◌, ◌++◌}
 use native.Mathlib.Omega.{arith}
 use lib.ListN.{length}
+use Rattle.std.specs.Prelude.{Result, Ok, Err}
 use Rattle.refusal.specs.Refusals.{number_of}
 use Rattle.automaton.specs.declared.Header.{Header}
 use Rattle.refusal.specs.declared.Refusal.{Refusal}
@@ -26,7 +27,6 @@ use Rattle.explore.specs.Explorations.{Exploring, explored_all}
 use Rattle.explore.specs.declared.Exploration.{Exploration}
 use Rattle.canonical.specs.Writing as canonical
 use Rattle.canonical.specs.Writing.{Writing}
-use Rattle.canonical.specs.declared.Answer as form
 use Rattle.canonical.proofs.Calls.{call_wrote}
 use Rattle.canonical.proofs.OneForm.{form_longest}
 use Rattle.leaks.specs.FirstLeaks as leaking
@@ -237,20 +237,20 @@ size_saved encoding output after n x =
     let c = call_wrote encoding output after n x in
     number_saved n (omega (arith, c.number_is, form_longest encoding c.meaning c.means))
 
-module _ (encoding output lent after : List ℕ) (answer : form.Answer) (size : length lent ≡ written_size)
+module _ (encoding output lent after : List ℕ) (answer : Result ℕ Refusal) (size : length lent ≡ written_size)
     (did : Writing encoding output (canonical.answer_means answer) after) where
-  said_writing : (y : form.Answer) → answer ≡ y → Writing encoding output (canonical.answer_means y) after
-  said_writing y is = subst (λ (z : form.Answer). Writing encoding output (canonical.answer_means z) after) is did
+  said_writing : (y : Result ℕ Refusal) → answer ≡ y → Writing encoding output (canonical.answer_means y) after
+  said_writing y is = subst (λ (z : Result ℕ Refusal). Writing encoding output (canonical.answer_means z) after) is did
 
-  pub canonical_refused : (r : Refusal) (n : ℕ) → answer ≡ form.TheVariants.Refused r → n ≡ number_of r → CanonicalCall encoding output lent n after lent
+  pub canonical_refused : (r : Refusal) (n : ℕ) → answer ≡ Err r → n ≡ number_of r → CanonicalCall encoding output lent n after lent
   canonical_refused r n is number =
-      let x = said_writing (form.TheVariants.Refused r) is in
+      let x = said_writing (Err r) is in
       let kept = kept_form encoding output x in
       rw (number, kept) (CanonicalCall.refused size (rw kept at x))
 
-  pub canonical_written : (n : ℕ) (left : List ℕ) → answer ≡ form.TheVariants.Written n → left ≡ written_bytes n
+  pub canonical_written : (n : ℕ) (left : List ℕ) → answer ≡ Ok n → left ≡ written_bytes n
       → CanonicalCall encoding output lent 0 after left
   canonical_written n left is wrote =
-      let x = said_writing (form.TheVariants.Written n) is in
+      let x = said_writing (Ok n) is in
       subst (λ (y : List ℕ). CanonicalCall encoding output lent 0 after y) (sym wrote)
       (CanonicalCall.written size x (size_saved encoding output after n x))

@@ -4,7 +4,6 @@
 
 ghost use Rattle.gateway.specs.Interface.{Decode, Fresh, Accept, Start, Offer, Explore, FirstLeakCall, CanonicalCall, Witnessing, CheckingWitness};
 
-use canonical::Answer as Canonical;
 use decoding::Answer as Decoded;
 use enforcer::Enforcer;
 use layout::sizes;
@@ -269,10 +268,9 @@ pub fn opacity_canonical(encoding: &[u8], output: &mut [u8], size: &mut [u8]) ->
     if size.len() != sizes::WRITTEN_SIZE {
         return MALFORMED;
     }
-    let answer = canonical::canonical(encoding, output);
-    match answer {
-        Canonical::Refused(refusal) => refusal::number(refusal),
-        Canonical::Written(written) => {
+    match canonical::canonical(encoding, output) {
+        Err(refusal) => refusal::number(refusal),
+        Ok(written) => {
             layout::write_number(size, written as u64);
             0
         }

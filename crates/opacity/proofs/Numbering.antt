@@ -103,7 +103,12 @@ cleared_allowed f a = record { few = a.few; back = subst (λ (cs : List Secret).
 pub cleared_none : (f : Further) → f.count ≡ 0 → cleared_of f ≡ no_further
 cleared_none f e = rw e refl
 
--- the largest K, from the automaton's own on and one after another
+-- the largest K: with no further secret the automaton's own
+pub back_none : (h : Header) (f : Further) → f.count ≡ 0 → h.k ≡ look_back_of h f
+unfolding largest
+back_none h f e = rw e (omega arith)
+
+-- and from that on, one after another
 back_from : (m : ℕ) (cs : List Secret) → fold (λ a k. max a k) m (map (λ (c : Secret). c.k) cs) ≡ max m (largest cs)
 unfolding largest
 back_from m [] = omega arith

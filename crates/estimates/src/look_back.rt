@@ -139,19 +139,14 @@ pub fn delayed_estimates(
         × UnobservableReach (automaton_of table.now header) (get_or remembered.entries 0 0) estimate.states × (length past.old ≡ 16) }
     ensures { Delayed (automaton_of table.now header) remembered.symbols remembered.entries remembered.count past.new }
 {
-    let symbols = remembered.symbols;
-    let entries = remembered.entries;
-    let last = remembered.count;
     let near = estimate.near;
     past[0] = estimate.states;
     let mut then = near;
-    let mut l: u8 = 0;
-    while l < last {
-        let shown = automaton::events_with(sets, symbols[l as usize]);
+    for l in 0..usize::from(remembered.count) {
+        let shown = automaton::events_with(sets, remembered.symbols[l]);
         then = automaton::backward_reach(table, back, near, shown, then);
-        l += 1;
-        let at = l as usize;
-        past[at] = automaton::unobservable_reach(silent, near, entries[at]) & then;
+        let entry = remembered.entries[l + 1];
+        past[l + 1] = automaton::unobservable_reach(silent, near, entry) & then;
     }
 }
 

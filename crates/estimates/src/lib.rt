@@ -14,7 +14,7 @@ use automaton::{Header, Reach};
 
 // What is kept of a trace for look backs: how many symbols are remembered, these, the newest first, and for each step back the states right after the last
 // one that is left.
-#[derive(Clone, Copy)]
+#[derive(Clone, Copy, PartialEq, Eq)]
 pub struct Remembered {
     pub count: u8,
     pub symbols: [u8; 15],

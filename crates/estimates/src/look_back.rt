@@ -157,23 +157,11 @@ pub fn first_secret(past: &[u64], secret: u64, last: u8) -> Verdict
     ensures { (p : Automaton) (symbols entries : List ℕ) (n : ℕ) → Delayed p symbols entries n past.now → last ≤ n
         → Found notion.Weak p (secret_of secret last) n symbols entries result }
 {
-    let mut l: u8 = 0;
-    'steps: loop {
-        let mut todo = past[l as usize];
-        // whether all of m(l) is secret: the first state that is not decides
-        'states: while todo != 0 {
-            let q = u64::trailing_zeros(todo);
-            if secret >> q & 1 == 0 {
-                break 'states;
-            }
-            todo &= todo - 1;
-        }
-        if todo == 0 {
+    for l in 0..=last {
+        let excuse = past[usize::from(l)] & !secret; // those of m(l) that are not secret
+        if excuse == 0 {
             return Verdict::Leak(l);
         }
-        if l == last {
-            return Verdict::NoLeak;
-        }
-        l += 1;
     }
+    Verdict::NoLeak
 }

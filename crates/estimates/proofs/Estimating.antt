@@ -1,12 +1,13 @@
 -- From an entry set to the estimate: the states that matter, those that are possible, and their number. Assumes nothing.
 use mathlib.Core.Path.{◌≡◌, refl, sym, subst}
 use mathlib.Core.List.{List, [], ◌∷◌, ◌++◌}
-use Prim.Native.Nat.{ℕ, ◌≤◌, ◌<◌, ◌^◌}
+use Prim.Native.Nat.{ℕ, zero, suc, ◌≤◌, ◌<◌, ◌^◌}
 use native.Mathlib.Omega.{arith}
 use lib.Bits.{bit_or}
+use lib.ListN.{get_or}
 use lib.Count.{count_trailing_zeros}
 use Rattle.stateset.specs.Set.{In, Is, Counts}
-use Rattle.stateset.proofs.Bits.{in_lt, or_l, or_r, trailing_in}
+use Rattle.stateset.proofs.Bits.{empty, in_lt, or_l, or_r, trailing_in}
 use Rattle.stateset.proofs.Counting.{counts_some, counts_below}
 use Rattle.automaton.specs.Run.{Automaton, Impossible}
 use Rattle.automaton.specs.Reaching.{Enters, Arrives, EstimateSize, Gained, Closed}
@@ -16,9 +17,22 @@ use Rattle.automaton.proofs.Entering.{gained_closed}
 use Rattle.automaton.proofs.Estimates.{set_size}
 use Rattle.automaton.proofs.Traces.{entry_possible}
 use Rattle.estimates.specs.declared.Estimate.{Estimate}
-use Rattle.estimates.specs.declared.NextEstimate.{NextEstimate}
-use Rattle.estimates.specs.declared.NextEstimate.TheVariants.{States, Empty}
-use Rattle.estimates.specs.Estimates.{UnobservableReach, Estimated, Stepped, Next, some_run, no_run}
+use Rattle.std.specs.Prelude.{Option, Some, None}
+use Rattle.std.specs.List.{fold}
+use Rattle.estimates.specs.Estimates.{Inside, UnobservableReach, Estimated, Stepped, Next, some_run, no_run}
+
+-- each entry set is among the states of all
+entered_from : (all : ℕ) (entries : List ℕ) (q : ℕ) → In q all → In q (fold bit_or all entries)
+entered_from all [] q i = i
+entered_from all (e ∷ es) q i = entered_from (bit_or all e) es q (or_l q all e i)
+
+entered_at : (all : ℕ) (entries : List ℕ) (l q : ℕ) → In q (get_or entries l 0) → In q (fold bit_or all entries)
+entered_at all [] l q i = absurd (empty q 0 refl i)
+entered_at all (e ∷ es) zero q i = entered_from (bit_or all e) es q (or_r q all e i)
+entered_at all (e ∷ es) (suc l) q i = entered_at (bit_or all e) es l q i
+
+pub entered_all : (entries : List ℕ) (all : ℕ) → all ≡ fold bit_or 0 entries → Inside entries all
+entered_all entries all is l q h i = subst (In q) (sym is) (entered_at 0 entries l q i)
 
 -- the estimate, from what was explored, what the closure gave and what was counted
 pub estimated : (p : Automaton) (from entry : ℕ) (silent : List ℕ) (r : Reach) (states size : ℕ) → p.initial ≤ 63 → entry < 2 ^ 64 → states < 2 ^ 64
@@ -60,18 +74,18 @@ stepping p from entry symbol new silent e s some small N =
       possible = λ trace E. entry_possible p (trace ++ symbol ∷ []) new small some (N trace E);
     }
 
-pub some_left : {p : Automaton} {from entry symbol : ℕ} {silent : List ℕ} {r : NextEstimate} {e : Estimate} → Next p from entry symbol silent r → r ≡ States e
+pub some_left : {p : Automaton} {from entry symbol : ℕ} {silent : List ℕ} {r : Option Estimate} {e : Estimate} → Next p from entry symbol silent r → r ≡ Some e
     → Stepped p from entry symbol silent e
 some_left {p} {from} {entry} {symbol} {silent} {r} {e} x is = go (subst (Next p from entry symbol silent) is x)
   where
-    go : Next p from entry symbol silent (States e) → Stepped p from entry symbol silent e
+    go : Next p from entry symbol silent (Some e) → Stepped p from entry symbol silent e
     go (some_run y) = y
 
-pub none_left : {p : Automaton} {from entry symbol : ℕ} {silent : List ℕ} {r : NextEstimate} → Next p from entry symbol silent r → r ≡ Empty
+pub none_left : {p : Automaton} {from entry symbol : ℕ} {silent : List ℕ} {r : Option Estimate} → Next p from entry symbol silent r → r ≡ None
     → (trace : List ℕ) → Is entry (Enters p trace) → Impossible p (trace ++ symbol ∷ [])
 none_left {p} {from} {entry} {symbol} {silent} {r} x is = go (subst (Next p from entry symbol silent) is x)
   where
-    go : Next p from entry symbol silent Empty → (trace : List ℕ) → Is entry (Enters p trace) → Impossible p (trace ++ symbol ∷ [])
+    go : Next p from entry symbol silent None → (trace : List ℕ) → Is entry (Enters p trace) → Impossible p (trace ++ symbol ∷ [])
     go (no_run y) = y
 
 pub reach_as : {p : Automaton} {entry newest estimate : ℕ} → newest ≡ entry → UnobservableReach p entry estimate → UnobservableReach p newest estimate

@@ -1,18 +1,22 @@
 -- What is stored of the symbols and the entry sets, and the states that are possible after them.
-use Rattle.std.specs.Prelude.{◌≡◌, List, [], ◌∷◌, ◌++◌, ℕ, ◌≤◌, ◌<◌, length, get_or}
+use Rattle.std.specs.Prelude.{◌≡◌, List, [], ◌∷◌, ◌++◌, ℕ, ◌≤◌, ◌<◌, length, get_or, Option, Some, None}
 use Rattle.stateset.specs.Set.{In, Is, Counts}
 use Rattle.automaton.specs.Run.{Automaton, Possible, Impossible}
 use Rattle.automaton.specs.Reaching.{Enters, Arrives, Closed, SizeWithin}
 use Rattle.relation.specs.Relation.{Sub}
 use Rattle.estimates.specs.declared.Estimate.{Estimate}
-use Rattle.estimates.specs.declared.NextEstimate.{NextEstimate}
-use Rattle.estimates.specs.declared.NextEstimate.TheVariants.{States, Empty}
 
 -- the first n of a new element and the old ones, and 0 behind them
 pub record Pushed (x : ℕ) (old : List ℕ) (n size : ℕ) (r : List ℕ) : Type 0 where
   pub size_is : length r ≡ size
   pub kept : (l : ℕ) → l < n → get_or r l 0 ≡ get_or (x ∷ old) l 0
   pub rest : (l : ℕ) → n ≤ l → get_or r l 0 ≡ 0
+
+-- so of any type: behind them is nothing
+pub record PushedOn {A : Type 0} (IsNothing : A → Type 0) (x : A) (old : List A) (n size : ℕ) (r : List A) : Type 0 where
+  pub size_is : length r ≡ size
+  pub kept : (l : ℕ) (d : A) → l < n → get_or r l d ≡ get_or (x ∷ old) l d
+  pub rest : (l : ℕ) (d : A) → n ≤ l → l < size → IsNothing (get_or r l d)
 
 -- every entry set is among the states
 abbrev pub Inside : List ℕ → ℕ → Type 0
@@ -41,6 +45,6 @@ pub record Stepped (p : Automaton) (from entry symbol : ℕ) (silent : List ℕ)
   pub possible : (trace : List ℕ) → Is entry (Enters p trace) → Possible p (trace ++ symbol ∷ [])
 
 -- if a run is left
-pub data Next (p : Automaton) (from entry symbol : ℕ) (silent : List ℕ) : NextEstimate → Type 0 where
-  some_run : {e : Estimate} → Stepped p from entry symbol silent e → Next p from entry symbol silent (States e)
-  no_run : ((trace : List ℕ) → Is entry (Enters p trace) → Impossible p (trace ++ symbol ∷ [])) → Next p from entry symbol silent Empty
+pub data Next (p : Automaton) (from entry symbol : ℕ) (silent : List ℕ) : Option Estimate → Type 0 where
+  some_run : {e : Estimate} → Stepped p from entry symbol silent e → Next p from entry symbol silent (Some e)
+  no_run : ((trace : List ℕ) → Is entry (Enters p trace) → Impossible p (trace ++ symbol ∷ [])) → Next p from entry symbol silent None

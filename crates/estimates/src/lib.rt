@@ -8,13 +8,13 @@ ghost use Rattle.std.specs.Prelude.{◌≡◌, ℕ, ◌+◌, ◌≤◌, ◌<◌,
 ghost use Rattle.stateset.specs.Set.{In};
 ghost use Rattle.automaton.specs.Run.{automaton_of};
 ghost use Rattle.automaton.specs.Reaching.{Showing, Known, Gained};
-ghost use Rattle.estimates.specs.Estimates.{Pushed, Inside, Estimated, Next};
+ghost use Rattle.estimates.specs.Estimates.{PushedOn, Inside, Estimated, Next};
 
 use automaton::{Header, Reach};
 
 // What is kept of a trace for look backs: how many symbols are remembered, these, the newest first, and for each step back the states right after the last
 // one that is left.
-#[derive(Clone, Copy)]
+#[derive(Clone, Copy, PartialEq, Eq)]
 pub struct Remembered {
     pub count: u8,
     pub symbols: [u8; 15],
@@ -31,45 +31,18 @@ pub struct Estimate {
     pub near: u64,
 }
 
-// The states that are possible after one more symbol, if a run is left.
-#[derive(Clone, Copy)]
-pub enum NextEstimate {
-    States(Estimate),
-    Empty,
-}
-
-// The first `n` of the new symbol and the old ones.
-pub fn push_symbol(symbols: [u8; 15], n: u8, symbol: u8) -> [u8; 15]
-    requires { n ≤ 15 }
-    ensures { Pushed symbol symbols n 15 result }
+// The first `n` of the newest one and those that were kept, and nothing behind them.
+pub fn push<T: Copy + Default, const N: usize>(kept: [T; N], n: u8, newest: T) -> [T; N]
+    requires { n ≤ N }
+    ensures { PushedOn T.is_default newest kept n N result }
 {
-    let mut r = [0u8; 15];
-    let mut next = symbol;
-    let mut l: u8 = 0;
-    while l < n {
-        let at = l as usize;
-        r[at] = next;
-        next = symbols[at];
-        l += 1;
+    let mut pushed = [T::default(); N];
+    let mut next = newest;
+    for l in 0..usize::from(n) {
+        pushed[l] = next;
+        next = kept[l];
     }
-    r
-}
-
-// The first `n` of the new entry set and the old ones.
-pub fn push_entry(entries: [u64; 16], n: u8, entry: u64) -> [u64; 16]
-    requires { n ≤ 16 }
-    ensures { Pushed entry entries n 16 result }
-{
-    let mut r = [0u64; 16];
-    let mut next = entry;
-    let mut l: u8 = 0;
-    while l < n {
-        let at = l as usize;
-        r[at] = next;
-        next = entries[at];
-        l += 1;
-    }
-    r
+    pushed
 }
 
 // One symbol more to remember, and at most K.
@@ -77,21 +50,14 @@ pub fn count_after(count: u8, k: u8) -> u8
     requires { (count ≤ k) × (k ≤ 15) }
     ensures { result ≡ min k (count + 1) }
 {
-    if count < k {
-        return count + 1;
-    }
-    k
+    k.min(count + 1)
 }
 
 // The states of all entry sets.
 pub fn entered(entries: [u64; 16]) -> u64
     ensures { Inside entries result }
 {
-    let mut r: u64 = 0;
-    for l in 0..16 {
-        r |= entries[l];
-    }
-    r
+    entries.iter().fold(0, |all, entry| all | *entry)
 }
 
 // From the states right after a symbol to all that are possible, and their number: one step, for a fresh estimator and for an accepted symbol. What is
@@ -110,14 +76,14 @@ pub fn estimate_from(
     let reach = automaton::silent_rows(table, header, silent, known, from | entry);
     let states = automaton::unobservable_reach(silent, reach.states, entry);
     Estimate {
-        entry: entry,
-        states: states,
+        entry,
+        states,
         size: stateset::size(states),
         near: reach.states,
     }
 }
 
-// The states that are possible after one more symbol, by the events that show it, from those right after the symbol before it.
+// The states that are possible after one more symbol, by the events that show it, from those right after the symbol before it; none, if no run is left.
 pub fn next_estimate(
     table: &[u64],
     header: Header,
@@ -125,7 +91,7 @@ pub fn next_estimate(
     near: Reach,
     entry: u64,
     events: u64,
-) -> NextEstimate
+) -> Option<Estimate>
     requires { (length table.now ≡ 2048) × (header.initial ≤ 63) × ((e : ℕ) → In e events → e < 32)
         × Gained (automaton_of table.now header) entry silent.old near }
     ensures { (symbol : ℕ) → Showing (automaton_of table.now header) symbol events
@@ -134,8 +100,7 @@ pub fn next_estimate(
     let estimate = automaton::unobservable_reach(silent, near.states, entry);
     let after = automaton::observable_reach(table, events, estimate);
     if after == 0 {
-        return NextEstimate::Empty;
+        return None;
     }
-    let next = estimate_from(table, header, silent, near.known, near.states, after);
-    NextEstimate::States(next)
+    Some(estimate_from(table, header, silent, near.known, near.states, after))
 }

@@ -139,19 +139,14 @@ pub fn delayed_estimates(
         × UnobservableReach (automaton_of table.now header) (get_or remembered.entries 0 0) estimate.states × (length past.old ≡ 16) }
     ensures { Delayed (automaton_of table.now header) remembered.symbols remembered.entries remembered.count past.new }
 {
-    let symbols = remembered.symbols;
-    let entries = remembered.entries;
-    let last = remembered.count;
     let near = estimate.near;
     past[0] = estimate.states;
     let mut then = near;
-    let mut l: u8 = 0;
-    while l < last {
-        let shown = automaton::events_with(sets, symbols[l as usize]);
+    for l in 0..usize::from(remembered.count) {
+        let shown = automaton::events_with(sets, remembered.symbols[l]);
         then = automaton::backward_reach(table, back, near, shown, then);
-        l += 1;
-        let at = l as usize;
-        past[at] = automaton::unobservable_reach(silent, near, entries[at]) & then;
+        let entry = remembered.entries[l + 1];
+        past[l + 1] = automaton::unobservable_reach(silent, near, entry) & then;
     }
 }
 
@@ -162,23 +157,11 @@ pub fn first_secret(past: &[u64], secret: u64, last: u8) -> Verdict
     ensures { (p : Automaton) (symbols entries : List ℕ) (n : ℕ) → Delayed p symbols entries n past.now → last ≤ n
         → Found notion.Weak p (secret_of secret last) n symbols entries result }
 {
-    let mut l: u8 = 0;
-    'steps: loop {
-        let mut todo = past[l as usize];
-        // whether all of m(l) is secret: the first state that is not decides
-        'states: while todo != 0 {
-            let q = u64::trailing_zeros(todo);
-            if secret >> q & 1 == 0 {
-                break 'states;
-            }
-            todo &= todo - 1;
-        }
-        if todo == 0 {
+    for l in 0..=last {
+        let excuse = past[usize::from(l)] & !secret; // those of m(l) that are not secret
+        if excuse == 0 {
             return Verdict::Leak(l);
         }
-        if l == last {
-            return Verdict::NoLeak;
-        }
-        l += 1;
     }
+    Verdict::NoLeak
 }

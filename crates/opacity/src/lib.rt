@@ -7,7 +7,7 @@ ghost use Rattle.opacity.specs.Secrets.{further_of, secrets_of, secret_at, look_
 
 use automaton::Header;
 
-// 01's "none", or "leak" with its steps.
+// 01's "none", or "leak" with its steps. (It has the shape of an Option of a number; the scope names a verdict enum, and the two words are its cases.)
 #[derive(Clone, Copy)]
 pub enum Verdict {
     NoLeak,
@@ -34,8 +34,8 @@ pub struct Secret {
 }
 
 // Up to three further secrets: three places, each a set of states and its K, and how many are given. A place past the count counts for nothing. (Two
-// arrays, and not three secrets side by side: an estimator is copied at each event, and whole words are copied faster than words with single bytes
-// between them.)
+// arrays and a count, and not a list of secrets: memory is fixed, and these are the places of the C interface, those past the count among them. And an
+// estimator is copied at each event: whole words are copied faster than words with single bytes between them.)
 #[derive(Clone, Copy)]
 pub struct Further {
     pub states: [u64; 3],
@@ -58,16 +58,12 @@ pub fn no_further() -> Further
 fn further_at(further: Further, place: u8) -> Secret
     ensures { result ≡ secret_at (further_of further) place }
 {
-    if place < further.count {
-        if place < 3 {
-            let states = further.states;
-            let k = further.k;
-            let at = place as usize;
-            return Secret {
-                states: states[at],
-                k: k[at],
-            };
-        }
+    if place < further.count && place < 3 {
+        let at = usize::from(place);
+        return Secret {
+            states: further.states[at],
+            k: further.k[at],
+        };
     }
     Secret { states: 0, k: 0 }
 }
@@ -89,32 +85,19 @@ pub fn secret_at(header: Header, further: Further, i: u8) -> Secret
 pub fn clear(further: Further) -> Further
     ensures { result ≡ cleared_of further }
 {
-    let first = further_at(further, 0);
-    let second = further_at(further, 1);
-    let third = further_at(further, 2);
-    Further {
-        states: [first.states, second.states, third.states],
-        k: [first.k, second.k, third.k],
-        count: further.count,
-    }
+    let given = usize::from(further.count).min(3);
+    let mut cleared = further;
+    cleared.states[given..].fill(0);
+    cleared.k[given..].fill(0);
+    cleared
 }
 
 // The largest K of the secrets that are given, the automaton's own among them.
 pub fn look_back(header: Header, further: Further) -> u8
     ensures { result ≡ look_back_of header further }
 {
-    let n = further.count;
-    if n == 0 {
-        return header.k;
-    }
-    let k = further.k;
-    let one = automaton::larger(header.k, k[0]);
-    if n == 1 {
-        return one;
-    }
-    let two = automaton::larger(one, k[1]);
-    if n == 2 {
-        return two;
-    }
-    automaton::larger(two, k[2])
+    let given = usize::from(further.count).min(3);
+    further.k[..given]
+        .iter()
+        .fold(header.k, |largest, k| largest.max(*k))
 }

@@ -19,7 +19,7 @@ ghost use Rattle.verifier.specs.Replies.{said, said_by, chosen, chosen_each, Oth
 ghost use Rattle.verifier.specs.Inner.{ask_for, chosen_answer, Opened, AcceptingAsked};
 
 use automaton::Header;
-use estimates::{NextEstimate, Remembered};
+use estimates::Remembered;
 use opacity::{Further, Notion, Verdict, Verdicts};
 use refusal::Refusal;
 
@@ -193,8 +193,8 @@ impl Estimator {
         let old_symbols = self.symbols;
         let old_entries = self.entries;
         let further = self.further;
-        let symbols = estimates::push_symbol(old_symbols, count, symbol);
-        let entries = estimates::push_entry(old_entries, count + 1, entry);
+        let symbols = estimates::push(old_symbols, count, symbol);
+        let entries = estimates::push(old_entries, count + 1, entry);
         Estimator {
             count: count,
             symbols: symbols,
@@ -283,7 +283,7 @@ impl Estimator {
         let near = automaton::silent_rows(table, header, &mut silent, 0, from);
         let newest = self.entries[0];
         let next = estimates::next_estimate(table, header, &mut silent, near, newest, shown);
-        let NextEstimate::States(estimate) = next else {
+        let Some(estimate) = next else {
             return self.refused(Refusal::Incompatible);
         };
         let further = self.further;

@@ -142,7 +142,7 @@ assess-requires : tie.Need-assess-judgement-requires
 assess-requires c κs =
     let o = ok (first c.before.before.before.before.before.before.before.before.before.before.before.before.before.before.before.before) in
     let a = c.args in
-    let x = some_left (c.next_estimate-next.ensures _ (showing c.before.before.before.before.before.before.before.before.before.before.before.before.before.before.before.before.before)) c.in-States.is in
+    let x = some_left (c.next_estimate-next.ensures _ (showing c.before.before.before.before.before.before.before.before.before.before.before.before.before.before.before.before.before)) c.in-Some.is in
     let after = c.push-after.ensures in (
       record {
         well_formed = o.0;
@@ -161,7 +161,7 @@ returns-4 : tie.Need-returns
 returns-4 c =
     let a = c.args in
     let o = ok (first c.before.before.before.before.before.before.before.before.before.before.before.before.before.before.before.before.before.before) in
-    let x = some_left (c.next_estimate-next.ensures _ (showing c.before.before.before.before.before.before.before.before.before.before.before.before.before.before.before.before.before.before.before)) c.in-States.is in
+    let x = some_left (c.next_estimate-next.ensures _ (showing c.before.before.before.before.before.before.before.before.before.before.before.before.before.before.before.before.before.before.before)) c.in-Some.is in
     let after = c.push-after.ensures in
     let moved : Moved a.table.now a.header a.self a.symbol c.assess-judgement.result.size c.push-after.result =
     moved_by _ _ _ _ _ _ _ _ _ _ o.0 o.1 (observed c.before.before.before.before.before.before.before.before.before.before.before.before.before.before.before.before.before.before) x c.assess-judgement.ensures.1 c.look_back-k.ensures after.0 after.1

@@ -26,19 +26,23 @@ use Rattle.enforcer.specs.declared.Enforcer.{Enforcer}
 use Rattle.enforcer.proofs.ForAll.{safe_for_all_laws, wait_for_all}
 use Rattle.enforcer.proofs.Queueing.{queue_next}
 
--- what an array holds whose front is a list and one more
-joined_at : (pending symbols : List ℕ) (count byte i : ℕ) → count ≤ length pending → take (count + 1) symbols ≡ take count pending ++ byte ∷ []
-    → i < count → get_or symbols i 0 ≡ get_or pending i 0
-joined_at pending symbols count byte i room same less =
+-- the pending events and one more are the front of the array that they were joined in
+joined_list : (pending symbols : List ℕ) (count byte : ℕ) → count ≤ length pending → count < length symbols
+    → ((i : ℕ) → i < count → get_or symbols i 0 ≡ get_or pending i 0) → get_or symbols count 0 ≡ byte
+    → take count pending ++ byte ∷ [] ≡ take (count + 1) symbols
+joined_list pending symbols count byte room wide same last =
     let a : length (take count pending) ≡ count = length-take-le count pending room in
-    sym (get_or-take (count + 1) symbols i 0 (omega arith)) ∙ ap (λ (l : List ℕ). get_or l i 0) same
-    ∙ get_or-append (take count pending) (byte ∷ []) 0 i (omega arith) ∙ get_or-take count pending i 0 less
-
-joined_last : (pending symbols : List ℕ) (count byte : ℕ) → count ≤ length pending → take (count + 1) symbols ≡ take count pending ++ byte ∷ []
-    → get_or symbols count 0 ≡ byte
-joined_last pending symbols count byte room same =
-    sym (get_or-take (count + 1) symbols count 0 (omega arith)) ∙ ap (λ (l : List ℕ). get_or l count 0) same
-    ∙ get_or_at (take count pending) byte [] 0 count (length-take-le count pending room)
+    let b : length (take (count + 1) symbols) ≡ count + 1 = length-take-le (count + 1) symbols (omega arith) in
+    let d : length (take count pending ++ byte ∷ []) ≡ count + 1 = length-append (take count pending) (byte ∷ []) ∙ omega arith in
+    ext_get_or 0 (take count pending ++ byte ∷ []) (take (count + 1) symbols) (omega arith)
+    (λ i h. elim (dec_lt i count) [
+      | yes less ↦ get_or-append (take count pending) (byte ∷ []) 0 i (omega arith) ∙ get_or-take count pending i 0 less ∙ sym (same i less)
+          ∙ sym (get_or-take (count + 1) symbols i 0 (omega arith))
+      | no more ↦
+          let e : i ≡ count = omega arith in
+          get_or_at (take count pending) byte [] 0 i (omega arith) ∙ sym last ∙ ap (λ (k : ℕ). get_or symbols k 0) (sym e)
+          ∙ sym (get_or-take (count + 1) symbols i 0 (omega arith))
+    ])
 
 -- what is copied down from an array is what follows its first f
 rest_list : (symbols after : List ℕ) (f n : ℕ) → f ≤ n → n ≤ length symbols → n - f ≤ length after
@@ -53,7 +57,7 @@ rest_list symbols after f n le wide room same =
 pub took_in : (K : ℕ) (self : Enforcer) (estimator : Estimator) (w byte : ℕ) (output : List ℕ) (f : ℕ) (symbols soon pending waits left : List ℕ)
     → length self.pending ≡ 16 → length symbols ≡ 17 → Padded 16 (self.count + 1 - f) pending → Padded 16 (self.count + 1 - f) waits → K ≤ 15
     → self.count ≤ K + 1
-    → take (self.count + 1) symbols ≡ pending_of self ++ byte ∷ []
+    → ((i : ℕ) → i < self.count → get_or symbols i 0 ≡ get_or self.pending i 0) → get_or symbols self.count 0 ≡ byte
     → ((i : ℕ) → i < self.count → get_or soon i 0 ≡ get_or self.waits i 0 - 1) → get_or soon self.count 0 ≡ w
     → Ready K self.count soon f
     → left ≡ take f symbols ++ drop f output
@@ -66,9 +70,9 @@ pub took_in : (K : ℕ) (self : Enforcer) (estimator : Estimator) (w byte : ℕ)
       pending = pending;
       waits = waits;
     }) left
-took_in K self estimator w byte output f symbols soon pending waits left l16 l17 padded padded' k15 few joined older newer ready poured down later =
-    let e : pending_of self ++ byte ∷ [] ≡ take (self.count + 1) symbols = sym joined in
-    let room : self.count ≤ length self.pending = omega arith in
+took_in K self estimator w byte output f symbols soon pending waits left l16 l17 padded padded' k15 few same last older newer ready poured down later =
+    let e : pending_of self ++ byte ∷ [] ≡ take (self.count + 1) symbols = joined_list self.pending symbols self.count byte (omega arith)
+    (omega arith) same last in
     let some = ready.some in
     let h16 = padded.size_is in
     record {
@@ -80,10 +84,10 @@ took_in K self estimator w byte output f symbols soon pending waits left l16 l17
       small = λ symbol old i h.
           let d = down i h in
           elim (dec_lt (f + i) self.count) [
-            | yes less ↦ omega (arith, joined_at self.pending symbols self.count byte (f + i) room joined less, old (f + i) less)
+            | yes less ↦ omega (arith, same (f + i) less, old (f + i) less)
             | no more ↦
                 let e : f + i ≡ self.count = omega arith in
-                omega (arith, ap (λ (k : ℕ). get_or symbols k 0) e, joined_last self.pending symbols self.count byte room joined)
+                omega (arith, ap (λ (k : ℕ). get_or symbols k 0) e, last)
           ];
       shifted = record {
         balance = omega arith;
@@ -134,14 +138,7 @@ ready_one K count soon full few waits = record {
     never (inl low) = omega arith
     never (inr z) = waits z
 
--- once the number is within its limit, the pending symbols decide
-pub pending_decide : (K : ℕ) (s : Enforcer) (b : Bool) → s.count ≤ K + 1 → Decided b ((i : ℕ) → i < s.count → get_or s.pending i 0 ≤ 31)
-    → Decided b (PendingWithin K s)
-pending_decide K s b few d =
-    decided_as {A = (i : ℕ) → i < s.count → get_or s.pending i 0 ≤ 31} {B = PendingWithin K s} b (λ all. record { few = few; small = all })
-    (λ both. both.small) d
-
--- and with the estimator's limits those of the enforcer
+-- the limits of the estimator and those of the pending symbols are those of the enforcer
 pub limits_joined : (K : ℕ) (s : Enforcer) → estimators.Limits K s.estimator → PendingWithin K s → Limits K s
 limits_joined K s li pending = record { estimator = li; few = pending.few; small = pending.small }
 

@@ -3,7 +3,7 @@
 // long enough; neither demands anything of its caller.
 #![tactic(auto)]
 
-ghost use Rattle.std.specs.Prelude.{◌≡◌, [], ◌∷◌, ◌++◌, ℕ, ◌+◌, ◌-◌, ◌≤◌, ◌<◌, length, get_or, take, drop};
+ghost use Rattle.std.specs.Prelude.{◌≡◌, ◌++◌, ℕ, ◌+◌, ◌-◌, ◌≤◌, ◌<◌, length, get_or, take, drop};
 ghost use Rattle.stateset.specs.Set.{Decided};
 ghost use Rattle.automaton.specs.Run.{WellFormed};
 ghost use Rattle.opacity.specs.Secrets.{secrets_of, Allowed};
@@ -113,7 +113,7 @@ pub fn largest_wait(header: Header, further: Further, verdicts: VerdictsBy) -> u
 // The first `count` of the bytes, and one more behind them.
 fn joined(bytes: &[u8], count: u8, byte: u8) -> [u8; 17]
     requires { (count ≤ 16) × (count ≤ length bytes.now) }
-    ensures { (length result ≡ 17) × (take (count + 1) result ≡ take count bytes.now ++ byte ∷ []) }
+    ensures { (length result ≡ 17) × ((i : ℕ) → i < count → get_or result i 0 ≡ get_or bytes.now i 0) × (get_or result count 0 ≡ byte) }
 {
     let n = count as usize;
     let mut longer = [0u8; 17];

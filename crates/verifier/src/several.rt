@@ -20,13 +20,8 @@ fn with_step(found: Verdict, entry: u64, then: u64, l: u8) -> Verdict
     ensures { WithStep entry then l found result }
 {
     match found {
-        Verdict::Leak(m) => Verdict::Leak(m),
-        Verdict::NoLeak => {
-            if entry & then == 0 {
-                return Verdict::Leak(l);
-            }
-            Verdict::NoLeak
-        }
+        Verdict::NoLeak if entry & then == 0 => Verdict::Leak(l),
+        _ => found,
     }
 }
 
@@ -34,15 +29,11 @@ fn with_step(found: Verdict, entry: u64, then: u64, l: u8) -> Verdict
 fn with_steps(found: VerdictsBy, entry: u64, then: StateSets, l: u8) -> VerdictsBy
     ensures { (i : ℕ) → i < 4 → WithStep entry (set_at then i) l (verdict_at found i) (verdict_at result i) }
 {
-    let own = found.own;
-    let first = found.first;
-    let second = found.second;
-    let third = found.third;
     VerdictsBy {
-        own: with_step(own, entry, then.own, l),
-        first: with_step(first, entry, then.first, l),
-        second: with_step(second, entry, then.second, l),
-        third: with_step(third, entry, then.third, l),
+        own: with_step(found.own, entry, then.own, l),
+        first: with_step(found.first, entry, then.first, l),
+        second: with_step(found.second, entry, then.second, l),
+        third: with_step(found.third, entry, then.third, l),
     }
 }
 
@@ -140,12 +131,7 @@ pub(crate) fn up_to(found: Verdict, last: u8) -> Verdict
         → Found notion p (secret_of secret n) n symbols entries found → Found notion p (secret_of secret last) n symbols entries result) }
 {
     match found {
-        Verdict::NoLeak => Verdict::NoLeak,
-        Verdict::Leak(l) => {
-            if last < l {
-                return Verdict::NoLeak;
-            }
-            Verdict::Leak(l)
-        }
+        Verdict::Leak(l) if last < l => Verdict::NoLeak,
+        _ => found,
     }
 }

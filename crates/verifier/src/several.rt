@@ -71,18 +71,13 @@ fn strong_verdicts(
     let last = estimator.count;
     let mut then = clear;
     let mut found = none_found();
-    let mut l: u8 = 0;
-    'steps: loop {
+    for l in 0..last {
         let at = l as usize;
-        let entry = entries[at];
-        found = with_steps(found, entry, then, l);
-        if l == last {
-            return found;
-        }
+        found = with_steps(found, entries[at], then, l);
         let shown = automaton::events_with(sets, symbols[at]);
         then = automaton::backward_reaches(table, back, states, clear, shown, then);
-        l += 1;
     }
+    with_steps(found, entries[last as usize], then, last)
 }
 
 // The states that are not in the secret with a number. None where it is not given: such a place costs no closure.

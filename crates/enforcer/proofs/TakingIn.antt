@@ -138,14 +138,7 @@ ready_one K count soon full few waits = record {
     never (inl low) = omega arith
     never (inr z) = waits z
 
--- once the number is within its limit, the pending symbols decide
-pub pending_decide : (K : ℕ) (s : Enforcer) (b : Bool) → s.count ≤ K + 1 → Decided b ((i : ℕ) → i < s.count → get_or s.pending i 0 ≤ 31)
-    → Decided b (PendingWithin K s)
-pending_decide K s b few d =
-    decided_as {A = (i : ℕ) → i < s.count → get_or s.pending i 0 ≤ 31} {B = PendingWithin K s} b (λ all. record { few = few; small = all })
-    (λ both. both.small) d
-
--- and with the estimator's limits those of the enforcer
+-- the limits of the estimator and those of the pending symbols are those of the enforcer
 pub limits_joined : (K : ℕ) (s : Enforcer) → estimators.Limits K s.estimator → PendingWithin K s → Limits K s
 limits_joined K s li pending = record { estimator = li; few = pending.few; small = pending.small }
 

@@ -20,6 +20,7 @@ use refusal::Refusal;
 use verifier::{EachSecret, Estimator};
 
 // The estimator, the notion, and the pending symbols, the oldest first, each with the number of later ones that it waits for (01: Holder).
+// (Two arrays beside their count: C holds an enforcer by value in this layout, and there is no heap for a Vec.)
 #[derive(Clone, Copy)]
 pub struct Enforcer {
     pub estimator: Estimator,
@@ -98,58 +99,38 @@ pub fn largest_wait(header: Header, further: Further, verdicts: EachSecret<Verdi
     automaton::larger(a, b)
 }
 
-// Writes the first `count` of the symbols, and one more, to the front of the array that is lent.
-fn joined(pending: [u8; 16], count: u8, byte: u8, to: &mut [u8])
-    requires { (count ≤ 16) × (length to.old ≡ 17) }
-    ensures { (length pending ≡ 16) × ((i : ℕ) → i < count → get_or to.new i 0 ≡ get_or pending i 0) × (get_or to.new count 0 ≡ byte) }
+// The first `count` of the bytes, and one more behind them.
+fn joined(bytes: &[u8], count: u8, byte: u8) -> [u8; 17]
+    requires { (count ≤ 16) × (count ≤ length bytes.now) }
+    ensures { (length result ≡ 17) × ((i : ℕ) → i < count → get_or result i 0 ≡ get_or bytes.now i 0) × (get_or result count 0 ≡ byte) }
 {
     let n = count as usize;
-    let mut i: usize = 0;
-    while i < n {
-        to[i] = pending[i];
-        i += 1;
-    }
-    to[n] = byte;
+    let mut longer = [0u8; 17];
+    longer[..n].copy_from_slice(&bytes[..n]);
+    longer[n] = byte;
+    longer
 }
 
-fn one_less(w: u8) -> u8
-    ensures { result ≡ w - 1 }
-{
-    if 0 < w {
-        return w - 1;
-    }
-    0
-}
-
-// Writes the first `count` of the waits, each one less, and one more, to the front of the array that is lent.
-fn nearer(waits: [u8; 16], count: u8, wait: u8, to: &mut [u8])
-    requires { (count ≤ 16) × (length to.old ≡ 17) }
-    ensures { ((i : ℕ) → i < count → get_or to.new i 0 ≡ get_or waits i 0 - 1) × (get_or to.new count 0 ≡ wait) }
+// The first `count` of the waits, each one less, and one more behind them.
+fn nearer(waits: &[u8], count: u8, wait: u8) -> [u8; 17]
+    requires { (count ≤ 16) × (count ≤ length waits.now) }
+    ensures { (length result ≡ 17) × ((i : ℕ) → i < count → get_or result i 0 ≡ get_or waits.now i 0 - 1) × (get_or result count 0 ≡ wait) }
 {
     let n = count as usize;
-    let mut i: usize = 0;
-    while i < n {
-        let w = waits[i];
-        to[i] = one_less(w);
-        i += 1;
+    let mut soon = [0u8; 17];
+    for (i, w) in waits[..n].iter().enumerate() {
+        soon[i] = w.saturating_sub(1);
     }
-    to[n] = wait;
+    soon[n] = wait;
+    soon
 }
 
-// How many of the first `n` waits are over, up to the first that is not.
-fn leading(waits: &[u8], n: u8) -> u8
-    requires { n ≤ length waits.now }
-    ensures { (result ≤ n) × ((i : ℕ) → i < result → get_or waits.now i 0 ≡ 0) × (result < n → get_or waits.now result 0 ≡ 0 → ⊥) }
+// How many of the waits are over, up to the first that is not.
+fn leading(waits: &[u8]) -> usize
+    ensures { (result ≤ length waits.now) × ((i : ℕ) → i < result → get_or waits.now i 0 ≡ 0)
+        × (result < length waits.now → get_or waits.now result 0 ≡ 0 → ⊥) }
 {
-    let mut i: u8 = 0;
-    while i < n {
-        let w = waits[i as usize];
-        if w != 0 {
-            return i;
-        }
-        i += 1;
-    }
-    i
+    waits.iter().take_while(|w| **w == 0).count()
 }
 
 // How many go: those whose waits are over, up to the first that is not; at least one where the enforcer is full.
@@ -157,13 +138,11 @@ fn ready(soon: &[u8], count: u8, k: u8) -> u8
     requires { (k ≤ 15) × (count ≤ k + 1) × (count < length soon.now) }
     ensures { Ready k count soon.now result }
 {
-    let n = leading(soon, count + 1);
-    if n == 0 {
-        if k < count {
-            return 1;
-        }
+    let n = leading(&soon[..count as usize + 1]);
+    if n == 0 && k < count {
+        return 1;
     }
-    n
+    n as u8
 }
 
 // What follows the first `from`, up to `n`; 0 behind it.
@@ -172,13 +151,7 @@ fn rest(a: &[u8], from: u8, n: u8) -> [u8; 16]
     ensures { Padded 16 (n - from) result × ((i : ℕ) → i < n - from → get_or result i 0 ≡ get_or a.now (from + i) 0) }
 {
     let mut r = [0u8; 16];
-    let f = from as usize;
-    let m = (n - from) as usize;
-    let mut i: usize = 0;
-    while i < m {
-        r[i] = a[f + i];
-        i += 1;
-    }
+    r[..(n - from) as usize].copy_from_slice(&a[from as usize..n as usize]);
     r
 }
 
@@ -188,11 +161,7 @@ fn write_front(a: &[u8], n: u8, output: &mut [u8])
     ensures { output.new ≡ take n a.now ++ drop n output.old }
 {
     let m = n as usize;
-    let mut i: usize = 0;
-    while i < m {
-        output[i] = a[i];
-        i += 1;
-    }
+    output[..m].copy_from_slice(&a[..m]);
 }
 
 impl Enforcer {
@@ -255,14 +224,7 @@ impl Enforcer {
     fn pending_within(self, k: u8) -> bool
         ensures { Decided result (PendingWithin k self) }
     {
-        let pending = self.pending;
-        let count = self.count;
-        if k < count {
-            if k + 1 < count {
-                return false;
-            }
-        }
-        automaton::in_range(&pending, count)
+        self.count.saturating_sub(1) <= k && automaton::in_range(&self.pending, self.count)
     }
 
     // As it was, with the reason.
@@ -289,24 +251,17 @@ impl Enforcer {
         ensures { Enqueues k self estimator w size byte output.old result.answer result.enforcer output.new }
     {
         let count = self.count;
-        let notion = self.notion;
-        let pending = self.pending;
-        let waits = self.waits;
-        let mut symbols = [0u8; 17];
-        joined(pending, count, byte, &mut symbols);
-        let mut soon = [0u8; 17];
-        nearer(waits, count, w, &mut soon);
+        let symbols = joined(&self.pending, count, byte);
+        let soon = nearer(&self.waits, count, w);
         let f = ready(&soon, count, k);
         write_front(&symbols, f, output);
-        let pending_after = rest(&symbols, f, count + 1);
-        let waits_after = rest(&soon, f, count + 1);
         OfferReply {
             enforcer: Enforcer {
-                estimator: estimator,
-                notion: notion,
+                estimator,
+                notion: self.notion,
                 count: count + 1 - f,
-                pending: pending_after,
-                waits: waits_after,
+                pending: rest(&symbols, f, count + 1),
+                waits: rest(&soon, f, count + 1),
             },
             answer: Ok(Release { count: f, size }),
         }

@@ -36,30 +36,17 @@ pub struct SearchReply {
 fn is_leak(verdict: Verdict) -> bool
     ensures { Decided result (verdict ≡ case.NoLeak → ⊥) }
 {
-    match verdict {
-        Verdict::NoLeak => false,
-        Verdict::Leak(_) => true,
-    }
+    matches!(verdict, Verdict::Leak(_))
 }
 
 // Whether one of the verdicts is a leak. (Those of a secret that is not given are none.)
 fn any_leak(verdicts: EachSecret<Verdict>) -> bool
     ensures { Decided result (LeakAmong verdicts) }
 {
-    let own = verdicts.own;
-    if is_leak(own) {
-        return true;
-    }
-    let first = verdicts.first;
-    if is_leak(first) {
-        return true;
-    }
-    let second = verdicts.second;
-    if is_leak(second) {
-        return true;
-    }
-    let third = verdicts.third;
-    is_leak(third)
+    is_leak(verdicts.own)
+        || is_leak(verdicts.first)
+        || is_leak(verdicts.second)
+        || is_leak(verdicts.third)
 }
 
 impl Search {
@@ -78,20 +65,13 @@ impl Search {
     fn within(self, table: &[u64], header: Header, more: usize) -> bool
         ensures { Decided result (Within table.now header self more) }
     {
-        let estimator = self.estimator;
-        if !estimator.well_formed(table, header) {
+        if !self.estimator.well_formed(table, header) {
             return false;
         }
         if self.found {
-            if self.accepted == 0 {
-                return false;
-            }
-            return true;
+            return self.accepted != 0;
         }
-        if u64::MAX - self.accepted < more as u64 {
-            return false;
-        }
-        true
+        more as u64 <= u64::MAX - self.accepted
     }
 
     // A search of no byte yet, with these further secrets. (The verdicts of the opening, which is no event, count for nothing.)
@@ -155,13 +135,11 @@ impl Search {
             };
         }
         let mut now = self;
-        let mut i: usize = 0;
-        while i < bytes.len() {
+        for byte in bytes {
             if now.found {
                 break;
             }
-            now = now.step(table, header, bytes[i]);
-            i += 1;
+            now = now.step(table, header, *byte);
         }
         SearchReply {
             search: now,

@@ -68,17 +68,9 @@ impl Monitor {
     fn balanced(self) -> bool
         ensures { Decided result (Balanced self) }
     {
-        let enforcer = self.enforcer;
-        if self.offered < self.accepted {
-            return false;
-        }
-        if self.accepted < self.released {
-            return false;
-        }
-        if self.accepted - self.released != enforcer.count as u32 {
-            return false;
-        }
-        true
+        self.released <= self.accepted
+            && self.accepted <= self.offered
+            && self.accepted - self.released == u32::from(self.enforcer.count)
     }
 
     // The table and the header are an automaton, and the monitor is within its limits.
@@ -116,19 +108,19 @@ impl Monitor {
         }
         let mut now = self;
         let mut next = at;
-        let mut i: usize = 0;
-        while i < events.len() {
+        let mut taken = 0;
+        for byte in events {
             if !now.ready(out, next) {
                 break;
             }
-            let entry = now.step(table, header, events[i], out, next);
+            let entry = now.step(table, header, *byte, out, next);
             now = entry.monitor;
             next = entry.next;
-            i += 1;
+            taken += 1;
         }
         Advanced {
             monitor: now,
-            answer: Ok(Advance { taken: i, next }),
+            answer: Ok(Advance { taken, next }),
         }
     }
 
@@ -151,20 +143,17 @@ impl Monitor {
 pub fn front_size(high: u8, low: u8) -> usize
     ensures { result ≡ 2 + (high * 256 + low) }
 {
-    2 + ((high as usize) * 256 + low as usize)
+    2 + usize::from(u16::from_be_bytes([high, low]))
 }
 
 // Whether the bytes have a log's length and its encoding whole.
 pub fn has_encoding(log: &[u8]) -> bool
     ensures { Decided result (front_size log.now ≤ length log.now) }
 {
-    if log.len() < 2 {
+    let [high, low, ..] = log else {
         return false;
-    }
-    if log.len() < front_size(log[0], log[1]) {
-        return false;
-    }
-    true
+    };
+    front_size(*high, *low) <= log.len()
 }
 
 // Opens a log by its first bytes: all of its length and its encoding, unless the log ends before that.

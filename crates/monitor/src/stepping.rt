@@ -30,16 +30,7 @@ impl Monitor {
     pub(crate) fn ready(self, out: &[u8], at: usize) -> bool
         ensures { Decided result (Ready self out.now at) }
     {
-        if self.offered == u32::MAX {
-            return false;
-        }
-        if out.len() < report::LINE {
-            return false;
-        }
-        if out.len() - report::LINE < at {
-            return false;
-        }
-        true
+        self.offered != u32::MAX && report::LINE <= out.len() && at <= out.len() - report::LINE
     }
 
     // A refused event byte: its line.

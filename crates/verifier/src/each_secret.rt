@@ -16,15 +16,6 @@ use estimates::look_back::{
 };
 use opacity::{Secret, Verdict, Verdicts};
 
-fn smaller(a: u8, b: u8) -> u8
-    ensures { result ≡ min a b }
-{
-    if a < b {
-        return a;
-    }
-    b
-}
-
 // The verdicts of the automaton's own secret, where no further one shares what is worked out: by the notions that are asked for, and none for the
 // others. Each look back goes over all that is remembered, which is no more than the own K, and stops where it can.
 fn judge_alone(
@@ -83,16 +74,14 @@ fn judge(
         × StrongGiven table.now header estimator asked secret found }
     ensures { Judged table.now header estimator secret asked result }
 {
-    let last = smaller(secret.k, estimator.count);
-    let states = secret.states;
+    let last = secret.k.min(estimator.count);
     let mut weak = Verdict::NoLeak;
     if asked.weak {
-        weak = first_secret(past, states, last);
+        weak = first_secret(past, secret.states, last);
     }
-    let strong = up_to(found, last);
     Verdicts {
-        weak: weak,
-        strong: strong,
+        weak,
+        strong: up_to(found, last),
     }
 }
 

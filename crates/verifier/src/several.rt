@@ -20,13 +20,8 @@ fn with_step(found: Verdict, entry: u64, then: u64, l: u8) -> Verdict
     ensures { WithStep entry then l found result }
 {
     match found {
-        Verdict::Leak(m) => Verdict::Leak(m),
-        Verdict::NoLeak => {
-            if entry & then == 0 {
-                return Verdict::Leak(l);
-            }
-            Verdict::NoLeak
-        }
+        Verdict::NoLeak if entry & then == 0 => Verdict::Leak(l),
+        _ => found,
     }
 }
 
@@ -34,15 +29,11 @@ fn with_step(found: Verdict, entry: u64, then: u64, l: u8) -> Verdict
 fn with_steps(found: EachSecret<Verdict>, entry: u64, then: StateSets, l: u8) -> EachSecret<Verdict>
     ensures { (i : ℕ) → i < 4 → WithStep entry (set_at then i) l (verdict_at found i) (verdict_at result i) }
 {
-    let own = found.own;
-    let first = found.first;
-    let second = found.second;
-    let third = found.third;
     EachSecret {
-        own: with_step(own, entry, then.own, l),
-        first: with_step(first, entry, then.first, l),
-        second: with_step(second, entry, then.second, l),
-        third: with_step(third, entry, then.third, l),
+        own: with_step(found.own, entry, then.own, l),
+        first: with_step(found.first, entry, then.first, l),
+        second: with_step(found.second, entry, then.second, l),
+        third: with_step(found.third, entry, then.third, l),
     }
 }
 
@@ -80,18 +71,13 @@ fn strong_verdicts(
     let last = estimator.count;
     let mut then = clear;
     let mut found = none_found();
-    let mut l: u8 = 0;
-    'steps: loop {
+    for l in 0..last {
         let at = l as usize;
-        let entry = entries[at];
-        found = with_steps(found, entry, then, l);
-        if l == last {
-            return found;
-        }
+        found = with_steps(found, entries[at], then, l);
         let shown = automaton::events_with(sets, symbols[at]);
         then = automaton::backward_reaches(table, back, states, clear, shown, then);
-        l += 1;
     }
+    with_steps(found, entries[last as usize], then, last)
 }
 
 // The states that are not in the secret with a number. None where it is not given: such a place costs no closure.
@@ -140,12 +126,7 @@ pub(crate) fn up_to(found: Verdict, last: u8) -> Verdict
         → Found notion p (secret_of secret n) n symbols entries found → Found notion p (secret_of secret last) n symbols entries result) }
 {
     match found {
-        Verdict::NoLeak => Verdict::NoLeak,
-        Verdict::Leak(l) => {
-            if last < l {
-                return Verdict::NoLeak;
-            }
-            Verdict::Leak(l)
-        }
+        Verdict::Leak(l) if last < l => Verdict::NoLeak,
+        _ => found,
     }
 }

@@ -11,7 +11,6 @@ use explore::ExploreAnswer;
 use layout::sizes;
 use leaks::LeakAnswer;
 use verifier::{Answer, Estimator};
-use witness::{Answer as Witness, Checked};
 
 // The refusal of a slice that has not the length of its layout, and of a notion that is none.
 const MALFORMED: u8 = 9;
@@ -322,8 +321,8 @@ pub fn opacity_witness(
         output,
     );
     match answer {
-        Witness::Refused(refusal) => refusal::number(refusal),
-        Witness::Written(written) => {
+        Err(refusal) => refusal::number(refusal),
+        Ok(written) => {
             layout::write_run(run, written.start, written.pairs);
             0
         }
@@ -368,13 +367,9 @@ pub fn opacity_check_witness(
         pairs,
     );
     match checked {
-        Checked::Refused(refusal) => refusal::number(refusal),
-        Checked::Valid => {
-            layout::write_valid(valid, true);
-            0
-        }
-        Checked::Invalid => {
-            layout::write_valid(valid, false);
+        Err(refusal) => refusal::number(refusal),
+        Ok(holds) => {
+            layout::write_valid(valid, holds);
             0
         }
     }

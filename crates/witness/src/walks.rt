@@ -22,12 +22,10 @@ fn layers_to(back: &[u64], allowed: u64, target: u64, layers: &mut [u64]) -> u64
 {
     let mut done = target & allowed;
     let mut wave = done;
-    let mut d: usize = 0;
-    while d < 64 {
-        layers[d] = wave;
+    for layer in layers.iter_mut() {
+        *layer = wave;
         wave = relation::image(back, wave) & allowed & !done;
         done |= wave;
-        d += 1;
     }
     done
 }
@@ -37,13 +35,12 @@ fn layer_of(layers: &[u64], state: usize) -> usize
     requires { (length layers.now ≡ 64) × ((d : ℕ) × (d < 64) × In state (get_or layers.now d 0)) }
     ensures { (result < 64) × In state (get_or layers.now result 0) }
 {
-    let mut d: usize = 0;
-    loop {
-        if stateset::member(layers[d], state) {
+    for (d, layer) in layers.iter().enumerate() {
+        if stateset::member(*layer, state) {
             return d;
         }
-        d += 1;
     }
+    unreachable!()
 }
 
 // An event of the mask that leads from a state into a set, of which there is one.
@@ -107,14 +104,13 @@ pub fn silent_walk(
     layers_to(back, allowed, target, &mut layers);
     let mut q = state;
     let mut at = from;
-    let mut d = layer_of(&layers, state as usize);
-    while 0 < d {
-        d -= 1;
+    let first = layer_of(&layers, state as usize);
+    for d in (0..first).rev() {
         let next = put_step(table, silent, layers[d], q, at, output);
         q = next.state;
         at = next.at;
     }
-    Place { state: q, at: at }
+    Place { state: q, at }
 }
 
 // Writes unobservable steps and one step by an event of the mask, whose events show one symbol, into a set of allowed states.

@@ -8,7 +8,7 @@ ghost use Rattle.witness.specs.Answers.{told, Written};
 ghost use Rattle.witness.specs.Inner.{Prepared, Moved, LookedBack, Candidate};
 
 use super::walks::{Place, observable_walk, silent_walk};
-use super::{Answer, Run, allowed_by, word_at};
+use super::{Run, allowed_by, word_at};
 use automaton::Header;
 use opacity::Notion;
 use refusal::Refusal;
@@ -28,15 +28,11 @@ fn look_back(
     ensures { (p : Automaton) (silent : ℕ) → Prepared p table.now silent back.now sets.now
         → LookedBack p allowed symbols k result }
 {
-    let n = k as usize;
     let mut then = [0u64; 16];
     then[0] = allowed;
-    let mut i: usize = 0;
-    while i < n {
+    for i in 0..k as usize {
         let events = automaton::events_with(sets, symbols[i]);
-        let next = automaton::backward_reach(table, back, allowed, events, then[i]);
-        i += 1;
-        then[i] = next;
+        then[i + 1] = automaton::backward_reach(table, back, allowed, events, then[i]);
     }
     then
 }
@@ -62,16 +58,13 @@ fn follow_symbols(
 {
     let mut q = state;
     let mut at = from;
-    let mut i = k;
-    while 0 < i {
-        i -= 1;
-        let n = i as usize;
-        let events = automaton::events_with(sets, symbols[n]);
-        let next = observable_walk(table, silent, back, allowed, events, then[n], q, at, output);
+    for i in (0..k as usize).rev() {
+        let events = automaton::events_with(sets, symbols[i]);
+        let next = observable_walk(table, silent, back, allowed, events, then[i], q, at, output);
         q = next.state;
         at = next.at;
     }
-    Place { state: q, at: at }
+    Place { state: q, at }
 }
 
 // Writes a run from an entry set over the last k symbols: first to a state that is not secret, then symbol by symbol.
@@ -87,7 +80,7 @@ fn write_run(
     k: u8,
     entry: u64,
     output: &mut [u8],
-) -> Answer
+) -> Result<Run, Refusal>
     requires { (length table.now ≡ 2048) × (k ≤ 15) × ((p : Automaton) × Prepared p table.now silent back.now sets.now
         × LookedBack p allowed symbols k then) × (2172 ≤ length output.old) }
     ensures { (p : Automaton) → Prepared p table.now silent back.now sets.now → LookedBack p allowed symbols k then
@@ -98,7 +91,7 @@ fn write_run(
     let reached = relation::closure(back, allowed, target);
     let starts = entry & reached;
     if starts == 0 {
-        return Answer::Refused(Refusal::NoWitness);
+        return Err(Refusal::NoWitness);
     }
     let start = u64::trailing_zeros(starts) as u8;
     let clear = silent_walk(table, silent, back, allowed, target, start, 0, output);
@@ -115,8 +108,8 @@ fn write_run(
         clear.at,
         output,
     );
-    Answer::Written(Run {
-        start: start,
+    Ok(Run {
+        start,
         pairs: last.at / 2,
     })
 }
@@ -142,7 +135,7 @@ pub fn write_witness(
     secret: u64,
     k: u8,
     output: &mut [u8],
-) -> Answer
+) -> Result<Run, Refusal>
     requires { WellFormed table.now header × InLimits header estimator × (k ≤ estimator.count) × (2172 ≤ length output.old) }
     ensures { Written (WitnessIn notion (automaton_of table.now header) secret estimator k) output.old (told result)
         output.new }

@@ -1,5 +1,6 @@
 -- What stands at the front of the output: the form that `canonical` wrote, or the line of its refusal; and it is the output of every input that begins so
 -- where what was gathered is longer than any encoding. Assumes nothing.
+use Rattle.std.specs.Prelude.{Option}
 use mathlib.Core.Path.{◌≡◌, refl, sym, ap, subst, ◌∙◌}
 use mathlib.Core.List.{List, [], ◌∷◌, ◌++◌}
 use mathlib.Core.Logic.{inr}
@@ -15,7 +16,6 @@ use Rattle.canonical.specs.Meanings.{meaning_of}
 use Rattle.canonical.specs.Writing.{wrote, refuse, Writing}
 use Rattle.canonical.proofs.OneForm.{form_longest}
 use Rattle.canonical.proofs.Calls.{call_wrote, front_is}
-use Rattle.report.specs.declared.Line.{Line}
 use Rattle.report.specs.Text.{decimal, line, refused_log}
 use Rattle.report.specs.Writing.{room_for, Written, no_room, written}
 use Rattle.streams.specs.declared.Gathered.{Gathered}
@@ -36,7 +36,7 @@ form_stands bytes output after n w =
     }
 
 -- the line of a refusal
-line_stands : {bytes text out out' : List ℕ} {line : Line} → OutputOf bytes text → 2210 ≤ length out → Written (room_for 0) out 0 text line out'
+line_stands : {bytes text out out' : List ℕ} {line : Option ℕ} → OutputOf bytes text → 2210 ≤ length out → Written (room_for 0) out 0 text line out'
     → Stands bytes (place_of line 0) out'
 line_stands o room (no_room narrow) = absurd (narrow (omega arith))
 line_stands {bytes} {text} {out} o room (written space fit) = record {
@@ -52,7 +52,7 @@ refusal_kept bytes output after k r e room (Writing.refused q d) =
 refusal_kept bytes output after k r e room (Writing.too_small f next d l) =
     absurd (omega (arith, form_longest bytes (meaning_of f) (record { encoded = f; next = next; decodes = d; meaning = refl })))
 
-pub refusal_stands : (bytes output after : List ℕ) (r : Refusal) (line : Line) (out' : List ℕ) → 2210 ≤ length output
+pub refusal_stands : (bytes output after : List ℕ) (r : Refusal) (line : Option ℕ) (out' : List ℕ) → 2210 ≤ length output
     → Writing bytes output (refuse (number_of r)) after → Written (room_for 0) after 0 (refused_log r) line out' → Stands bytes (place_of line 0) out'
 refusal_stands bytes output after r line out' room w p =
     let kept = refusal_kept bytes output after (number_of r) r refl room w in

@@ -8,7 +8,6 @@ use decoding::Answer as Decoded;
 use enforcer::Enforcer;
 use layout::sizes;
 use verifier::Estimator;
-use witness::{Answer as Witness, Checked};
 
 // The refusal of a slice that has not the length of its layout, and of a notion that is none.
 const MALFORMED: u8 = 9;
@@ -314,8 +313,8 @@ pub fn opacity_witness(
         output,
     );
     match answer {
-        Witness::Refused(refusal) => refusal::number(refusal),
-        Witness::Written(written) => {
+        Err(refusal) => refusal::number(refusal),
+        Ok(written) => {
             layout::write_run(run, written.start, written.pairs);
             0
         }
@@ -360,13 +359,9 @@ pub fn opacity_check_witness(
         pairs,
     );
     match checked {
-        Checked::Refused(refusal) => refusal::number(refusal),
-        Checked::Valid => {
-            layout::write_valid(valid, true);
-            0
-        }
-        Checked::Invalid => {
-            layout::write_valid(valid, false);
+        Err(refusal) => refusal::number(refusal),
+        Ok(holds) => {
+            layout::write_valid(valid, holds);
             0
         }
     }

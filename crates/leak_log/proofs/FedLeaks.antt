@@ -1,4 +1,5 @@
 -- What a search has told: the line at the front of the output is the output of the input by the definitions. Assumes nothing.
+use Rattle.std.specs.Prelude.{Option}
 use mathlib.Core.Path.{◌≡◌, refl, sym, ap, subst, ◌∙◌}
 use mathlib.Core.Bool.{true, false}
 use mathlib.Core.List.{List, [], ◌∷◌, ◌++◌, append_assoc, append-nil}
@@ -20,7 +21,6 @@ use Rattle.leaks.specs.FirstLeaks.{Said, nowhere, FirstLeak, NoneLeaks}
 use Rattle.leaks.specs.Searches.{Searched, Beginning, SearchedOn, Advancing}
 use Rattle.leaks.proofs.Leaking.{first_kept}
 use Rattle.leaks.proofs.Searching.{absent, on_start, on_then}
-use Rattle.report.specs.declared.Line.{Line}
 use Rattle.report.specs.Text.{place_line, no_place_line}
 use Rattle.report.specs.Writing.{room_for, Written, no_room, written}
 use Rattle.monitor.specs.Opening.{refused, front_size, Decodes}
@@ -39,11 +39,11 @@ use Rattle.leak_log.proofs.ReadingOn.{few_brought, block_brought, still, block_c
 
 -- ---- one line at the front of an output
 
-line_is : {text out out' : List ℕ} {line : Line} → 64 ≤ length out → Written (room_for 0) out 0 text line out' → take (place_of line 0) out' ≡ text
+line_is : {text out out' : List ℕ} {line : Option ℕ} → 64 ≤ length out → Written (room_for 0) out 0 text line out' → take (place_of line 0) out' ≡ text
 line_is room (no_room full) = absurd (full (omega arith))
 line_is {text = text} {out = out} room (written space fit) = take_is text out 0 (inr (omega arith))
 
-put : {text out out' : List ℕ} {line : Line} (notion : Notion) (input : List ℕ) → 64 ≤ length out → Written (room_for 0) out 0 text line out'
+put : {text out out' : List ℕ} {line : Option ℕ} (notion : Notion) (input : List ℕ) → 64 ≤ length out → Written (room_for 0) out 0 text line out'
     → Output notion input text → Output notion input (take (place_of line 0) out')
 put notion input room w o = subst (Output notion input) (sym (line_is room w)) o
 

@@ -1,6 +1,6 @@
 -- A log that is searched, read after read, and its one line. No contract says which bytes a system call brings or takes: the bytes of a read are those at
 -- the front of the lent input after it, as many as it answered. That they are the input's, and that a line that was written out is out, is tested.
-use Rattle.std.specs.Prelude.{◌≡◌, true, false, List, [], ◌++◌, ◌⊎◌, ℕ, ◌-◌, ◌≤◌, ◌<◌, length, take, drop}
+use Rattle.std.specs.Prelude.{◌≡◌, true, false, List, [], ◌++◌, ◌⊎◌, ℕ, ◌-◌, ◌≤◌, ◌<◌, length, take, drop, Option}
 use Rattle.refusal.specs.Refusals.{number_of}
 use Rattle.refusal.specs.declared.Refusal.{Refusal}
 use Rattle.automaton.specs.declared.Header.{Header}
@@ -8,7 +8,6 @@ use Rattle.opacity.specs.declared.Notion.{Notion}
 use Rattle.leaks.specs.declared.Search.{Search}
 use Rattle.leaks.specs.FirstLeaks.{Said}
 use Rattle.leaks.specs.Searches.{Advancing}
-use Rattle.report.specs.declared.Line.{Line}
 use Rattle.report.specs.Text.{place_line, no_place_line}
 use Rattle.report.specs.Writing.{room_for, Written}
 use Rattle.monitor.specs.Opening.{refused, started}
@@ -60,7 +59,7 @@ pub record Fed (t : List ℕ) (h : Header) (left : ℕ) (s : Search) (r : Rest) 
 
 -- one line, at the front of the output
 pub record OneLine (text out out' : List ℕ) : Type 0 where
-  pub line : Line
+  pub line : Option ℕ
   pub put : Written (room_for 0) out 0 text line out'
 
 -- the end of a search: where the bytes could be read, its one line

@@ -1,5 +1,6 @@
 -- What a log has printed: with the lines that were written out before each read, the first bytes of the output are the output of all that was
 -- handed on, by the definitions. Assumes nothing.
+use Rattle.std.specs.Prelude.{Option}
 use mathlib.Core.Path.{◌≡◌, refl, sym, ap, subst, ◌∙◌}
 use mathlib.Core.List.{List, [], ◌++◌, append_assoc, append-nil}
 use mathlib.Core.Logic.{◌⊎◌, inl, inr}
@@ -12,7 +13,6 @@ use Rattle.automaton.specs.declared.Header.{Header}
 use Rattle.refusal.specs.declared.Refusal.{Refusal}
 use Rattle.report.specs.Text.{refused_log}
 use Rattle.report.specs.Writing.{room_for, room_at_end, Written, no_room, written}
-use Rattle.report.specs.declared.Line.{Line}
 use Rattle.monitor.specs.Stepping.{Within, Lines, place_of}
 use Rattle.monitor.specs.Opening.{refused, started, Opening}
 use Rattle.monitor.specs.Ending.{last_lines}
@@ -266,7 +266,7 @@ last_of {r = r} {out = out} gone kept room not (emptied full l) =
     record { gone = gone ++ take r.at out; kept = append-nil (gone ++ take r.at out) ∙ kept; room = omega arith; monitor = refl }
 last_of gone kept room not (closed full) = absurd (not refl)
 
-print_last : {input out out' : List ℕ} {at : ℕ} (gone text end : List ℕ) {line : Line} → gone ++ take at out ≡ text → at + 256 ≤ length out
+print_last : {input out out' : List ℕ} {at : ℕ} (gone text end : List ℕ) {line : Option ℕ} → gone ++ take at out ≡ text → at + 256 ≤ length out
     → Output input (text ++ end)
     → Written room_at_end out at end line out' → HasPrinted input out' (place_of line 0)
 print_last gone text end kept room o (no_room full) = absurd (full (omega arith))
@@ -303,7 +303,7 @@ refused-log : {first input t out out' : List ℕ} {h : Header} {m : Monitor} (r 
     → 256 ≤ length out → (l : RefusalLine r out out') → HasPrinted input out' (place_of l.line 0)
 refused-log {input = input} {out = out} {out' = out'} r f o room l = go out' l.line l.put
   where
-    go : (after : List ℕ) (line : Line) → Written (room_for 0) out 0 (refused_log r) line after → HasPrinted input after (place_of line 0)
+    go : (after : List ℕ) (line : Option ℕ) → Written (room_for 0) out 0 (refused_log r) line after → HasPrinted input after (place_of line 0)
     go after line (no_room full) = absurd (full (omega arith))
     go after line (written space fit) = record {
       gone = [];

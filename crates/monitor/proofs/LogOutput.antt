@@ -1,4 +1,5 @@
 -- What the monitor's functions write for an input, called as a program calls them, is the output by the definitions. Assumes nothing.
+use Rattle.std.specs.Prelude.{Some}
 use mathlib.Core.Path.{◌≡◌, refl, sym, ap, subst, ◌∙◌}
 use mathlib.Core.List.{List, [], ◌∷◌, ◌++◌, append_assoc, append-nil}
 use mathlib.Core.Logic.{◌⊎◌, inl, inr, ◌↔◌}
@@ -20,7 +21,6 @@ use Rattle.enforcer.specs.declared.Enforcer.{Enforcer}
 use Rattle.enforcer.specs.Enforcers as enforcers
 use Rattle.enforcer.specs.Offerings.{not_started, Starting}
 use Rattle.enforcer.specs.SafePrefix.{Safe}
-use Rattle.report.specs.declared.Line.TheVariants.{Next}
 use Rattle.report.specs.Text.{idle_line, end_line}
 use Rattle.report.specs.Writing.{Written, written}
 use Rattle.monitor.specs.Stepping.{Within, Event, Followed, bytes_of, lines_of, Lines}
@@ -109,7 +109,7 @@ slice_is [] out at h = ap (λ (k : ℕ). slice at k out) (add-zero at) ∙ slice
 slice_is (x ∷ l) out at (inl e) = let z : ◌≡◌ {A = ℕ} 0 1 = cc in absurd (omega arith)
 slice_is (x ∷ l) out at (inr h) = slice_sets (x ∷ l) out at h
 
-line_is : {room at : ℕ} {out text : List ℕ} {next : ℕ} {out' : List ℕ} → Written room out at text (Next next) out' → slice at next out' ≡ text
+line_is : {room at : ℕ} {out text : List ℕ} {next : ℕ} {out' : List ℕ} → Written room out at text (Some next) out' → slice at next out' ≡ text
 line_is {at = at} {out = out} {text = text} (written free fit) = slice_sets text out at (omega arith)
 
 no_lines : {t : List ℕ} {h : Header} {m e : Monitor} {text : List ℕ} → Lines t h m [] text e → (text ≡ []) × (e ≡ m)

@@ -1,4 +1,5 @@
 -- A step's outcome, from what the verifier and the enforcer answered and what was printed. Assumes nothing.
+use Rattle.std.specs.Prelude.{Option}
 use mathlib.Core.Path.{◌≡◌, refl, sym, ap, subst}
 use mathlib.Core.Logic.{inr}
 use mathlib.Core.List.{List}
@@ -19,7 +20,6 @@ use Rattle.enforcer.specs.declared.Enforcer.{Enforcer}
 use Rattle.enforcer.specs.Enforcers as enforcers
 use Rattle.enforcer.specs.Offerings as enforcer
 use Rattle.enforcer.specs.Offerings.{Offering}
-use Rattle.report.specs.declared.Line.{Line}
 use Rattle.report.specs.Text.{accepted_line, refused_line}
 use Rattle.report.specs.Writing.{Written, no_room, written}
 use Rattle.monitor.specs.Stepping.{Within, Countable, offered_once, accepted_once, not_verified, not_enforced, accepted, place_of, Printed, Stepped}
@@ -29,7 +29,7 @@ use Rattle.verifier.specs.declared.Judgement.{Judgement}
 use Rattle.opacity.specs.declared.Verdicts.{Verdicts}
 
 -- a line for which there is room
-pub printed : {room at : ℕ} {before text after : List ℕ} {line : Line} → at + room ≤ length before → Written room before at text line after
+pub printed : {room at : ℕ} {before text after : List ℕ} {line : Option ℕ} → at + room ≤ length before → Written room before at text line after
     → Printed before at text (place_of line at) after
 printed h (no_room full) = absurd (full h)
 printed {room} {at} {before} {text} h (written free fit) = record { bytes = refl; place = refl; inside = inr (omega arith); size = length-sets before at text }

@@ -1,11 +1,10 @@
 -- How a program runs the monitor on an input, in terms of the contracts of the functions that it calls: `open` with the first bytes of the input,
 -- `advance` on the event bytes as they come, `end`.
-use Rattle.std.specs.Prelude.{◌≡◌, List, [], ◌++◌, ◌⊎◌, ℕ, ◌+◌, ◌≤◌, ◌<◌, length, drop}
+use Rattle.std.specs.Prelude.{◌≡◌, List, [], ◌++◌, ◌⊎◌, ℕ, ◌+◌, ◌≤◌, ◌<◌, length, drop, Some}
 use Rattle.std.proofs.Math.Seq.{slice}
 use Rattle.refusal.specs.Refusals.{number_of}
 use Rattle.automaton.specs.declared.Header.{Header}
 use Rattle.refusal.specs.declared.Refusal.{Refusal}
-use Rattle.report.specs.declared.Line.TheVariants.{Next}
 use Rattle.report.specs.Text.{refused_log}
 use Rattle.report.specs.Writing.{room_for, room_at_end, Written}
 use Rattle.monitor.specs.Opening as opening
@@ -46,7 +45,7 @@ pub data Follows (t : List ℕ) (h : Header) : Monitor → (left text : List ℕ
 -- all calls for an input, and all that they wrote
 pub data Runs (input : List ℕ) : List ℕ → Type 0 where
   refused : {first t out out' : List ℕ} {h : Header} {m : Monitor} {at next : ℕ} (r : Refusal) → Front first input
-      → Opening first (opening.refused (number_of r)) t h m → Written (room_for 0) out at (refused_log r) (Next next) out' → Runs input (slice at next out')
+      → Opening first (opening.refused (number_of r)) t h m → Written (room_for 0) out at (refused_log r) (Some next) out' → Runs input (slice at next out')
   ended : {first t text out out' : List ℕ} {h : Header} {m e : Monitor} {n at next : ℕ} → Front first input
       → Opening first (opening.started n) t h m → Follows t h m (drop n input) text e
-      → Written room_at_end out at (last_lines e) (Next next) out' → Runs input (text ++ slice at next out')
+      → Written room_at_end out at (last_lines e) (Some next) out' → Runs input (text ++ slice at next out')

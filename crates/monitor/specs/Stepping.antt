@@ -1,5 +1,5 @@
 -- What one event byte of a log, and then several, make of a monitor, and the lines that they print.
-use Rattle.std.specs.Prelude.{◌≡◌, List, [], ◌∷◌, ◌⊎◌, ℕ, ◌+◌, ◌≤◌, length, take}
+use Rattle.std.specs.Prelude.{◌≡◌, List, [], ◌∷◌, ◌⊎◌, ℕ, ◌+◌, ◌≤◌, length, take, Option, unwrap_or}
 use Rattle.std.proofs.lemmas.List.Edits.{sets}
 use Rattle.lists.specs.Calls.{Chain, joined}
 use Rattle.automaton.specs.Run.{WellFormed}
@@ -15,8 +15,6 @@ use Rattle.enforcer.specs.declared.Release.{Release}
 use Rattle.enforcer.specs.Enforcers as enforcers
 use Rattle.enforcer.specs.Offerings as enforcer
 use Rattle.enforcer.specs.Offerings.{Offering}
-use Rattle.report.specs.declared.Line.{Line}
-use Rattle.report.specs.declared.Line.TheVariants.{Next, NoRoom}
 use Rattle.report.specs.Text.{accepted_line, refused_line}
 use Rattle.monitor.specs.declared.Monitor.{Monitor}
 use Rattle.verifier.specs.declared.Judgement.{Judgement}
@@ -104,9 +102,8 @@ pub record Printed (out : List ℕ) (at : ℕ) (text : List ℕ) (next : ℕ) (o
   pub inside : (text ≡ []) ⊎ (at + length text ≤ length out)
   pub size : length out' ≡ length out
 
-abbrev pub place_of : Line → ℕ → ℕ
-place_of (Next n) at = n
-place_of NoRoom at = at
+abbrev pub place_of : Option ℕ → ℕ → ℕ
+place_of line at = unwrap_or line at
 
 -- one event byte, its line, and the monitor after it
 pub record Stepped (t : List ℕ) (h : Header) (m : Monitor) (byte : ℕ) (out : List ℕ) (at : ℕ) (after : Monitor) (next : ℕ) (out' : List ℕ) : Type 0 where

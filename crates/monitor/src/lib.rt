@@ -18,7 +18,6 @@ use enforcer::Enforcer;
 use opacity::Verdicts;
 use opening::{refused, start};
 use refusal::Refusal;
-use report::Line;
 use verifier::{Estimator, Judgement};
 
 // The opening verdicts with how many states are possible, the verifier's and the enforcer's state, and how many event bytes were offered, events accepted,
@@ -126,7 +125,7 @@ impl Monitor {
 
     // The last line of a log: how many events were accepted, released and are pending. Where no event byte was offered, the line of the opening comes before
     // it.
-    pub fn end(self, out: &mut [u8], at: usize) -> Line
+    pub fn end(self, out: &mut [u8], at: usize) -> Option<usize>
         ensures { Written room_at_end out.old at (last_lines self) result out.new }
     {
         let enforcer = self.enforcer;

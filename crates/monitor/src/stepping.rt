@@ -12,17 +12,13 @@ use automaton::Header;
 use enforcer::Enforcer;
 use opacity::Verdicts;
 use refusal::Refusal;
-use report::Line;
 use verifier::{Estimator, Judgement};
 
 // Where the next line goes. (There is room for every line that is written here.)
-fn place(line: Line, at: usize) -> usize
+fn place(line: Option<usize>, at: usize) -> usize
     ensures { result ≡ place_of line at }
 {
-    match line {
-        Line::Next(next) => next,
-        Line::NoRoom => at,
-    }
+    line.unwrap_or(at)
 }
 
 impl Monitor {

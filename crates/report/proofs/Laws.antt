@@ -5,11 +5,14 @@ use native.Mathlib.Omega.{arith}
 use mathlib.Core.Path.{◌≡◌, refl, sym, ap, ◌∙◌, subst}
 use mathlib.Core.List.{List, [], ◌∷◌, ◌++◌, append_assoc, append-nil, map}
 use lib.ListN.{length, take, drop, get_or, length-append}
-use lib.Seq.{sets, take-suc, take_all}
+use lib.Seq.{sets, sets-eq, length-sets, take-suc, take_all}
+use borrow.Rule.Slice.PartMut.{put_mid}
+use Rattle.std.proofs.lemmas.Slice.{put_mid-paste}
+use Rattle.std.proofs.lemmas.List.Edits.{paste_all}
 use Rattle.lists.proofs.Filled.{sets_append}
 use Rattle.report.specs.Text.{decimal, led, line, symbols}
 use Rattle.report.specs.Writing.{Wrote, Written, written}
-use Rattle.report.specs.declared.Line.TheVariants.{Next}
+use Rattle.std.specs.Prelude.{Some}
 
 -- two texts, one behind the other
 pub then : {m n at next next' : ℕ} {d d' d'' xs ys : List ℕ} → Wrote m d at xs d' next → Wrote n d' next ys d'' next' → Wrote (m + n) d at (xs ++ ys) d'' next'
@@ -41,6 +44,14 @@ fit {m} {n} {at} {next} {d} {d'} {xs} {ys} e h p = record {
   limit = omega (arith, ap length e);
   size = p.size;
 }
+
+-- a text that was copied
+pub copied : {at k next : ℕ} {d s r : List ℕ} → at + length s ≤ length d → r ≡ s → length s ≡ k → next ≡ at + length s
+    → Wrote (length s) d at s (put_mid at k d r) next
+copied {at} {k} {next} {d} {s} {r} room e n p =
+    let b : put_mid at k d r ≡ sets d at s = put_mid-paste at k d r s (length s) e n refl ∙ paste_all d at s (length s) refl
+    ∙ sym (append_assoc (take at d) s (drop (at + length s) d)) ∙ sym (sets-eq s d at room) in
+    record { bytes = b; place = p; limit = omega arith; size = ap length b ∙ length-sets d at s }
 
 pub led_snoc : (s : ℕ) (xs : List (List ℕ)) (x : List ℕ) → led s (xs ++ (x ∷ [])) ≡ led s xs ++ (s ∷ x)
 led_snoc s [] x = ap (λ (l : List ℕ). s ∷ l) (append-nil x)
@@ -102,7 +113,7 @@ judgement_lined a b w s n c =
 
 -- the answers of the public functions
 pub entered : {room at next : ℕ} {before after text : List ℕ} → at + room ≤ length before → Wrote room before at text after next
-    → Written room before at text (Next next) after
+    → Written room before at text (Some next) after
 entered {room} {at} {next} {before} {after} {text} h w =
-    subst (λ (l : List ℕ). Written room before at text (Next next) l) (sym w.bytes)
-    (subst (λ (k : ℕ). Written room before at text (Next k) (sets before at text)) (sym w.place) (written h (omega (arith, w.place, w.limit))))
+    subst (λ (l : List ℕ). Written room before at text (Some next) l) (sym w.bytes)
+    (subst (λ (k : ℕ). Written room before at text (Some k) (sets before at text)) (sym w.place) (written h (omega (arith, w.place, w.limit))))

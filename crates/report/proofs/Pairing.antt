@@ -1,60 +1,56 @@
 -- Laws of the lines of witnesses: pairs one after another, and a line of them. Assumes nothing.
-use Prim.Native.Nat.{ℕ, zero, suc, ◌+◌, ◌*◌, ◌≤◌, ◌<◌}
+use Prim.Native.Nat.{ℕ, ◌+◌, ◌-◌, ◌*◌, ◌≤◌, ◌<◌}
 use native.Mathlib.Omega.{arith}
 use mathlib.Core.Path.{◌≡◌, refl, sym, ap, ◌∙◌}
-use mathlib.Core.List.{List, [], ◌∷◌, ◌++◌, append_assoc}
-use lib.ListN.{length, take, get_or, get_or-append}
-use lib.Seq.{get_or-append-add}
+use mathlib.Core.List.{List, [], ◌∷◌, ◌++◌, append_assoc, append-nil}
+use lib.ListN.{length, take, drop, get_or, get_or-append}
+use lib.Seq.{take_all, get_or-append-add}
 use Rattle.opacity.specs.declared.Notion.{Notion}
 use Rattle.report.specs.Text.{decimal, led, line}
 use Rattle.report.specs.Witnesses.{word, pair_field, pair_fields, witness_line, no_witness_line}
 use Rattle.report.proofs.Decimal.{begins_digit}
-use Rattle.report.proofs.Laws.{led_snoc, lined}
+use Rattle.report.specs.Writing.{Wrote}
+use Rattle.report.proofs.Laws.{then, none, same, lined}
 
--- two for each
-abbrev twice : ℕ → ℕ
-twice zero = 0
-twice (suc i) = suc (suc (twice i))
+-- the first pair, and the rest
+pub pair_first : (l : List ℕ) → 2 ≤ length l → l ≡ get_or l 0 0 ∷ get_or l 1 0 ∷ take (length l - 2) (drop 2 l)
+pair_first [] h = absurd (omega arith)
+pair_first (x ∷ []) h = absurd (omega arith)
+pair_first (x ∷ y ∷ l) h = ap (λ (r : List ℕ). x ∷ y ∷ r) (sym (take_all (length (x ∷ y ∷ l) - 2) l (omega arith)))
 
-twice_is : (i : ℕ) → twice i ≡ 2 * i
-twice_is zero = refl
-twice_is (suc i) = let e = twice_is i in omega arith
+-- the pairs before those that are left are put
+pub record PairsPut (pairs before : List ℕ) (at : ℕ) (left after : List ℕ) (next : ℕ) : Type 0 where
+  pub text : List ℕ
+  pub joins : text ++ led 32 (pair_fields left) ≡ led 32 (pair_fields pairs)
+  pub most : ℕ
+  pub room : most + 11 * length left ≤ 11 * length pairs
+  pub wrote : Wrote most before at text after next
 
--- one more pair
-snoc : (i : ℕ) (l : List ℕ) → suc (twice i) < length l
-    → pair_fields (take (twice (suc i)) l) ≡ pair_fields (take (twice i) l) ++ (pair_field (get_or l (twice i) 0) (get_or l (suc (twice i)) 0) ∷ [])
-snoc zero [] h = absurd (omega arith)
-snoc zero (e ∷ []) h = absurd (omega arith)
-snoc zero (e ∷ q ∷ l) h = refl
-snoc (suc i) [] h = absurd (omega arith)
-snoc (suc i) (e ∷ []) h = absurd (omega arith)
-snoc (suc i) (e ∷ q ∷ l) h = ap (λ (x : List (List ℕ)). pair_field e q ∷ x) (snoc i l (omega arith))
+pub pairs_begin : (pairs before : List ℕ) (at : ℕ) → PairsPut pairs before at pairs before at
+pairs_begin pairs before at = record { text = []; joins = refl; most = 0; room = omega arith; wrote = none }
 
-pub pairs_one : (l : List ℕ) (i : ℕ) → 2 * i + 1 < length l
-    → led 32 (pair_fields (take (2 * i) l)) ++ (32 ∷ pair_field (get_or l (2 * i) 0) (get_or l (2 * i + 1) 0)) ≡ led 32 (pair_fields (take (2 * (i + 1)) l))
-pairs_one l i h =
-    let even : twice i ≡ 2 * i = twice_is i in
-    let odd : suc (twice i) ≡ 2 * i + 1 = omega arith in
-    let next : twice (suc i) ≡ 2 * (i + 1) = omega arith in
-    ap (λ (n : ℕ). led 32 (pair_fields (take n l)) ++ (32 ∷ pair_field (get_or l n 0) (get_or l (2 * i + 1) 0))) (sym even)
-    ∙ ap (λ (n : ℕ). led 32 (pair_fields (take (twice i) l)) ++ (32 ∷ pair_field (get_or l (twice i) 0) (get_or l n 0))) (sym odd)
-    ∙ sym (led_snoc 32 (pair_fields (take (twice i) l)) (pair_field (get_or l (twice i) 0) (get_or l (suc (twice i)) 0)))
-    ∙ ap (led 32) (sym (snoc i l (omega arith)))
-    ∙ ap (λ (n : ℕ). led 32 (pair_fields (take n l))) next
+pub pairs_turn : {pairs before left after later : List ℕ} {at next then' event state : ℕ} (more : List ℕ) → left ≡ event ∷ state ∷ more
+    → PairsPut pairs before at left after next → Wrote 22 after next (32 ∷ pair_field event state) later then' → PairsPut pairs before at more later then'
+pairs_turn {event = event} {state = state} more e x w =
+    record {
+      text = x.text ++ (32 ∷ pair_field event state);
+      joins = append_assoc x.text (32 ∷ pair_field event state) (led 32 (pair_fields more))
+          ∙ ap (λ (l : List ℕ). x.text ++ led 32 (pair_fields l)) (sym e)
+          ∙ x.joins;
+      most = x.most + 22;
+      room = omega (arith, x.room, ap length e);
+      wrote = then x.wrote w;
+    }
 
--- all of them
-whole : (i : ℕ) (l : List ℕ) → twice i ≤ length l → length l ≤ suc (twice i) → pair_fields (take (twice i) l) ≡ pair_fields l
-whole zero [] a b = refl
-whole zero (e ∷ []) a b = refl
-whole zero (e ∷ q ∷ l) a b = absurd (omega arith)
-whole (suc i) [] a b = absurd (omega arith)
-whole (suc i) (e ∷ []) a b = absurd (omega arith)
-whole (suc i) (e ∷ q ∷ l) a b = ap (λ (x : List (List ℕ)). pair_field e q ∷ x) (whole i l (omega arith) (omega arith))
-
-pub pairs_all : (l : List ℕ) (i : ℕ) → 2 * i ≤ length l → length l ≤ 2 * i + 1 → led 32 (pair_fields (take (2 * i) l)) ≡ led 32 (pair_fields l)
-pairs_all l i a b =
-    let even : twice i ≡ 2 * i = twice_is i in
-    ap (λ (n : ℕ). led 32 (pair_fields (take n l))) (sym even) ∙ ap (led 32) (whole i l (omega arith) (omega arith))
+pub pairs_end : {pairs before left after : List ℕ} {at next : ℕ} → length left < 2 → PairsPut pairs before at left after next
+    → Wrote (11 * length pairs) before at (led 32 (pair_fields pairs)) after next
+pairs_end {left = left} h x =
+    same (sym (append-nil x.text) ∙ ap (λ (l : List (List ℕ)). x.text ++ led 32 l) (sym (nothing left h)) ∙ x.joins) (omega (arith, x.room)) x.wrote
+  where
+    nothing : (l : List ℕ) → length l < 2 → pair_fields l ≡ []
+    nothing [] h = refl
+    nothing (a ∷ []) h = refl
+    nothing (a ∷ b ∷ l) h = absurd (omega arith)
 
 -- the parts of a line of pairs
 parts_lined : (w k s : List ℕ) (ps : List (List ℕ)) → (w ++ (32 ∷ k)) ++ ((32 ∷ s) ++ (led 32 ps ++ (10 ∷ []))) ≡ line (w ∷ k ∷ s ∷ ps)

@@ -17,19 +17,6 @@ use verifier::Judgement;
 // Room for any line that names at most 17 released events, and for the last lines.
 pub const LINE: usize = 256;
 
-// Where the next line goes; or nothing was written, since there is no room for the line.
-#[derive(Clone, Copy)]
-pub enum Line {
-    Next(usize),
-    NoRoom,
-}
-
-fn wide(x: u8) -> u32
-    ensures { result ≡ x }
-{
-    x as u32
-}
-
 // One byte.
 fn put(out: &mut [u8], at: usize, b: u8) -> usize
     requires { at < length out.old }
@@ -44,19 +31,15 @@ fn text(out: &mut [u8], at: usize, s: &[u8]) -> usize
     requires { at + length s.now ≤ length out.old }
     ensures { Wrote (length s.now) out.old at s.now out.new result }
 {
-    let mut i = 0;
-    let mut next = at;
-    while i < s.len() {
-        next = put(out, next, s[i]);
-        i += 1;
-    }
+    let next = at + s.len();
+    out[at..next].copy_from_slice(s);
     next
 }
 
 fn digit(n: u32) -> u8
     ensures { result ≡ 48 + n % 10 }
 {
-    48 + (n % 10) as u8
+    b'0' + (n % 10) as u8
 }
 
 // A number in base ten.
@@ -85,8 +68,8 @@ fn dash(out: &mut [u8], at: usize) -> usize
     requires { at + 2 ≤ length out.old }
     ensures { Wrote 2 out.old at (32 ∷ 45 ∷ []) out.new result }
 {
-    let next = put(out, at, 32);
-    put(out, next, 45)
+    let next = put(out, at, b' ');
+    put(out, next, b'-')
 }
 
 // A space and a verdict.
@@ -96,7 +79,7 @@ fn verdict_field(out: &mut [u8], at: usize, verdict: Verdict) -> usize
 {
     match verdict {
         Verdict::NoLeak => dash(out, at),
-        Verdict::Leak(l) => field(out, at, 32, wide(l)),
+        Verdict::Leak(l) => field(out, at, b' ', u32::from(l)),
     }
 }
 
@@ -108,13 +91,10 @@ fn judgement_fields(out: &mut [u8], at: usize, judgement: Judgement<Verdicts>) -
         ((32 ∷ steps judgement.verdicts.own.weak) ++ ((32 ∷ steps judgement.verdicts.own.strong) ++ (32 ∷ decimal judgement.size)))
         out.new result }
 {
-    let verdicts = judgement.verdicts;
-    let own = verdicts.own; // the log has no further secret
-    let weak = own.weak;
-    let strong = own.strong;
-    let a = verdict_field(out, at, weak);
-    let b = verdict_field(out, a, strong);
-    field(out, b, 32, wide(judgement.size))
+    let own = judgement.verdicts.own; // the log has no further secret
+    let a = verdict_field(out, at, own.weak);
+    let b = verdict_field(out, a, own.strong);
+    field(out, b, b' ', u32::from(judgement.size))
 }
 
 // Each symbol with a comma in front of it.
@@ -122,11 +102,9 @@ fn more_symbols(out: &mut [u8], at: usize, released: &[u8]) -> usize
     requires { at + 11 * length released.now ≤ length out.old }
     ensures { Wrote (11 * length released.now) out.old at (led 44 (map decimal released.now)) out.new result }
 {
-    let mut i = 0;
     let mut next = at;
-    while i < released.len() {
-        next = field(out, next, 44, wide(released[i]));
-        i += 1;
+    for symbol in released {
+        next = field(out, next, b',', u32::from(*symbol));
     }
     next
 }
@@ -136,11 +114,11 @@ fn symbols_field(out: &mut [u8], at: usize, released: &[u8]) -> usize
     requires { at + 2 + 11 * length released.now ≤ length out.old }
     ensures { Wrote (2 + 11 * length released.now) out.old at (32 ∷ symbols released.now) out.new result }
 {
-    if released.len() == 0 {
+    let [first, others @ ..] = released else {
         return dash(out, at);
-    }
-    let next = field(out, at, 32, wide(released[0]));
-    more_symbols(out, next, &released[1..])
+    };
+    let next = field(out, at, b' ', u32::from(*first));
+    more_symbols(out, next, others)
 }
 
 // A space and a refusal's number: for an event's line and for a refused log.
@@ -148,7 +126,7 @@ fn refusal_field(out: &mut [u8], at: usize, refusal: Refusal) -> usize
     requires { at + 11 ≤ length out.old }
     ensures { Wrote 11 out.old at (32 ∷ decimal (number_of refusal)) out.new result }
 {
-    field(out, at, 32, wide(refusal::number(refusal)))
+    field(out, at, b' ', u32::from(refusal::number(refusal)))
 }
 
 fn put_accepted(
@@ -165,10 +143,10 @@ fn put_accepted(
         out.new result }
 {
     let a = number(out, at, place);
-    let b = field(out, a, 32, wide(symbol));
+    let b = field(out, a, b' ', u32::from(symbol));
     let c = judgement_fields(out, b, judgement);
     let d = symbols_field(out, c, released);
-    put(out, d, 10)
+    put(out, d, b'\n')
 }
 
 fn put_idle(out: &mut [u8], at: usize, opening: Judgement<Verdicts>) -> usize
@@ -180,17 +158,17 @@ fn put_idle(out: &mut [u8], at: usize, opening: Judgement<Verdicts>) -> usize
     let b = dash(out, a);
     let c = judgement_fields(out, b, opening);
     let d = dash(out, c);
-    put(out, d, 10)
+    put(out, d, b'\n')
 }
 
 fn put_refused(out: &mut [u8], at: usize, byte: u8, refusal: Refusal) -> usize
     requires { at + room_for 0 ≤ length out.old }
     ensures { Wrote (room_for 0) out.old at (refused_line byte refusal) out.new result }
 {
-    let a = put(out, at, 33);
-    let b = field(out, a, 32, wide(byte));
+    let a = put(out, at, b'!');
+    let b = field(out, a, b' ', u32::from(byte));
     let c = refusal_field(out, b, refusal);
-    put(out, c, 10)
+    put(out, c, b'\n')
 }
 
 fn put_end(out: &mut [u8], at: usize, accepted: u32, released: u32, pending: u32) -> usize
@@ -198,10 +176,10 @@ fn put_end(out: &mut [u8], at: usize, accepted: u32, released: u32, pending: u32
     ensures { Wrote (room_for 0) out.old at (end_line accepted released pending) out.new result }
 {
     let a = text(out, at, b"end");
-    let b = field(out, a, 32, accepted);
-    let c = field(out, b, 32, released);
-    let d = field(out, c, 32, pending);
-    put(out, d, 10)
+    let b = field(out, a, b' ', accepted);
+    let c = field(out, b, b' ', released);
+    let d = field(out, c, b' ', pending);
+    put(out, d, b'\n')
 }
 
 fn put_idle_end(
@@ -226,7 +204,7 @@ fn put_refused_log(out: &mut [u8], at: usize, refusal: Refusal) -> usize
 {
     let a = text(out, at, b"refused");
     let b = refusal_field(out, a, refusal);
-    put(out, b, 10)
+    put(out, b, b'\n')
 }
 
 fn put_place(out: &mut [u8], at: usize, place: u32) -> usize
@@ -234,42 +212,29 @@ fn put_place(out: &mut [u8], at: usize, place: u32) -> usize
     ensures { Wrote (room_for 0) out.old at (place_line place) out.new result }
 {
     let next = number(out, at, place);
-    put(out, next, 10)
+    put(out, next, b'\n')
 }
 
 fn put_no_place(out: &mut [u8], at: usize) -> usize
     requires { at + room_for 0 ≤ length out.old }
     ensures { Wrote (room_for 0) out.old at no_place_line out.new result }
 {
-    let next = put(out, at, 45);
-    put(out, next, 10)
+    let next = put(out, at, b'-');
+    put(out, next, b'\n')
 }
 
 // There is room at a place for a line that names so many released events. (Divided, since a product might not fit.)
 fn has_room(out: &[u8], at: usize, released: usize) -> bool
     ensures { Decided result (at + room_for released ≤ length out.now) }
 {
-    if out.len() < at {
-        return false;
-    }
-    let free = out.len() - at;
-    if free < 64 {
-        return false;
-    }
-    if (free - 64) / 11 < released {
-        return false;
-    }
-    true
+    at <= out.len() && 64 <= out.len() - at && released <= (out.len() - at - 64) / 11
 }
 
 // There is room at a place for the last lines: for one of them, 64 bytes, and for one behind it.
 fn has_room_at_end(out: &[u8], at: usize) -> bool
     ensures { Decided result (at + room_at_end ≤ length out.now) }
 {
-    if has_room(out, at, 0) {
-        return has_room(out, at + 64, 0);
-    }
-    false
+    has_room(out, at, 0) && has_room(out, at + 64, 0)
 }
 
 // The line of an accepted event: its place, its symbol, the verdicts, how many states are possible, and the symbols that it released.
@@ -280,35 +245,35 @@ pub fn accepted(
     symbol: u8,
     judgement: Judgement<Verdicts>,
     released: &[u8],
-) -> Line
+) -> Option<usize>
     ensures { Written (room_for (length released.now)) out.old at
         (accepted_line place symbol judgement.verdicts.own.weak judgement.verdicts.own.strong judgement.size released.now) result
         out.new }
 {
-    if has_room(out, at, released.len()) {
-        return Line::Next(put_accepted(out, at, place, symbol, judgement, released));
+    if !has_room(out, at, released.len()) {
+        return None;
     }
-    Line::NoRoom
+    Some(put_accepted(out, at, place, symbol, judgement, released))
 }
 
 // The line of a refused event.
-pub fn refused(out: &mut [u8], at: usize, byte: u8, refusal: Refusal) -> Line
+pub fn refused(out: &mut [u8], at: usize, byte: u8, refusal: Refusal) -> Option<usize>
     ensures { Written (room_for 0) out.old at (refused_line byte refusal) result out.new }
 {
-    if has_room(out, at, 0) {
-        return Line::Next(put_refused(out, at, byte, refusal));
+    if !has_room(out, at, 0) {
+        return None;
     }
-    Line::NoRoom
+    Some(put_refused(out, at, byte, refusal))
 }
 
 // The last line. (Room for two lines is asked for, as `idle` does, so that a log's end asks for the same whichever it writes.)
-pub fn ended(out: &mut [u8], at: usize, accepted: u32, released: u32, pending: u32) -> Line
+pub fn ended(out: &mut [u8], at: usize, accepted: u32, released: u32, pending: u32) -> Option<usize>
     ensures { Written room_at_end out.old at (end_line accepted released pending) result out.new }
 {
-    if has_room_at_end(out, at) {
-        return Line::Next(put_end(out, at, accepted, released, pending));
+    if !has_room_at_end(out, at) {
+        return None;
     }
-    Line::NoRoom
+    Some(put_end(out, at, accepted, released, pending))
 }
 
 // The lines of a log without event bytes: the opening verdicts with how many states are possible, and the last line.
@@ -319,42 +284,42 @@ pub fn idle(
     accepted: u32,
     released: u32,
     pending: u32,
-) -> Line
+) -> Option<usize>
     ensures { Written room_at_end out.old at
         (idle_line opening.verdicts.own.weak opening.verdicts.own.strong opening.size ++ end_line accepted released pending) result out.new }
 {
-    if has_room_at_end(out, at) {
-        return Line::Next(put_idle_end(out, at, opening, accepted, released, pending));
+    if !has_room_at_end(out, at) {
+        return None;
     }
-    Line::NoRoom
+    Some(put_idle_end(out, at, opening, accepted, released, pending))
 }
 
 // The one line of a refused log.
-pub fn refused_log(out: &mut [u8], at: usize, refusal: Refusal) -> Line
+pub fn refused_log(out: &mut [u8], at: usize, refusal: Refusal) -> Option<usize>
     ensures { Written (room_for 0) out.old at (refused_log refusal) result out.new }
 {
-    if has_room(out, at, 0) {
-        return Line::Next(put_refused_log(out, at, refusal));
+    if !has_room(out, at, 0) {
+        return None;
     }
-    Line::NoRoom
+    Some(put_refused_log(out, at, refusal))
 }
 
 // The line of the first leak of a log (02, S-8): its place.
-pub fn leak_at(out: &mut [u8], at: usize, place: u32) -> Line
+pub fn leak_at(out: &mut [u8], at: usize, place: u32) -> Option<usize>
     ensures { Written (room_for 0) out.old at (place_line place) result out.new }
 {
-    if has_room(out, at, 0) {
-        return Line::Next(put_place(out, at, place));
+    if !has_room(out, at, 0) {
+        return None;
     }
-    Line::NoRoom
+    Some(put_place(out, at, place))
 }
 
 // The line of a log without a leak (02, S-8).
-pub fn leak_nowhere(out: &mut [u8], at: usize) -> Line
+pub fn leak_nowhere(out: &mut [u8], at: usize) -> Option<usize>
     ensures { Written (room_for 0) out.old at no_place_line result out.new }
 {
-    if has_room(out, at, 0) {
-        return Line::Next(put_no_place(out, at));
+    if !has_room(out, at, 0) {
+        return None;
     }
-    Line::NoRoom
+    Some(put_no_place(out, at))
 }

@@ -4,7 +4,7 @@ ghost use Rattle.report.specs.Text.{decimal, led};
 ghost use Rattle.report.specs.Witnesses.{word, pair_field, pair_fields, witness_line, no_witness_line, accepted_end};
 ghost use Rattle.report.specs.Writing.{room_for, Written, Wrote};
 
-use super::{Line, field, has_room, put, text, wide};
+use super::{field, has_room, put, text};
 use opacity::Notion;
 
 // The word of a notion.
@@ -24,7 +24,7 @@ fn put_step(out: &mut [u8], at: usize, notion: Notion, k: u8) -> usize
     ensures { Wrote 17 out.old at (word notion ++ (32 ∷ decimal k)) out.new result }
 {
     let next = put_word(out, at, notion);
-    field(out, next, 32, wide(k))
+    field(out, next, b' ', u32::from(k))
 }
 
 // A space and a pair: the event, a comma, and the state that it reaches.
@@ -32,8 +32,8 @@ fn put_pair(out: &mut [u8], at: usize, event: u8, state: u8) -> usize
     requires { at + 22 ≤ length out.old }
     ensures { Wrote 22 out.old at (32 ∷ pair_field event state) out.new result }
 {
-    let next = field(out, at, 32, wide(event));
-    field(out, next, 44, wide(state))
+    let next = field(out, at, b' ', u32::from(event));
+    field(out, next, b',', u32::from(state))
 }
 
 // Each pair with a space in front of it.
@@ -41,13 +41,11 @@ fn put_pairs(out: &mut [u8], at: usize, pairs: &[u8]) -> usize
     requires { at + 11 * length pairs.now ≤ length out.old }
     ensures { Wrote (11 * length pairs.now) out.old at (led 32 (pair_fields pairs.now)) out.new result }
 {
-    let n = pairs.len() / 2;
-    let mut i: usize = 0;
     let mut next = at;
-    while i < n {
-        let first = 2 * i;
-        next = put_pair(out, next, pairs[first], pairs[first + 1]);
-        i += 1;
+    let mut left = pairs;
+    while let [event, state, more @ ..] = left {
+        next = put_pair(out, next, *event, *state);
+        left = more;
     }
     next
 }
@@ -58,9 +56,9 @@ fn put_witness(out: &mut [u8], at: usize, notion: Notion, k: u8, start: u8, pair
         out.new result }
 {
     let a = put_step(out, at, notion, k);
-    let b = field(out, a, 32, wide(start));
+    let b = field(out, a, b' ', u32::from(start));
     let c = put_pairs(out, b, pairs);
-    put(out, c, 10)
+    put(out, c, b'\n')
 }
 
 fn put_no_witness(out: &mut [u8], at: usize, notion: Notion, k: u8) -> usize
@@ -76,37 +74,44 @@ fn put_accepted_end(out: &mut [u8], at: usize, accepted: u32) -> usize
     ensures { Wrote (room_for 0) out.old at (accepted_end accepted) out.new result }
 {
     let a = text(out, at, b"end");
-    let b = field(out, a, 32, accepted);
-    put(out, b, 10)
+    let b = field(out, a, b' ', accepted);
+    put(out, b, b'\n')
 }
 
 // The line of a witness: the notion, the step, the state that the run starts in, and its pairs.
-pub fn witness(out: &mut [u8], at: usize, notion: Notion, k: u8, start: u8, pairs: &[u8]) -> Line
+pub fn witness(
+    out: &mut [u8],
+    at: usize,
+    notion: Notion,
+    k: u8,
+    start: u8,
+    pairs: &[u8],
+) -> Option<usize>
     ensures { Written (room_for (length pairs.now)) out.old at (witness_line notion k start pairs.now) result
         out.new }
 {
-    if has_room(out, at, pairs.len()) {
-        return Line::Next(put_witness(out, at, notion, k, start, pairs));
+    if !has_room(out, at, pairs.len()) {
+        return None;
     }
-    Line::NoRoom
+    Some(put_witness(out, at, notion, k, start, pairs))
 }
 
 // The line of a step for which there is no witness.
-pub fn no_witness(out: &mut [u8], at: usize, notion: Notion, k: u8) -> Line
+pub fn no_witness(out: &mut [u8], at: usize, notion: Notion, k: u8) -> Option<usize>
     ensures { Written (room_for 0) out.old at (no_witness_line notion k) result out.new }
 {
-    if has_room(out, at, 0) {
-        return Line::Next(put_no_witness(out, at, notion, k));
+    if !has_room(out, at, 0) {
+        return None;
     }
-    Line::NoRoom
+    Some(put_no_witness(out, at, notion, k))
 }
 
 // The last line: how many events were accepted.
-pub fn accepted_end(out: &mut [u8], at: usize, accepted: u32) -> Line
+pub fn accepted_end(out: &mut [u8], at: usize, accepted: u32) -> Option<usize>
     ensures { Written (room_for 0) out.old at (accepted_end accepted) result out.new }
 {
-    if has_room(out, at, 0) {
-        return Line::Next(put_accepted_end(out, at, accepted));
+    if !has_room(out, at, 0) {
+        return None;
     }
-    Line::NoRoom
+    Some(put_accepted_end(out, at, accepted))
 }

@@ -4,7 +4,6 @@ ghost use Rattle.monitor.specs.Stepping.{place_of};
 ghost use Rattle.streams.specs.Writes.{RefusalLine};
 
 use refusal::Refusal;
-use report::Line;
 
 fn not_written(rt: &impl Eprint) {
     let _ = rt.eprintln("write failed");
@@ -25,13 +24,10 @@ pub fn flush(rt: &(impl Print + Eprint), out: &[u8], n: usize) -> bool
 }
 
 // How much of the output is to be written out, when its last line is there.
-pub fn place(line: Line) -> usize
+pub fn place(line: Option<usize>) -> usize
     ensures { result ≡ place_of line 0 }
 {
-    match line {
-        Line::Next(next) => next,
-        Line::NoRoom => 0,
-    }
+    line.unwrap_or(0)
 }
 
 // The one line of a refused log.

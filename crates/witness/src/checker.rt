@@ -12,13 +12,6 @@ use automaton::Header;
 use opacity::Notion;
 use verifier::Estimator;
 
-// How many of the last symbols are left, or that an event did not show the next of them.
-#[derive(Clone, Copy)]
-enum Left {
-    Symbols(u8),
-    Wrong,
-}
-
 // Whether a transition is listed. Any bytes may be asked for.
 fn transition(table: &[u64], from: u8, event: u8, to: u8) -> bool
     requires { length table.now ≡ 2048 }
@@ -34,22 +27,22 @@ fn transition(table: &[u64], from: u8, event: u8, to: u8) -> bool
     stateset::member(table[at], to as usize)
 }
 
-// How many of the last symbols are left after one more event: as many as before where it is unobservable, one less where it shows the next of them.
-fn left_after(observable: u32, symbols: [u8; 32], last: [u8; 15], left: u8, event: u8) -> Left
+// How many of the last symbols are left after one more event: as many as before where it is unobservable, one less where it shows the next of them, and else none.
+fn left_after(observable: u32, symbols: [u8; 32], last: [u8; 15], left: u8, event: u8) -> Option<u8>
     requires { left ≤ 15 }
     ensures { (t : List ℕ) (initial : ℕ) → LeftAfter (automaton_with t initial observable symbols) last left event result }
 {
     if !stateset::member(observable as u64, event as usize) {
-        return Left::Symbols(left);
+        return Some(left);
     }
     if left == 0 {
-        return Left::Wrong;
+        return None;
     }
     let next = left - 1;
     if last[next as usize] != symbols[event as usize] {
-        return Left::Wrong;
+        return None;
     }
-    Left::Symbols(next)
+    Some(next)
 }
 
 // Whether all bytes are pairs, and from the start steps through allowed states that show the last k symbols.
@@ -69,30 +62,22 @@ fn is_run(
 {
     let mut q = start;
     let mut left = k;
-    let mut at: usize = 0;
-    while at < pairs.len() {
-        if pairs.len() - at < 2 {
+    let mut rest = pairs;
+    while let [event, to, more @ ..] = rest {
+        if !transition(table, q, *event, *to) {
             return false;
         }
-        let event = pairs[at];
-        let to = pairs[at + 1];
-        if !transition(table, q, event, to) {
+        if !stateset::member(allowed, *to as usize) {
             return false;
         }
-        if !stateset::member(allowed, to as usize) {
-            return false;
-        }
-        let Left::Symbols(l) = left_after(observable, symbols, last, left, event) else {
+        let Some(fewer) = left_after(observable, symbols, last, left, *event) else {
             return false;
         };
-        q = to;
-        left = l;
-        at += 2;
+        q = *to;
+        left = fewer;
+        rest = more;
     }
-    if left != 0 {
-        return false;
-    }
-    true
+    rest.is_empty() && left == 0
 }
 
 // Whether some position before the first observable step is not secret.
@@ -101,20 +86,18 @@ fn has_clear(observable: u32, secret: u64, start: u8, pairs: &[u8]) -> bool
         → Decided result (SomeClear p secret start steps) }
 {
     let mut q = start;
-    let mut at: usize = 0;
-    loop {
-        if !stateset::member(secret, q as usize) {
-            return true;
-        }
-        if pairs.len() - at < 2 {
+    let mut rest = pairs;
+    while stateset::member(secret, q as usize) {
+        let [event, to, more @ ..] = rest else {
+            return false;
+        };
+        if stateset::member(observable as u64, *event as usize) {
             return false;
         }
-        if stateset::member(observable as u64, pairs[at] as usize) {
-            return false;
-        }
-        q = pairs[at + 1];
-        at += 2;
+        q = *to;
+        rest = more;
     }
+    true
 }
 
 // Whether the start and the bytes are a run that excuses the system.

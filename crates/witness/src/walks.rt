@@ -4,14 +4,25 @@ ghost use Rattle.std.proofs.lemmas.List.Edits.{sets};
 ghost use Rattle.stateset.specs.Set.{In, everything};
 ghost use Rattle.relation.specs.Relation.{Sub};
 ghost use Rattle.automaton.specs.Run.{Automaton, Transition, shows};
-ghost use Rattle.automaton.specs.Reaching.{Showing, Entered};
-ghost use Rattle.witness.specs.Inner.{Silently, Onward, Layered, Leads, Ahead, Moved};
+ghost use Rattle.automaton.specs.Reaching.{Entered};
+ghost use Rattle.witness.specs.Inner.{Onward, Layered, Goes, Leads, Ahead, Moved};
 
 // A state, and where in the output the next pair goes.
 #[derive(Clone, Copy)]
 pub struct Place {
     pub state: u8,
     pub at: usize,
+}
+
+// What every walk goes by: the transitions, the mask of the unobservable events, where they lead from as rows, the events of each symbol, and the states
+// that a run may go through.
+#[derive(Clone, Copy)]
+pub struct Ways<'a> {
+    pub table: &'a [u64],
+    pub silent: u64,
+    pub back: &'a [u64],
+    pub sets: &'a [u32],
+    pub allowed: u64,
 }
 
 // The states from which unobservable steps through allowed states lead to the target, in layers: those of the target, those one step before them,
@@ -22,12 +33,10 @@ fn layers_to(back: &[u64], allowed: u64, target: u64, layers: &mut [u64]) -> u64
 {
     let mut done = target & allowed;
     let mut wave = done;
-    let mut d: usize = 0;
-    while d < 64 {
-        layers[d] = wave;
+    for layer in layers.iter_mut() {
+        *layer = wave;
         wave = relation::image(back, wave) & allowed & !done;
         done |= wave;
-        d += 1;
     }
     done
 }
@@ -37,13 +46,12 @@ fn layer_of(layers: &[u64], state: usize) -> usize
     requires { (length layers.now ≡ 64) × ((d : ℕ) × (d < 64) × In state (get_or layers.now d 0)) }
     ensures { (result < 64) × In state (get_or layers.now result 0) }
 {
-    let mut d: usize = 0;
-    loop {
-        if stateset::member(layers[d], state) {
+    for (d, layer) in layers.iter().enumerate() {
+        if stateset::member(*layer, state) {
             return d;
         }
-        d += 1;
     }
+    unreachable!()
 }
 
 // An event of the mask that leads from a state into a set, of which there is one.
@@ -71,70 +79,47 @@ fn put_pair(output: &mut [u8], at: usize, event: u8, state: u8)
 }
 
 // Writes one step by an event of the mask into a set.
-fn put_step(table: &[u64], events: u64, into: u64, state: u8, at: usize, output: &mut [u8]) -> Place
-    requires { (length table.now ≡ 2048) × ((e : ℕ) → In e events → e < 32) × Onward table.now events state into × (at + 2 ≤ length output.old) }
+fn put_step(table: &[u64], events: u64, into: u64, place: Place, output: &mut [u8]) -> Place
+    requires { (length table.now ≡ 2048) × ((e : ℕ) → In e events → e < 32) × Onward table.now events place.state into
+        × (place.at + 2 ≤ length output.old) }
     ensures { ((p : Automaton) (allowed : ℕ) (out : List ℕ) → p.table ≡ table.now → ((e : ℕ) → In e events → shows p e ≡ out)
         → Sub into allowed
-        → Moved p allowed out 1 state at output.old output.new result) × In result.state into }
+        → Moved p allowed out 1 place.state place.at output.old output.new result) × In result.state into }
 {
-    let q = state as usize;
+    let q = place.state as usize;
     let event = event_into(table, events, q, into);
     let to = u64::trailing_zeros(table[64 * event as usize + q] & into) as u8;
-    put_pair(output, at, event, to);
+    put_pair(output, place.at, event, to);
     Place {
         state: to,
-        at: at + 2,
+        at: place.at + 2,
     }
 }
 
 // Writes a shortest way by unobservable steps through allowed states into the target.
-pub fn silent_walk(
-    table: &[u64],
-    silent: u64,
-    back: &[u64],
-    allowed: u64,
-    target: u64,
-    state: u8,
-    from: usize,
-    output: &mut [u8],
-) -> Place
-    requires { (length table.now ≡ 2048) × ((p : Automaton) × Silently p table.now silent back.now × Leads p allowed target state)
-        × (from + 126 ≤ length output.old) }
-    ensures { ((p : Automaton) → Silently p table.now silent back.now
-        → Moved p allowed [] 63 state from output.old output.new result) × In result.state target }
+pub fn silent_walk(ways: Ways, target: u64, place: Place, output: &mut [u8]) -> Place
+    requires { ((p : Automaton) × Goes p ways × Leads p ways.allowed target place.state) × (place.at + 126 ≤ length output.old) }
+    ensures { ((p : Automaton) → Goes p ways.entry
+        → Moved p ways.entry.allowed [] 63 place.state place.at output.old output.new result) × In result.state target }
 {
     let mut layers = [0u64; 64];
-    layers_to(back, allowed, target, &mut layers);
-    let mut q = state;
-    let mut at = from;
-    let mut d = layer_of(&layers, state as usize);
-    while 0 < d {
-        d -= 1;
-        let next = put_step(table, silent, layers[d], q, at, output);
-        q = next.state;
-        at = next.at;
+    layers_to(ways.back, ways.allowed, target, &mut layers);
+    let mut now = place;
+    let first = layer_of(&layers, place.state as usize);
+    for d in (0..first).rev() {
+        now = put_step(ways.table, ways.silent, layers[d], now, output);
     }
-    Place { state: q, at: at }
+    now
 }
 
-// Writes unobservable steps and one step by an event of the mask, whose events show one symbol, into a set of allowed states.
-pub fn observable_walk(
-    table: &[u64],
-    silent: u64,
-    back: &[u64],
-    allowed: u64,
-    events: u64,
-    then: u64,
-    state: u8,
-    from: usize,
-    output: &mut [u8],
-) -> Place
-    requires { (length table.now ≡ 2048) × ((p : Automaton) × Silently p table.now silent back.now
-        × ((symbol : ℕ) × Showing p symbol events × Ahead p allowed symbol then state)) × (from + 128 ≤ length output.old) }
-    ensures { ((p : Automaton) (symbol : ℕ) → Silently p table.now silent back.now → Showing p symbol events → Sub then allowed
-        → Moved p allowed (symbol ∷ []) 64 state from output.old output.new result) × In result.state then }
+// Writes unobservable steps and one step that shows the symbol, into a set of allowed states.
+pub fn observable_walk(ways: Ways, symbol: u8, then: u64, place: Place, output: &mut [u8]) -> Place
+    requires { ((p : Automaton) × Goes p ways × Ahead p ways.allowed symbol then place.state) × (place.at + 128 ≤ length output.old) }
+    ensures { ((p : Automaton) → Goes p ways.entry → Sub then ways.entry.allowed
+        → Moved p ways.entry.allowed (symbol ∷ []) 64 place.state place.at output.old output.new result) × In result.state then }
 {
-    let into = automaton::preimage_by(table, events, 32, then);
-    let mid = silent_walk(table, silent, back, allowed, into, state, from, output);
-    put_step(table, events, then, mid.state, mid.at, output)
+    let events = automaton::events_with(ways.sets, symbol);
+    let into = automaton::preimage_by(ways.table, events, 32, then);
+    let mid = silent_walk(ways, into, place, output);
+    put_step(ways.table, events, then, mid, output)
 }

@@ -5,118 +5,90 @@ ghost use Rattle.automaton.specs.Run.{Automaton, automaton_of, WellFormed};
 ghost use Rattle.verifier.specs.Estimators.{InLimits};
 ghost use Rattle.witness.specs.Witnesses.{recent, WitnessIn};
 ghost use Rattle.witness.specs.Answers.{told, Written};
-ghost use Rattle.witness.specs.Inner.{Prepared, Moved, LookedBack, Candidate};
+ghost use Rattle.witness.specs.Inner.{Prepared, Goes, Moved, LookedBack, Candidate};
 
-use super::walks::{Place, observable_walk, silent_walk};
-use super::{Answer, Run, allowed_by, word_at};
+use super::walks::{Place, Ways, observable_walk, silent_walk};
+use super::{Run, allowed_by, word_at};
 use automaton::Header;
 use opacity::Notion;
 use refusal::Refusal;
 use verifier::Estimator;
 
 // For each number of the last symbols up to k, the states that they can follow through allowed states.
-fn look_back(
-    table: &[u64],
-    back: &[u64],
-    sets: &[u32],
-    allowed: u64,
-    symbols: [u8; 15],
-    k: u8,
-) -> [u64; 16]
-    requires { (length table.now ≡ 2048) × (length back.now ≡ 64) × (length sets.now ≡ 32) × (k ≤ 15)
-        × ((p : Automaton) × (silent : ℕ) × Prepared p table.now silent back.now sets.now) }
-    ensures { (p : Automaton) (silent : ℕ) → Prepared p table.now silent back.now sets.now
-        → LookedBack p allowed symbols k result }
+fn look_back(ways: Ways, symbols: [u8; 15], k: u8) -> [u64; 16]
+    requires { (k ≤ 15) × ((p : Automaton) × Goes p ways) }
+    ensures { (p : Automaton) → Goes p ways.entry → LookedBack p ways.entry.allowed symbols k result }
 {
-    let n = k as usize;
     let mut then = [0u64; 16];
-    then[0] = allowed;
-    let mut i: usize = 0;
-    while i < n {
-        let events = automaton::events_with(sets, symbols[i]);
-        let next = automaton::backward_reach(table, back, allowed, events, then[i]);
-        i += 1;
-        then[i] = next;
+    then[0] = ways.allowed;
+    for i in 0..k as usize {
+        let events = automaton::events_with(ways.sets, symbols[i]);
+        then[i + 1] = automaton::backward_reach(
+            ways.table,
+            ways.back,
+            ways.allowed,
+            events,
+            then[i],
+        );
     }
     then
 }
 
 // Writes steps that show the last k symbols, one symbol after another.
 fn follow_symbols(
-    table: &[u64],
-    silent: u64,
-    back: &[u64],
-    sets: &[u32],
-    allowed: u64,
+    ways: Ways,
     symbols: [u8; 15],
     then: [u64; 16],
     k: u8,
-    state: u8,
-    from: usize,
+    place: Place,
     output: &mut [u8],
 ) -> Place
-    requires { (length table.now ≡ 2048) × (k ≤ 15) × ((p : Automaton) × Prepared p table.now silent back.now sets.now
-        × LookedBack p allowed symbols k then) × In state (get_or then k 0) × (from + 128 * k ≤ length output.old) }
-    ensures { (p : Automaton) → Prepared p table.now silent back.now sets.now → LookedBack p allowed symbols k then
-        → Moved p allowed (recent k symbols) (64 * k) state from output.old output.new result }
+    requires { (k ≤ 15) × ((p : Automaton) × Goes p ways × LookedBack p ways.allowed symbols k then) × In place.state (get_or then k 0)
+        × (place.at + 128 * k ≤ length output.old) }
+    ensures { (p : Automaton) → Goes p ways.entry → LookedBack p ways.entry.allowed symbols k then
+        → Moved p ways.entry.allowed (recent k symbols) (64 * k) place.state place.at output.old output.new result }
 {
-    let mut q = state;
-    let mut at = from;
-    let mut i = k;
-    while 0 < i {
-        i -= 1;
-        let n = i as usize;
-        let events = automaton::events_with(sets, symbols[n]);
-        let next = observable_walk(table, silent, back, allowed, events, then[n], q, at, output);
-        q = next.state;
-        at = next.at;
+    let mut now = place;
+    for i in (0..k as usize).rev() {
+        now = observable_walk(ways, symbols[i], then[i], now, output);
     }
-    Place { state: q, at: at }
+    now
 }
 
 // Writes a run from an entry set over the last k symbols: first to a state that is not secret, then symbol by symbol.
 fn write_run(
-    table: &[u64],
-    silent: u64,
-    back: &[u64],
-    sets: &[u32],
-    allowed: u64,
+    ways: Ways,
     secret: u64,
     symbols: [u8; 15],
     then: [u64; 16],
     k: u8,
     entry: u64,
     output: &mut [u8],
-) -> Answer
-    requires { (length table.now ≡ 2048) × (k ≤ 15) × ((p : Automaton) × Prepared p table.now silent back.now sets.now
-        × LookedBack p allowed symbols k then) × (2172 ≤ length output.old) }
-    ensures { (p : Automaton) → Prepared p table.now silent back.now sets.now → LookedBack p allowed symbols k then
-        → Written (Candidate p allowed secret entry (recent k symbols)) output.old (told result) output.new }
+) -> Result<Run, Refusal>
+    requires { (k ≤ 15) × ((p : Automaton) × Goes p ways × LookedBack p ways.allowed symbols k then) × (2172 ≤ length output.old) }
+    ensures { (p : Automaton) → Goes p ways.entry → LookedBack p ways.entry.allowed symbols k then
+        → Written (Candidate p ways.entry.allowed secret entry (recent k symbols)) output.old (told result) output.new }
 {
     let n = k as usize;
     let target = then[n] & !secret;
-    let reached = relation::closure(back, allowed, target);
+    let reached = relation::closure(ways.back, ways.allowed, target);
     let starts = entry & reached;
     if starts == 0 {
-        return Answer::Refused(Refusal::NoWitness);
+        return Err(Refusal::NoWitness);
     }
     let start = u64::trailing_zeros(starts) as u8;
-    let clear = silent_walk(table, silent, back, allowed, target, start, 0, output);
-    let last = follow_symbols(
-        table,
-        silent,
-        back,
-        sets,
-        allowed,
-        symbols,
-        then,
-        k,
-        clear.state,
-        clear.at,
+    let clear = silent_walk(
+        ways,
+        target,
+        Place {
+            state: start,
+            at: 0,
+        },
         output,
     );
-    Answer::Written(Run {
-        start: start,
+    let last = follow_symbols(ways, symbols, then, k, clear, output);
+    Ok(Run {
+        start,
         pairs: last.at / 2,
     })
 }
@@ -142,21 +114,23 @@ pub fn write_witness(
     secret: u64,
     k: u8,
     output: &mut [u8],
-) -> Answer
+) -> Result<Run, Refusal>
     requires { WellFormed table.now header × InLimits header estimator × (k ≤ estimator.count) × (2172 ≤ length output.old) }
     ensures { Written (WitnessIn notion (automaton_of table.now header) secret estimator k) output.old (told result)
         output.new }
 {
-    let symbols = estimator.symbols;
-    let entries = estimator.entries;
-    let entry = word_at(&entries, k as usize);
-    let silent = !header.observable as u64;
+    let entry = word_at(&estimator.entries, k as usize);
     let mut back = [0u64; 64];
     let mut sets = [0u32; 32];
     prepare(table, header, &mut back, &mut sets);
-    let allowed = allowed_by(notion, secret);
-    let then = look_back(table, &back, &sets, allowed, symbols, k);
-    write_run(
-        table, silent, &back, &sets, allowed, secret, symbols, then, k, entry, output,
-    )
+    let ways = Ways {
+        table,
+        silent: !header.observable as u64,
+        back: &back,
+        sets: &sets,
+        allowed: allowed_by(notion, secret),
+    };
+    let symbols = estimator.symbols;
+    let then = look_back(ways, symbols, k);
+    write_run(ways, secret, symbols, then, k, entry, output)
 }

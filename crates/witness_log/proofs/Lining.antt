@@ -1,4 +1,5 @@
 -- Lines that are put: what the writer of runs answers, one line behind another, and all of them at the front of an output. Assumes nothing.
+use Rattle.std.specs.Prelude.{Option, Result, Ok, Err}
 use mathlib.Core.Path.{◌≡◌, refl, ap, sym, subst, ◌∙◌}
 use mathlib.Core.List.{List, [], ◌++◌}
 use mathlib.Core.Logic.{inr}
@@ -19,11 +20,8 @@ use Rattle.verifier.specs.declared.Estimator.{Estimator}
 use Rattle.witness.specs.Witnesses.{bytes_of}
 use Rattle.witness.specs.Answers.{Usable, InReachOf, IsWitness, WritingIn, refused, told, Writing, no_run, too_far, too_small, looked_for}
 use Rattle.witness.specs.Traces.{WrittenRun}
-use Rattle.witness.specs.declared.Answer.{Answer}
-use Rattle.witness.specs.declared.Answer.TheVariants as answer
 use Rattle.witness.specs.declared.Run.{Run}
 use Rattle.witness.proofs.Answering.{exact_writing}
-use Rattle.report.specs.declared.Line.{Line}
 use Rattle.report.specs.Witnesses.{witness_line, no_witness_line, accepted_end}
 use Rattle.report.specs.Writing.{room_for, Written, no_room, written, Wrote}
 use Rattle.report.proofs.Laws.{then, same, none as nothing}
@@ -51,7 +49,7 @@ in_reach h s k limits alone few = record {
 -- ---- one line
 
 -- a line that has room is written
-line_wrote : {room m at n : ℕ} {out out' text : List ℕ} {line : Line} → Written room out at text line out' → at + m ≤ length out → room ≤ m
+line_wrote : {room m at n : ℕ} {out out' text : List ℕ} {line : Option ℕ} → Written room out at text line out' → at + m ≤ length out → room ≤ m
     → n ≡ place_of line 0 → Wrote m out at text out' n
 line_wrote (no_room narrow) fits small e = absurd (narrow (omega arith))
 line_wrote {at = at} {out = out} {text = text} (written space fit) fits small e =
@@ -67,28 +65,28 @@ module _ (t : List ℕ) (h : Header) (s : Estimator) (notion : Notion) (k : ℕ)
   none_found n after (too_small u r short) = absurd (omega arith)
   none_found n after (looked_for u r room (no_run never)) = never
 
-  pub no_line : (a : Answer) (r : Refusal) (after : List ℕ) → a ≡ answer.Refused r → WritingIn t h s notion 0 k lent (told a) after
-      → (out : List ℕ) (at : ℕ) (line : Line) (out' : List ℕ) (n : ℕ) → at + 23956 ≤ length out
+  pub no_line : (a : Result Run Refusal) (r : Refusal) (after : List ℕ) → a ≡ Err r → WritingIn t h s notion 0 k lent (told a) after
+      → (out : List ℕ) (at : ℕ) (line : Option ℕ) (out' : List ℕ) (n : ℕ) → at + 23956 ≤ length out
       → Written (room_for 0) out at (no_witness_line notion k) line out' → n ≡ place_of line 0 → PutLine t h s notion k out at out' n
   no_line a r after is w out at line out' n fits put e = record {
     text = no_witness_line notion k;
-    line = output.no_run (none_found (number_of r) after (subst (λ (x : Answer). WritingIn t h s notion 0 k lent (told x) after) is w));
+    line = output.no_run (none_found (number_of r) after (subst (λ (x : Result Run Refusal). WritingIn t h s notion 0 k lent (told x) after) is w));
     wrote = line_wrote put fits (omega arith) e;
   }
 
   -- a run that was written
-  pub written_run : (a : Answer) (run : Run) (after : List ℕ) → a ≡ answer.Written run → WritingIn t h s notion 0 k lent (told a) after
+  pub written_run : (a : Result Run Refusal) (run : Run) (after : List ℕ) → a ≡ Ok run → WritingIn t h s notion 0 k lent (told a) after
       → WrittenRun (IsWitness t h s notion 0 k) lent run.start run.pairs after
   written_run a run after is w =
-      (exact_writing (Usable t h s) (InReachOf h s 0 k) (IsWitness t h s notion 0 k) lent usable (told (answer.Written run)) after
-      (subst (λ (x : Answer). WritingIn t h s notion 0 k lent (told x) after) is w)).run run.start run.pairs refl
+      (exact_writing (Usable t h s) (InReachOf h s 0 k) (IsWitness t h s notion 0 k) lent usable (told (Ok run)) after
+      (subst (λ (x : Result Run Refusal). WritingIn t h s notion 0 k lent (told x) after) is w)).run run.start run.pairs refl
 
   pub run_room : (start pairs : ℕ) (after : List ℕ) → WrittenRun (IsWitness t h s notion 0 k) lent start pairs after
       → (2 * pairs < 2 ^ 64) × (2 * pairs ≤ length after)
   run_room start pairs after x = (omega (arith, x.few), omega (arith, x.few, x.size))
 
   pub run_line : (start pairs : ℕ) (after : List ℕ) → WrittenRun (IsWitness t h s notion 0 k) lent start pairs after
-      → (out : List ℕ) (at : ℕ) (line : Line) (out' : List ℕ) (n : ℕ) → at + 23956 ≤ length out
+      → (out : List ℕ) (at : ℕ) (line : Option ℕ) (out' : List ℕ) (n : ℕ) → at + 23956 ≤ length out
       → Written (room_for (length (take (2 * pairs - 0) after))) out at (witness_line notion k start (take (2 * pairs - 0) after)) line out' → n ≡ place_of line 0
       → PutLine t h s notion k out at out' n
   run_line start pairs after x out at line out' n fits put e =
@@ -125,7 +123,7 @@ front_is : (text out out' : List ℕ) (n : ℕ) → out' ≡ sets out 0 text →
 front_is text out out' n bytes place fits =
     ap (take n) bytes ∙ ap (λ (i : ℕ). take i (sets out 0 text)) place ∙ take_is text out 0 (inr (omega arith))
 
-pub output_put : (t : List ℕ) (h : Header) (f : Followed) (out mid out₂ : List ℕ) (weak strong : ℕ) (line : Line) (out' : List ℕ) (n : ℕ)
+pub output_put : (t : List ℕ) (h : Header) (f : Followed) (out mid out₂ : List ℕ) (weak strong : ℕ) (line : Option ℕ) (out' : List ℕ) (n : ℕ)
     → Usable t h f.estimator → 766656 ≤ length out
     → PutLines t h f.estimator Weak (f.estimator.count + 1) out 0 mid weak
     → PutLines t h f.estimator Strong (f.estimator.count + 1) mid weak out₂ strong

@@ -1,4 +1,5 @@
 -- What stands at the front of the output is an output of the input by the definitions. Assumes nothing.
+use Rattle.std.specs.Prelude.{Option}
 use mathlib.Core.Path.{◌≡◌, refl, sym, ap, subst, ◌∙◌}
 use mathlib.Core.List.{List, [], ◌++◌, append-nil}
 use mathlib.Core.Logic.{◌⊎◌, ◌↔◌, inl, inr}
@@ -24,7 +25,6 @@ use Rattle.leaks.specs.FirstLeaks.{nowhere, AcceptedPart}
 use Rattle.leaks.specs.Searches.{Beginning}
 use Rattle.witness.specs.Answers.{Usable, IsWitness}
 use Rattle.witness.proofs.WholeTrace.{grown_witness}
-use Rattle.report.specs.declared.Line.{Line}
 use Rattle.report.specs.Text.{refused_log}
 use Rattle.report.specs.Witnesses.{accepted_end}
 use Rattle.report.specs.Writing.{room_for, Written, no_room, written}
@@ -177,13 +177,13 @@ ran_read first out n t h s b r out' (opened whole d begin) x (put {f = f} bytes 
 ran_read first out n t h s b r out' (opened whole d begin) x not_read = failed
 
 -- a line that has room stands at the front of the output
-line_is : {text out out' : List ℕ} {line : Line} {n : ℕ} → 64 ≤ length out → Written (room_for 0) out 0 text line out' → n ≡ place_of line 0
+line_is : {text out out' : List ℕ} {line : Option ℕ} {n : ℕ} → 64 ≤ length out → Written (room_for 0) out 0 text line out' → n ≡ place_of line 0
     → (n ≤ length out') × (take n out' ≡ text)
 line_is room (no_room narrow) e = absurd (narrow (omega arith))
 line_is {text} {out} room (written space fit) e =
     (omega (arith, length-sets out 0 text), ap (λ (k : ℕ). take k (sets out 0 text)) e ∙ take_is text out 0 (inr (omega arith)))
 
-pub ran_refused : (first out : List ℕ) (r : Refusal) (t : List ℕ) (h : Header) (s : Search) (line : Line) (out' : List ℕ) (n : ℕ)
+pub ran_refused : (first out : List ℕ) (r : Refusal) (t : List ℕ) (h : Header) (s : Search) (line : Option ℕ) (out' : List ℕ) (n : ℕ)
     → Opening Weak first (opening.refused (number_of r)) t h s → 766656 ≤ length out → Written (room_for 0) out 0 (refused_log r) line out' → n ≡ place_of line 0
     → Ran first out n out'
 ran_refused first out r t h s line out' n o room w e =

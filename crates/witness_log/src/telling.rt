@@ -10,7 +10,6 @@ use opacity::Notion;
 use report::witnesses::{accepted_end, no_witness};
 use streams::writes::place;
 use verifier::Estimator;
-use witness::Answer;
 
 // Two bytes for each of 1,086 pairs.
 const RUN: usize = 2172;
@@ -30,8 +29,8 @@ fn put_line(
 {
     let mut pairs = [0u8; RUN];
     match witness::witness(estimator, table, header, notion, 0, k, &mut pairs) {
-        Answer::Refused(_) => place(no_witness(out, at, notion, k)),
-        Answer::Written(run) => {
+        Err(_) => place(no_witness(out, at, notion, k)),
+        Ok(run) => {
             let n = 2 * run.pairs;
             place(report::witnesses::witness(out, at, notion, k, run.start, &pairs[0..n]))
         }

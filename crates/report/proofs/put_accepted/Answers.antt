@@ -1,0 +1,13 @@
+use Rattle.std.proofs.Common.{ℕ, [], ◌∷◌, ◌++◌, ap, ◌∙◌, arith}
+use Rattle.report.specs.Text.{decimal, steps, symbols}
+use Rattle.report.proofs.Laws.{then, same, judgement_lined}
+use Rattle.report.proofs.put_accepted.Goals as goal
+
+pub returns : goal.returns
+returns c =
+    let a = c.args in
+    let own = a.judgement.verdicts.own in
+    same (ap (λ (k : ℕ). decimal a.place ++ ((32 ∷ decimal k) ++ (((32 ∷ steps own.weak) ++ ((32 ∷ steps own.strong) ++ (32 ∷ decimal a.judgement.size)))
+    ++ ((32 ∷ symbols a.released.now) ++ (10 ∷ []))))) c.from.ensures
+    ∙ judgement_lined (decimal a.place) (decimal a.symbol) (steps own.weak) (steps own.strong) (decimal a.judgement.size) (symbols a.released.now)) (omega arith)
+    (then c.number-a.ensures (then c.field-b.ensures (then c.judgement_fields-c.ensures (then c.symbols_field-d.ensures c.put.ensures))))

@@ -1,0 +1,13 @@
+use Rattle.stateset.proofs.Decides.{holds, fails}
+use Rattle.report.specs.Writing.{no_room}
+use Rattle.report.proofs.Laws.{entered}
+use Rattle.report.proofs.witnesses.witness.Goals as goal
+
+pub put_witness-requires : goal.put_witness-requires
+put_witness-requires c = holds _ c.if-not-has_room.false c.has_room.ensures
+
+pub returns-then-not-has_room : goal.returns-then-not-has_room
+returns-then-not-has_room c = no_room (fails _ c.if-not-has_room.true c.has_room.ensures)
+
+pub returns : goal.returns
+returns c = entered (holds _ c.if-not-has_room.false c.has_room.ensures) c.put_witness.ensures

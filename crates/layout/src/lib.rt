@@ -23,42 +23,28 @@ pub mod sizes;
 
 // ---- numbers and arrays
 
-fn wide(x: u8) -> u64
-    ensures { result ≡ x }
+// An array of bytes as they are.
+fn array_at<const N: usize>(bytes: &[u8], at: usize) -> [u8; N]
+    requires { at + N ≤ length bytes.now }
+    ensures { result ≡ bytes_at bytes.now at N }
 {
-    x as u64
+    let mut array = [0u8; N];
+    array.copy_from_slice(&bytes[at..at + N]);
+    array
 }
 
-// The number that half a word's bytes write from `at` on. (Written out, and not a loop: the compiler makes one load of it.)
-fn half_at(bytes: &[u8], at: usize) -> u64
+fn half_at(bytes: &[u8], at: usize) -> u32
     requires { at + sizes.half_size ≤ length bytes.now }
     ensures { result ≡ little_endian_at bytes.now at sizes.half_size }
 {
-    wide(bytes[at])
-        + wide(bytes[at + 1]) * 256
-        + wide(bytes[at + 2]) * 65536
-        + wide(bytes[at + 3]) * 16777216
+    u32::from_le_bytes(array_at(bytes, at))
 }
 
 fn word_at(bytes: &[u8], at: usize) -> u64
     requires { at + sizes.word_size ≤ length bytes.now }
     ensures { result ≡ word_at bytes.now at }
 {
-    half_at(bytes, at) + half_at(bytes, at + sizes::HALF_SIZE) * 4294967296
-}
-
-// Writes the `n` bytes of a number from `at` on.
-fn store_number(bytes: &mut [u8], at: usize, n: usize, number: u64)
-    requires { (n ≤ sizes.word_size) × (at + n ≤ length bytes.old) }
-    ensures { Stored bytes.old at (little_endian_bytes n number) bytes.new }
-{
-    let mut rest = number;
-    let mut i: usize = 0;
-    while i < n {
-        bytes[at + i] = (rest % 256) as u8;
-        rest /= 256;
-        i += 1;
-    }
+    u64::from_le_bytes(array_at(bytes, at))
 }
 
 fn put(bytes: &mut [u8], at: usize, byte: u8)
@@ -68,41 +54,29 @@ fn put(bytes: &mut [u8], at: usize, byte: u8)
     bytes[at] = byte;
 }
 
-// An array of bytes as they are, of any length.
-fn load_bytes(bytes: &[u8], at: usize, array: &mut [u8])
-    requires { at + length array.old ≤ length bytes.now }
-    ensures { array.new ≡ bytes_at bytes.now at (length array.old) }
-{
-    let n = array.len();
-    let mut i: usize = 0;
-    while i < n {
-        array[i] = bytes[at + i];
-        i += 1;
-    }
-}
-
 fn store_bytes(bytes: &mut [u8], at: usize, array: &[u8])
     requires { at + length array.now ≤ length bytes.old }
     ensures { Stored bytes.old at array.now bytes.new }
 {
-    let n = array.len();
-    let mut i: usize = 0;
-    while i < n {
-        bytes[at + i] = array[i];
-        i += 1;
-    }
+    bytes[at..at + array.len()].copy_from_slice(array);
 }
 
-// So of words.
+// Writes the `n` lowest bytes of a number from `at` on.
+fn store_number(bytes: &mut [u8], at: usize, n: usize, number: u64)
+    requires { (n ≤ sizes.word_size) × (at + n ≤ length bytes.old) }
+    ensures { Stored bytes.old at (little_endian_bytes n number) bytes.new }
+{
+    let all = number.to_le_bytes();
+    store_bytes(bytes, at, &all[..n]);
+}
+
+// An array of words.
 fn load_words(bytes: &[u8], at: usize, words: &mut [u64])
     requires { at + sizes.word_size * length words.old ≤ length bytes.now }
     ensures { words.new ≡ words_at bytes.now at (length words.old) }
 {
-    let n = words.len();
-    let mut i: usize = 0;
-    while i < n {
-        words[i] = word_at(bytes, at + sizes::WORD_SIZE * i);
-        i += 1;
+    for (i, word) in words.iter_mut().enumerate() {
+        *word = word_at(bytes, at + sizes::WORD_SIZE * i);
     }
 }
 
@@ -111,12 +85,8 @@ fn store_words(bytes: &mut [u8], at: usize, words: &[u64])
     ensures { ((l : ℕ) → get_or words.now l 0 < 2 ^ 64)
         × Stored bytes.old at (words_bytes words.now) bytes.new }
 {
-    let n = words.len();
-    let mut i: usize = 0;
-    while i < n {
-        let word = words[i];
-        store_number(bytes, at + sizes::WORD_SIZE * i, sizes::WORD_SIZE, word);
-        i += 1;
+    for (i, word) in words.iter().enumerate() {
+        store_number(bytes, at + sizes::WORD_SIZE * i, sizes::WORD_SIZE, *word);
     }
 }
 
@@ -126,14 +96,12 @@ pub fn read_header(bytes: &[u8]) -> Header
     requires { length bytes.now ≡ sizes.header_size }
     ensures { result ≡ header_at bytes.now }
 {
-    let mut symbols = [0u8; sizes::EVENT_COUNT];
-    load_bytes(bytes, sizes::SYMBOLS_PLACE, &mut symbols);
     Header {
         initial: bytes[sizes::INITIAL_PLACE],
         k: bytes[sizes::HEADER_K_PLACE],
         secret: word_at(bytes, sizes::HEADER_SECRET_PLACE),
-        observable: half_at(bytes, sizes::OBSERVABLE_PLACE) as u32,
-        symbols: symbols,
+        observable: half_at(bytes, sizes::OBSERVABLE_PLACE),
+        symbols: array_at(bytes, sizes::SYMBOLS_PLACE),
     }
 }
 
@@ -232,16 +200,13 @@ pub fn read_estimator(bytes: &[u8]) -> Estimator
     requires { sizes.estimator_size ≤ length bytes.now }
     ensures { result ≡ estimator_at bytes.now }
 {
-    let mut symbols = [0u8; sizes::MOST_REMEMBERED];
-    load_bytes(bytes, sizes::REMEMBERED_SYMBOLS_PLACE, &mut symbols);
     let mut entries = [0u64; sizes::ENTRY_COUNT];
     load_words(bytes, sizes::ENTRIES_PLACE, &mut entries);
-    let further = read_further(bytes, sizes::FURTHER_PLACE);
     Estimator {
         count: bytes[sizes::REMEMBERED_PLACE],
-        symbols: symbols,
-        entries: entries,
-        further: further,
+        symbols: array_at(bytes, sizes::REMEMBERED_SYMBOLS_PLACE),
+        entries,
+        further: read_further(bytes, sizes::FURTHER_PLACE),
     }
 }
 
@@ -283,18 +248,12 @@ pub fn read_enforcer(bytes: &[u8]) -> Enforcer
     requires { length bytes.now ≡ sizes.enforcer_size }
     ensures { result ≡ enforcer_at bytes.now }
 {
-    let estimator = read_estimator(bytes);
-    let notion = notion_of(bytes[sizes::NOTION_PLACE]);
-    let mut pending = [0u8; sizes::MOST_PENDING];
-    load_bytes(bytes, sizes::PENDING_SYMBOLS_PLACE, &mut pending);
-    let mut waits = [0u8; sizes::MOST_PENDING];
-    load_bytes(bytes, sizes::WAITS_PLACE, &mut waits);
     Enforcer {
-        estimator: estimator,
-        notion: notion,
+        estimator: read_estimator(bytes),
+        notion: notion_of(bytes[sizes::NOTION_PLACE]),
         count: bytes[sizes::PENDING_PLACE],
-        pending: pending,
-        waits: waits,
+        pending: array_at(bytes, sizes::PENDING_SYMBOLS_PLACE),
+        waits: array_at(bytes, sizes::WAITS_PLACE),
     }
 }
 

@@ -11,7 +11,7 @@ ghost use Rattle.layout.specs.Layout.{Stored, little_endian_at, little_endian_by
 ghost use Rattle.layout.specs.Layout.{header_at, header_bytes, place_at, place_bytes, further_at, further_bytes, FurtherSized};
 ghost use Rattle.layout.specs.Layout.{estimator_at, estimator_bytes, EstimatorSized, notion_at, notion_byte, enforcer_at, enforcer_bytes, EnforcerSized};
 ghost use Rattle.layout.specs.Layout.{verdict_byte, told_bytes, all_findings, judgement_bytes, release_bytes, exploration_bytes};
-ghost use Rattle.layout.specs.Layout.{run_bytes, valid_byte_of, valid_bytes};
+ghost use Rattle.layout.specs.Layout.{run_bytes, valid_bytes};
 
 use automaton::Header;
 use enforcer::{Enforcer, Release};
@@ -109,7 +109,6 @@ pub fn write_header(bytes: &mut [u8], header: Header)
     requires { length bytes.old ≡ sizes.header_size }
     ensures { bytes.new ≡ header_bytes header }
 {
-    let symbols = header.symbols;
     put(bytes, sizes::INITIAL_PLACE, header.initial);
     put(bytes, sizes::HEADER_K_PLACE, header.k);
     store_number(
@@ -124,7 +123,7 @@ pub fn write_header(bytes: &mut [u8], header: Header)
         sizes::HALF_SIZE,
         header.observable as u64,
     );
-    store_bytes(bytes, sizes::SYMBOLS_PLACE, &symbols);
+    store_bytes(bytes, sizes::SYMBOLS_PLACE, &header.symbols);
 }
 
 // ---- further secrets
@@ -165,31 +164,29 @@ fn store_further(bytes: &mut [u8], at: usize, further: Further)
     requires { at + sizes.further_size ≤ length bytes.old }
     ensures { FurtherSized further × Stored bytes.old at (further_bytes further) bytes.new }
 {
-    let states = further.states;
-    let k = further.k;
     put(bytes, at, further.count);
     store_secret(
         bytes,
         at + sizes::FIRST_SECRET_PLACE,
         Secret {
-            states: states[0],
-            k: k[0],
+            states: further.states[0],
+            k: further.k[0],
         },
     );
     store_secret(
         bytes,
         at + sizes::SECOND_SECRET_PLACE,
         Secret {
-            states: states[1],
-            k: k[1],
+            states: further.states[1],
+            k: further.k[1],
         },
     );
     store_secret(
         bytes,
         at + sizes::THIRD_SECRET_PLACE,
         Secret {
-            states: states[2],
-            k: k[2],
+            states: further.states[2],
+            k: further.k[2],
         },
     );
 }
@@ -215,13 +212,10 @@ pub fn write_estimator(bytes: &mut [u8], estimator: Estimator)
     requires { sizes.estimator_size ≤ length bytes.old }
     ensures { EstimatorSized estimator × Stored bytes.old 0 (estimator_bytes estimator) bytes.new }
 {
-    let symbols = estimator.symbols;
-    let entries = estimator.entries;
-    let further = estimator.further;
     put(bytes, sizes::REMEMBERED_PLACE, estimator.count);
-    store_bytes(bytes, sizes::REMEMBERED_SYMBOLS_PLACE, &symbols);
-    store_words(bytes, sizes::ENTRIES_PLACE, &entries);
-    store_further(bytes, sizes::FURTHER_PLACE, further);
+    store_bytes(bytes, sizes::REMEMBERED_SYMBOLS_PLACE, &estimator.symbols);
+    store_words(bytes, sizes::ENTRIES_PLACE, &estimator.entries);
+    store_further(bytes, sizes::FURTHER_PLACE, estimator.further);
 }
 
 // ---- enforcers
@@ -229,10 +223,10 @@ pub fn write_estimator(bytes: &mut [u8], estimator: Estimator)
 pub fn notion_of(byte: u8) -> Notion
     ensures { result ≡ notion_at byte }
 {
-    if byte == sizes::WEAK_BYTE {
-        return Notion::Weak;
+    match byte {
+        sizes::WEAK_BYTE => Notion::Weak,
+        _ => Notion::Strong,
     }
-    Notion::Strong
 }
 
 fn notion_byte(notion: Notion) -> u8
@@ -261,15 +255,11 @@ pub fn write_enforcer(bytes: &mut [u8], enforcer: Enforcer)
     requires { length bytes.old ≡ sizes.enforcer_size }
     ensures { EnforcerSized enforcer × (bytes.new ≡ enforcer_bytes enforcer) }
 {
-    let estimator = enforcer.estimator;
-    let notion = enforcer.notion;
-    let pending = enforcer.pending;
-    let waits = enforcer.waits;
-    write_estimator(bytes, estimator);
-    put(bytes, sizes::NOTION_PLACE, notion_byte(notion));
+    write_estimator(bytes, enforcer.estimator);
+    put(bytes, sizes::NOTION_PLACE, notion_byte(enforcer.notion));
     put(bytes, sizes::PENDING_PLACE, enforcer.count);
-    store_bytes(bytes, sizes::PENDING_SYMBOLS_PLACE, &pending);
-    store_bytes(bytes, sizes::WAITS_PLACE, &waits);
+    store_bytes(bytes, sizes::PENDING_SYMBOLS_PLACE, &enforcer.pending);
+    store_bytes(bytes, sizes::WAITS_PLACE, &enforcer.waits);
 }
 
 // ---- judgements, releases, explorations, first leaks, written sizes and witnesses
@@ -287,10 +277,12 @@ fn store_verdicts(bytes: &mut [u8], at: usize, verdicts: Verdicts)
     requires { at + sizes.verdicts_size ≤ length bytes.old }
     ensures { Stored bytes.old at (told_bytes (told_of verdicts)) bytes.new }
 {
-    let weak = verdicts.weak;
-    let strong = verdicts.strong;
-    put(bytes, at, verdict_byte(weak));
-    put(bytes, at + sizes::STRONG_PLACE, verdict_byte(strong));
+    put(bytes, at, verdict_byte(verdicts.weak));
+    put(
+        bytes,
+        at + sizes::STRONG_PLACE,
+        verdict_byte(verdicts.strong),
+    );
 }
 
 pub fn write_judgement(bytes: &mut [u8], judgement: Judgement)
@@ -298,14 +290,10 @@ pub fn write_judgement(bytes: &mut [u8], judgement: Judgement)
     ensures { bytes.new ≡ judgement_bytes (all_findings judgement) }
 {
     let verdicts = judgement.verdicts;
-    let own = verdicts.own;
-    let first = verdicts.first;
-    let second = verdicts.second;
-    let third = verdicts.third;
-    store_verdicts(bytes, sizes::OWN_VERDICTS_PLACE, own);
-    store_verdicts(bytes, sizes::FIRST_VERDICTS_PLACE, first);
-    store_verdicts(bytes, sizes::SECOND_VERDICTS_PLACE, second);
-    store_verdicts(bytes, sizes::THIRD_VERDICTS_PLACE, third);
+    store_verdicts(bytes, sizes::OWN_VERDICTS_PLACE, verdicts.own);
+    store_verdicts(bytes, sizes::FIRST_VERDICTS_PLACE, verdicts.first);
+    store_verdicts(bytes, sizes::SECOND_VERDICTS_PLACE, verdicts.second);
+    store_verdicts(bytes, sizes::THIRD_VERDICTS_PLACE, verdicts.third);
     put(bytes, sizes::JUDGED_POSSIBLE_PLACE, judgement.size);
 }
 
@@ -353,19 +341,10 @@ pub fn write_run(bytes: &mut [u8], start: u8, pairs: usize)
     );
 }
 
-// What the checker of witnesses says.
-fn valid_byte(valid: bool) -> u8
-    ensures { result ≡ valid_byte_of valid }
-{
-    if valid {
-        return sizes::VALID_BYTE;
-    }
-    sizes::INVALID_BYTE
-}
-
+// What the checker of witnesses says: 1 for yes, 0 for no.
 pub fn write_valid(bytes: &mut [u8], valid: bool)
     requires { length bytes.old ≡ sizes.valid_size }
     ensures { bytes.new ≡ valid_bytes valid }
 {
-    put(bytes, sizes::VALID_PLACE, valid_byte(valid));
+    put(bytes, sizes::VALID_PLACE, u8::from(valid));
 }

@@ -49,13 +49,10 @@ number_after bytes at n =
       number_more bytes (suc (suc (suc at))) n,
     ))
 
--- the number of four bytes, and that of eight in two halves
+-- the number of four bytes
 pub number_four : (bytes : List ℕ) (at : ℕ)
     → little_endian_at bytes at 4 ≡ get_or bytes at 0 + get_or bytes (at + 1) 0 * 256 + get_or bytes (at + 2) 0 * 65536 + get_or bytes (at + 3) 0 * 16777216
 number_four bytes at = omega (arith, number_after bytes at 0, number_none bytes (at + 4))
-
-pub number_eight : (bytes : List ℕ) (at : ℕ) → little_endian_at bytes at 8 ≡ little_endian_at bytes at 4 + little_endian_at bytes (at + 4) 4 * 4294967296
-number_eight bytes at = omega (arith, number_after bytes at 4, number_four bytes at)
 
 -- ---- how many bytes
 

@@ -1,14 +1,16 @@
 -- What stores leave of a slice, one behind the other. Assumes nothing.
-use Prim.Native.Nat.{ℕ, zero, suc, ◌+◌, ◌/◌, ◌%◌, ◌-◌, ◌≤◌, ◌<◌}
-use mathlib.Core.Path.{◌≡◌, refl, ap, ◌∙◌}
+use Prim.Native.Nat.{ℕ, zero, suc, ◌+◌, ◌-◌, ◌≤◌, ◌<◌}
+use mathlib.Core.Path.{◌≡◌, refl, ap, sym, ◌∙◌}
 use mathlib.Core.List.{List, [], ◌∷◌, ◌++◌, append-nil}
 use native.Mathlib.Omega.{arith}
 use native.Mathlib.Numerals.{add-one}
-use lib.ListN.{length, get_or, set, drop}
-use lib.Seq.{sets, sets-eq, length-sets, drop-cons}
+use borrow.Rule.Slice.PartMut.{put_mid}
+use lib.ListN.{length, get_or, take, drop}
+use lib.Seq.{sets, sets-eq, length-sets, drop-cons, take-length}
+use Rattle.std.proofs.lemmas.Slice.{put_mid-paste}
 use Rattle.lists.proofs.Filled.{sets_append}
 use Rattle.layout.specs.Sizes.{word_size}
-use Rattle.layout.specs.Layout.{Stored, little_endian_bytes, word_bytes, words_bytes}
+use Rattle.layout.specs.Layout.{Stored, word_bytes, words_bytes}
 use Rattle.layout.proofs.Bytes.{bytes_length}
 
 drop_all : (i : ℕ) (l : List ℕ) → length l ≤ i → drop i l ≡ []
@@ -27,6 +29,15 @@ then {before} {at = at} {next} {xs} {ys} a e b =
 pub whole : {before after xs : List ℕ} → Stored before 0 xs after → length xs ≡ length before → after ≡ xs
 whole {before} {xs = xs} a e =
     a.is ∙ sets-eq xs before 0 (omega arith) ∙ ap (λ (l : List ℕ). xs ++ l) (drop_all (0 + length xs) before (omega arith)) ∙ append-nil xs
+
+-- a text that is written over a part of the slice
+pub stored_part : (before : List ℕ) (at : ℕ) (text part : List ℕ) → at + length text ≤ length before → part ≡ text
+    → Stored before at text (put_mid at (at + length text - at) before part)
+stored_part before at text part h e = record {
+  is = put_mid-paste at (at + length text - at) before part text (length text) e (omega arith) refl
+      ∙ ap (λ (l : List ℕ). take at before ++ l ++ drop (at + length text) before) (take-length text)
+      ∙ sym (sets-eq text before at h);
+}
 
 -- ---- a loop that stores a text part by part: with what is left, stored from a place on, the slice is as it should be
 
@@ -47,31 +58,6 @@ store_turn {bytes = bytes} {xs = xs} {left} {place = place} {next} x e s =
 
 store_end : {before text bytes : List ℕ} {at place : ℕ} → Storing before at text place bytes [] → Stored before at text bytes
 store_end x = record { is = x.is }
-
--- one byte
-pub put_turn : {before text bytes left : List ℕ} {at place next : ℕ} (byte : ℕ) → Storing before at text place bytes (byte ∷ left) → place + 1 ≡ next
-    → Storing before at text next (set bytes place byte) left
-put_turn byte x e = store_turn {xs = byte ∷ []} x e (record { is = refl })
-
--- the bytes of a number
-pub number_turn : {before text bytes : List ℕ} {at place next : ℕ} (n i rest : ℕ) → Storing before at text place bytes (little_endian_bytes (n - i) rest) → i < n
-    → place + 1 ≡ next → Storing before at text next (set bytes place (rest % 256)) (little_endian_bytes (n - (i + 1)) (rest / 256))
-unfolding little_endian_bytes
-number_turn n i rest x h e = let m : n - i ≡ suc (n - (i + 1)) = omega arith in put_turn (rest % 256) (rw m at x) e
-
-pub number_end : {before text bytes : List ℕ} {at place : ℕ} (n i rest : ℕ) → Storing before at text place bytes (little_endian_bytes (n - i) rest) → n ≤ i
-    → Stored before at text bytes
-unfolding little_endian_bytes
-number_end n i rest x h = let m : n - i ≡ 0 = omega arith in store_end (rw m at x)
-
--- an array of bytes, of any length
-pub copy_turn : {before text bytes : List ℕ} {at place next : ℕ} (array : List ℕ) (i : ℕ) → Storing before at text place bytes (drop i array) → i < length array
-    → place + 1 ≡ next → Storing before at text next (set bytes place (get_or array i 0)) (drop (i + 1) array)
-copy_turn array i x h e = rw (add-one i) (put_turn (get_or array i 0) (rw (drop-cons array i 0 h) at x) e)
-
-pub copy_end : {before text bytes : List ℕ} {at place : ℕ} (array : List ℕ) (i : ℕ) → Storing before at text place bytes (drop i array) → length array ≤ i
-    → Stored before at text bytes
-copy_end array i x h = store_end (rw (drop_all i array h) at x)
 
 -- an array of words
 pub words_turn : {before text bytes after : List ℕ} {at place next : ℕ} (words : List ℕ) (i : ℕ)

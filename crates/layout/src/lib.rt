@@ -11,7 +11,7 @@ ghost use Rattle.layout.specs.Layout.{Stored, little_endian_at, little_endian_by
 ghost use Rattle.layout.specs.Layout.{header_at, header_bytes, place_at, place_bytes, further_at, further_bytes, FurtherSized};
 ghost use Rattle.layout.specs.Layout.{estimator_at, estimator_bytes, EstimatorSized, notion_at, notion_byte, enforcer_at, enforcer_bytes, EnforcerSized};
 ghost use Rattle.layout.specs.Layout.{verdict_byte, told_bytes, all_findings, judgement_bytes, release_bytes, exploration_bytes};
-ghost use Rattle.layout.specs.Layout.{run_bytes, valid_byte_of, valid_bytes};
+ghost use Rattle.layout.specs.Layout.{run_bytes, valid_bytes};
 
 use automaton::Header;
 use enforcer::{Enforcer, Release};
@@ -23,42 +23,28 @@ pub mod sizes;
 
 // ---- numbers and arrays
 
-fn wide(x: u8) -> u64
-    ensures { result ≡ x }
+// An array of bytes as they are.
+fn array_at<const N: usize>(bytes: &[u8], at: usize) -> [u8; N]
+    requires { at + N ≤ length bytes.now }
+    ensures { result ≡ bytes_at bytes.now at N }
 {
-    x as u64
+    let mut array = [0u8; N];
+    array.copy_from_slice(&bytes[at..at + N]);
+    array
 }
 
-// The number that half a word's bytes write from `at` on. (Written out, and not a loop: the compiler makes one load of it.)
-fn half_at(bytes: &[u8], at: usize) -> u64
+fn half_at(bytes: &[u8], at: usize) -> u32
     requires { at + sizes.half_size ≤ length bytes.now }
     ensures { result ≡ little_endian_at bytes.now at sizes.half_size }
 {
-    wide(bytes[at])
-        + wide(bytes[at + 1]) * 256
-        + wide(bytes[at + 2]) * 65536
-        + wide(bytes[at + 3]) * 16777216
+    u32::from_le_bytes(array_at(bytes, at))
 }
 
 fn word_at(bytes: &[u8], at: usize) -> u64
     requires { at + sizes.word_size ≤ length bytes.now }
     ensures { result ≡ word_at bytes.now at }
 {
-    half_at(bytes, at) + half_at(bytes, at + sizes::HALF_SIZE) * 4294967296
-}
-
-// Writes the `n` bytes of a number from `at` on.
-fn store_number(bytes: &mut [u8], at: usize, n: usize, number: u64)
-    requires { (n ≤ sizes.word_size) × (at + n ≤ length bytes.old) }
-    ensures { Stored bytes.old at (little_endian_bytes n number) bytes.new }
-{
-    let mut rest = number;
-    let mut i: usize = 0;
-    while i < n {
-        bytes[at + i] = (rest % 256) as u8;
-        rest /= 256;
-        i += 1;
-    }
+    u64::from_le_bytes(array_at(bytes, at))
 }
 
 fn put(bytes: &mut [u8], at: usize, byte: u8)
@@ -68,41 +54,29 @@ fn put(bytes: &mut [u8], at: usize, byte: u8)
     bytes[at] = byte;
 }
 
-// An array of bytes as they are, of any length.
-fn load_bytes(bytes: &[u8], at: usize, array: &mut [u8])
-    requires { at + length array.old ≤ length bytes.now }
-    ensures { array.new ≡ bytes_at bytes.now at (length array.old) }
-{
-    let n = array.len();
-    let mut i: usize = 0;
-    while i < n {
-        array[i] = bytes[at + i];
-        i += 1;
-    }
-}
-
 fn store_bytes(bytes: &mut [u8], at: usize, array: &[u8])
     requires { at + length array.now ≤ length bytes.old }
     ensures { Stored bytes.old at array.now bytes.new }
 {
-    let n = array.len();
-    let mut i: usize = 0;
-    while i < n {
-        bytes[at + i] = array[i];
-        i += 1;
-    }
+    bytes[at..at + array.len()].copy_from_slice(array);
 }
 
-// So of words.
+// Writes the `n` lowest bytes of a number from `at` on.
+fn store_number(bytes: &mut [u8], at: usize, n: usize, number: u64)
+    requires { (n ≤ sizes.word_size) × (at + n ≤ length bytes.old) }
+    ensures { Stored bytes.old at (little_endian_bytes n number) bytes.new }
+{
+    let all = number.to_le_bytes();
+    store_bytes(bytes, at, &all[..n]);
+}
+
+// An array of words.
 fn load_words(bytes: &[u8], at: usize, words: &mut [u64])
     requires { at + sizes.word_size * length words.old ≤ length bytes.now }
     ensures { words.new ≡ words_at bytes.now at (length words.old) }
 {
-    let n = words.len();
-    let mut i: usize = 0;
-    while i < n {
-        words[i] = word_at(bytes, at + sizes::WORD_SIZE * i);
-        i += 1;
+    for (i, word) in words.iter_mut().enumerate() {
+        *word = word_at(bytes, at + sizes::WORD_SIZE * i);
     }
 }
 
@@ -111,12 +85,8 @@ fn store_words(bytes: &mut [u8], at: usize, words: &[u64])
     ensures { ((l : ℕ) → get_or words.now l 0 < 2 ^ 64)
         × Stored bytes.old at (words_bytes words.now) bytes.new }
 {
-    let n = words.len();
-    let mut i: usize = 0;
-    while i < n {
-        let word = words[i];
-        store_number(bytes, at + sizes::WORD_SIZE * i, sizes::WORD_SIZE, word);
-        i += 1;
+    for (i, word) in words.iter().enumerate() {
+        store_number(bytes, at + sizes::WORD_SIZE * i, sizes::WORD_SIZE, *word);
     }
 }
 
@@ -126,14 +96,12 @@ pub fn read_header(bytes: &[u8]) -> Header
     requires { length bytes.now ≡ sizes.header_size }
     ensures { result ≡ header_at bytes.now }
 {
-    let mut symbols = [0u8; sizes::EVENT_COUNT];
-    load_bytes(bytes, sizes::SYMBOLS_PLACE, &mut symbols);
     Header {
         initial: bytes[sizes::INITIAL_PLACE],
         k: bytes[sizes::HEADER_K_PLACE],
         secret: word_at(bytes, sizes::HEADER_SECRET_PLACE),
-        observable: half_at(bytes, sizes::OBSERVABLE_PLACE) as u32,
-        symbols: symbols,
+        observable: half_at(bytes, sizes::OBSERVABLE_PLACE),
+        symbols: array_at(bytes, sizes::SYMBOLS_PLACE),
     }
 }
 
@@ -141,7 +109,6 @@ pub fn write_header(bytes: &mut [u8], header: Header)
     requires { length bytes.old ≡ sizes.header_size }
     ensures { bytes.new ≡ header_bytes header }
 {
-    let symbols = header.symbols;
     put(bytes, sizes::INITIAL_PLACE, header.initial);
     put(bytes, sizes::HEADER_K_PLACE, header.k);
     store_number(
@@ -156,7 +123,7 @@ pub fn write_header(bytes: &mut [u8], header: Header)
         sizes::HALF_SIZE,
         header.observable as u64,
     );
-    store_bytes(bytes, sizes::SYMBOLS_PLACE, &symbols);
+    store_bytes(bytes, sizes::SYMBOLS_PLACE, &header.symbols);
 }
 
 // ---- further secrets
@@ -197,31 +164,29 @@ fn store_further(bytes: &mut [u8], at: usize, further: Further)
     requires { at + sizes.further_size ≤ length bytes.old }
     ensures { FurtherSized further × Stored bytes.old at (further_bytes further) bytes.new }
 {
-    let states = further.states;
-    let k = further.k;
     put(bytes, at, further.count);
     store_secret(
         bytes,
         at + sizes::FIRST_SECRET_PLACE,
         Secret {
-            states: states[0],
-            k: k[0],
+            states: further.states[0],
+            k: further.k[0],
         },
     );
     store_secret(
         bytes,
         at + sizes::SECOND_SECRET_PLACE,
         Secret {
-            states: states[1],
-            k: k[1],
+            states: further.states[1],
+            k: further.k[1],
         },
     );
     store_secret(
         bytes,
         at + sizes::THIRD_SECRET_PLACE,
         Secret {
-            states: states[2],
-            k: k[2],
+            states: further.states[2],
+            k: further.k[2],
         },
     );
 }
@@ -232,16 +197,13 @@ pub fn read_estimator(bytes: &[u8]) -> Estimator
     requires { sizes.estimator_size ≤ length bytes.now }
     ensures { result ≡ estimator_at bytes.now }
 {
-    let mut symbols = [0u8; sizes::MOST_REMEMBERED];
-    load_bytes(bytes, sizes::REMEMBERED_SYMBOLS_PLACE, &mut symbols);
     let mut entries = [0u64; sizes::ENTRY_COUNT];
     load_words(bytes, sizes::ENTRIES_PLACE, &mut entries);
-    let further = read_further(bytes, sizes::FURTHER_PLACE);
     Estimator {
         count: bytes[sizes::REMEMBERED_PLACE],
-        symbols: symbols,
-        entries: entries,
-        further: further,
+        symbols: array_at(bytes, sizes::REMEMBERED_SYMBOLS_PLACE),
+        entries,
+        further: read_further(bytes, sizes::FURTHER_PLACE),
     }
 }
 
@@ -250,13 +212,10 @@ pub fn write_estimator(bytes: &mut [u8], estimator: Estimator)
     requires { sizes.estimator_size ≤ length bytes.old }
     ensures { EstimatorSized estimator × Stored bytes.old 0 (estimator_bytes estimator) bytes.new }
 {
-    let symbols = estimator.symbols;
-    let entries = estimator.entries;
-    let further = estimator.further;
     put(bytes, sizes::REMEMBERED_PLACE, estimator.count);
-    store_bytes(bytes, sizes::REMEMBERED_SYMBOLS_PLACE, &symbols);
-    store_words(bytes, sizes::ENTRIES_PLACE, &entries);
-    store_further(bytes, sizes::FURTHER_PLACE, further);
+    store_bytes(bytes, sizes::REMEMBERED_SYMBOLS_PLACE, &estimator.symbols);
+    store_words(bytes, sizes::ENTRIES_PLACE, &estimator.entries);
+    store_further(bytes, sizes::FURTHER_PLACE, estimator.further);
 }
 
 // ---- enforcers
@@ -264,10 +223,10 @@ pub fn write_estimator(bytes: &mut [u8], estimator: Estimator)
 pub fn notion_of(byte: u8) -> Notion
     ensures { result ≡ notion_at byte }
 {
-    if byte == sizes::WEAK_BYTE {
-        return Notion::Weak;
+    match byte {
+        sizes::WEAK_BYTE => Notion::Weak,
+        _ => Notion::Strong,
     }
-    Notion::Strong
 }
 
 fn notion_byte(notion: Notion) -> u8
@@ -283,18 +242,12 @@ pub fn read_enforcer(bytes: &[u8]) -> Enforcer
     requires { length bytes.now ≡ sizes.enforcer_size }
     ensures { result ≡ enforcer_at bytes.now }
 {
-    let estimator = read_estimator(bytes);
-    let notion = notion_of(bytes[sizes::NOTION_PLACE]);
-    let mut pending = [0u8; sizes::MOST_PENDING];
-    load_bytes(bytes, sizes::PENDING_SYMBOLS_PLACE, &mut pending);
-    let mut waits = [0u8; sizes::MOST_PENDING];
-    load_bytes(bytes, sizes::WAITS_PLACE, &mut waits);
     Enforcer {
-        estimator: estimator,
-        notion: notion,
+        estimator: read_estimator(bytes),
+        notion: notion_of(bytes[sizes::NOTION_PLACE]),
         count: bytes[sizes::PENDING_PLACE],
-        pending: pending,
-        waits: waits,
+        pending: array_at(bytes, sizes::PENDING_SYMBOLS_PLACE),
+        waits: array_at(bytes, sizes::WAITS_PLACE),
     }
 }
 
@@ -302,15 +255,11 @@ pub fn write_enforcer(bytes: &mut [u8], enforcer: Enforcer)
     requires { length bytes.old ≡ sizes.enforcer_size }
     ensures { EnforcerSized enforcer × (bytes.new ≡ enforcer_bytes enforcer) }
 {
-    let estimator = enforcer.estimator;
-    let notion = enforcer.notion;
-    let pending = enforcer.pending;
-    let waits = enforcer.waits;
-    write_estimator(bytes, estimator);
-    put(bytes, sizes::NOTION_PLACE, notion_byte(notion));
+    write_estimator(bytes, enforcer.estimator);
+    put(bytes, sizes::NOTION_PLACE, notion_byte(enforcer.notion));
     put(bytes, sizes::PENDING_PLACE, enforcer.count);
-    store_bytes(bytes, sizes::PENDING_SYMBOLS_PLACE, &pending);
-    store_bytes(bytes, sizes::WAITS_PLACE, &waits);
+    store_bytes(bytes, sizes::PENDING_SYMBOLS_PLACE, &enforcer.pending);
+    store_bytes(bytes, sizes::WAITS_PLACE, &enforcer.waits);
 }
 
 // ---- judgements, releases, explorations, first leaks, written sizes and witnesses
@@ -328,10 +277,12 @@ fn store_verdicts(bytes: &mut [u8], at: usize, verdicts: Verdicts)
     requires { at + sizes.verdicts_size ≤ length bytes.old }
     ensures { Stored bytes.old at (told_bytes (told_of verdicts)) bytes.new }
 {
-    let weak = verdicts.weak;
-    let strong = verdicts.strong;
-    put(bytes, at, verdict_byte(weak));
-    put(bytes, at + sizes::STRONG_PLACE, verdict_byte(strong));
+    put(bytes, at, verdict_byte(verdicts.weak));
+    put(
+        bytes,
+        at + sizes::STRONG_PLACE,
+        verdict_byte(verdicts.strong),
+    );
 }
 
 pub fn write_judgement(bytes: &mut [u8], judgement: Judgement<Verdicts>)
@@ -339,14 +290,10 @@ pub fn write_judgement(bytes: &mut [u8], judgement: Judgement<Verdicts>)
     ensures { bytes.new ≡ judgement_bytes (all_findings judgement) }
 {
     let verdicts = judgement.verdicts;
-    let own = verdicts.own;
-    let first = verdicts.first;
-    let second = verdicts.second;
-    let third = verdicts.third;
-    store_verdicts(bytes, sizes::OWN_VERDICTS_PLACE, own);
-    store_verdicts(bytes, sizes::FIRST_VERDICTS_PLACE, first);
-    store_verdicts(bytes, sizes::SECOND_VERDICTS_PLACE, second);
-    store_verdicts(bytes, sizes::THIRD_VERDICTS_PLACE, third);
+    store_verdicts(bytes, sizes::OWN_VERDICTS_PLACE, verdicts.own);
+    store_verdicts(bytes, sizes::FIRST_VERDICTS_PLACE, verdicts.first);
+    store_verdicts(bytes, sizes::SECOND_VERDICTS_PLACE, verdicts.second);
+    store_verdicts(bytes, sizes::THIRD_VERDICTS_PLACE, verdicts.third);
     put(bytes, sizes::JUDGED_POSSIBLE_PLACE, judgement.size);
 }
 
@@ -394,19 +341,10 @@ pub fn write_run(bytes: &mut [u8], start: u8, pairs: usize)
     );
 }
 
-// What the checker of witnesses says.
-fn valid_byte(valid: bool) -> u8
-    ensures { result ≡ valid_byte_of valid }
-{
-    if valid {
-        return sizes::VALID_BYTE;
-    }
-    sizes::INVALID_BYTE
-}
-
+// What the checker of witnesses says: 1 for yes, 0 for no.
 pub fn write_valid(bytes: &mut [u8], valid: bool)
     requires { length bytes.old ≡ sizes.valid_size }
     ensures { bytes.new ≡ valid_bytes valid }
 {
-    put(bytes, sizes::VALID_PLACE, valid_byte(valid));
+    put(bytes, sizes::VALID_PLACE, u8::from(valid));
 }

@@ -1,9 +1,9 @@
 -- How the search of a log begins, from what decoding and the search answered. Assumes nothing.
 use mathlib.Core.Path.{◌≡◌, refl, sym, ap, subst, ◌∙◌}
 use mathlib.Core.List.{List}
-use mathlib.Core.Logic.{◌⊎◌, inl, inr}
-use Prim.Native.Nat.{ℕ, ◌+◌, ◌-◌, ◌≤◌}
+use Prim.Native.Nat.{ℕ, ◌+◌, ◌-◌, ◌≤◌, min}
 use native.Mathlib.Omega.{arith}
+use native.Mathlib.Decide.{dec_le}
 use lib.ListN.{length, take, drop}
 use lib.Seq.{take-length, take_all, take-add, drop_at, length-take-le}
 use Rattle.automaton.specs.Run.{WellFormed}
@@ -49,20 +49,25 @@ record Fits (events : List ℕ) (n : ℕ) : Type 0 where
   bytes : take (n - 0) events ≡ take 4294967295 events
   count : n ≡ length (take 4294967295 events)
 
-fits : (events : List ℕ) (n : ℕ) → n ≤ length events → n ≤ 4294967295 → (n ≡ length events) ⊎ (n ≡ 4294967295) → Fits events n
-fits events n a b (inl e) =
-    let z : n - 0 ≡ length events = omega arith in
-    let all_of : take 4294967295 events ≡ events = take_all 4294967295 events (omega arith) in
-    record { bytes = ap (λ (k : ℕ). take k events) z ∙ take-length events ∙ sym all_of; count = e ∙ sym (ap length all_of) }
-fits events n a b (inr e) =
-    let z : n - 0 ≡ 4294967295 = omega arith in
-    record { bytes = ap (λ (k : ℕ). take k events) z; count = e ∙ sym (length-take-le 4294967295 events (omega arith)) }
+fits : (events : List ℕ) (n : ℕ) → n ≡ min (length events) 4294967295 → Fits events n
+fits events n is = go (dec_le (length events) 4294967295)
+  where
+    go : Dec (length events ≤ 4294967295) → Fits events n
+    go (yes l) =
+        let z : n - 0 ≡ length events = omega arith in
+        let e : n ≡ length events = omega arith in
+        let all_of : take 4294967295 events ≡ events = take_all 4294967295 events l in
+        record { bytes = ap (λ (k : ℕ). take k events) z ∙ take-length events ∙ sym all_of; count = e ∙ sym (ap length all_of) }
+    go (no l) =
+        let z : n - 0 ≡ 4294967295 = omega arith in
+        let e : n ≡ 4294967295 = omega arith in
+        record { bytes = ap (λ (k : ℕ). take k events) z; count = e ∙ sym (length-take-le 4294967295 events (omega arith)) }
 
-pub begins : (t : List ℕ) (h : Header) (s : Search) (events : List ℕ) (n : ℕ) (says : Said) (m : Search) → n ≤ length events → n ≤ 4294967295
-    → (n ≡ length events) ⊎ (n ≡ 4294967295) → Advancing t h s (take (n - 0) events) says m
+pub begins : (t : List ℕ) (h : Header) (s : Search) (events : List ℕ) (n : ℕ) (says : Said) (m : Search) → n ≡ min (length events) 4294967295
+    → Advancing t h s (take (n - 0) events) says m
     → Begins t h s events (record { search = m; allowed = 4294967295 - n })
-begins t h s events n says m a b c x =
-    let f = fits events n a b c in
+begins t h s events n says m e x =
+    let f = fits events n e in
     record {
       block = record { says = says; advancing = subst (λ (l : List ℕ). Advancing t h s l says m) f.bytes x };
       allowed = ap (λ (k : ℕ). 4294967295 - k) f.count;

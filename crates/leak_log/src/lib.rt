@@ -13,7 +13,7 @@ use leaks::Search;
 use opacity::Notion;
 use opening::open;
 use refusal::Refusal;
-use streams::reads::{fetch, gather, least};
+use streams::reads::{fetch, gather};
 use streams::writes::refuse;
 use streams::{Fetched, Gathered};
 use telling::finish;
@@ -64,11 +64,10 @@ pub struct Rest {
 fn begin(search: Search, table: &[u64], header: Header, events: &[u8]) -> Begun
     ensures { Begins table.now header search events.now result }
 {
-    let n = least(events.len(), u32::MAX as usize);
+    let n = events.len().min(u32::MAX as usize);
     let reply = search.advance(table, header, &events[0..n]);
-    let after = reply.search;
     Begun {
-        search: after,
+        search: reply.search,
         allowed: u32::MAX as usize - n,
     }
 }
@@ -88,18 +87,17 @@ fn turn(
     match fetched {
         Fetched::Bytes(n) => {
             let reply = search.advance(table, header, &input[0..n]);
-            let after = reply.search;
             Reading {
-                search: after,
+                search: reply.search,
                 fetched: Fetched::Bytes(n),
             }
         }
         Fetched::End => Reading {
-            search: search,
+            search,
             fetched: Fetched::End,
         },
         Fetched::Failed => Reading {
-            search: search,
+            search,
             fetched: Fetched::Failed,
         },
     }
@@ -121,11 +119,8 @@ fn all(
     while !now.found {
         let one = turn(rt, now, table, header, input, rest);
         now = one.search;
-        let fetched = one.fetched;
-        match fetched {
-            Fetched::Bytes(n) => {
-                rest -= n;
-            }
+        match one.fetched {
+            Fetched::Bytes(n) => rest -= n,
             Fetched::End => {
                 return Rest {
                     search: now,
@@ -162,12 +157,9 @@ fn read_on(
     requires { begun.search.accepted + begun.allowed ≤ 4294967295 }
     ensures { ReadOn table.now header begun out.old size out.new result }
 {
-    let search = begun.search;
-    let limit = least(begun.allowed, size);
-    let rest = all(rt, search, table, header, input, limit);
-    let last = rest.search;
-    let status = rest.status;
-    finish(rt, status, last, out);
+    let limit = begun.allowed.min(size);
+    let rest = all(rt, begun.search, table, header, input, limit);
+    finish(rt, rest.status, rest.search, out);
     size - (limit - rest.left)
 }
 
@@ -185,19 +177,17 @@ fn run(
     ensures { Ran notion (take (n - 0) input.old) out.old size out.new result }
 {
     let opened = open(&input[0..n], notion);
-    let table = opened.table;
-    let header = opened.header;
-    let search = opened.search;
-    let answer = opened.answer;
-    match answer {
+    match opened.answer {
         Err(refusal) => {
             refuse(rt, refusal, out);
             size
         }
         Ok(first) => {
-            let begun = begin(search, &table, header, &input[first..n]);
-            let part = least(piece, input.len());
-            read_on(rt, begun, &table, header, &mut input[0..part], out, size)
+            let events = &input[first..n];
+            let begun = begin(opened.search, &opened.table, opened.header, events);
+            let part = piece.min(input.len());
+            let part = &mut input[0..part];
+            read_on(rt, begun, &opened.table, opened.header, part, out, size)
         }
     }
 }
@@ -214,8 +204,7 @@ pub fn search_input(
     ensures { Searches notion size out.old result out.new }
 {
     match gather(rt, input, size, piece) {
-        Gathered::Bytes(n) => run(rt, input, n, out, size - n, piece, notion),
-        Gathered::All(n) => run(rt, input, n, out, size - n, piece, notion),
+        Gathered::Bytes(n) | Gathered::All(n) => run(rt, input, n, out, size - n, piece, notion),
         Gathered::Failed => 0,
     }
 }

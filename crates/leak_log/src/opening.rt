@@ -15,16 +15,15 @@ use verifier::Estimator;
 fn refused(refusal: Refusal, notion: Notion) -> Opened
     ensures { (result.answer ≡ Err refusal) × NoSearch result.header result.search }
 {
-    let further = opacity::no_further();
     let estimator = Estimator {
         count: 255,
         symbols: [0u8; 15],
         entries: [0u64; 16],
-        further: further,
+        further: opacity::no_further(),
     };
     let search = Search {
-        estimator: estimator,
-        notion: notion,
+        estimator,
+        notion,
         accepted: 0,
         found: false,
     };
@@ -37,7 +36,7 @@ fn refused(refusal: Refusal, notion: Notion) -> Opened
             observable: 0,
             symbols: [0u8; 32],
         },
-        search: search,
+        search,
         answer: Err(refusal),
     }
 }

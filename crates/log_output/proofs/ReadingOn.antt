@@ -2,8 +2,9 @@
 use mathlib.Core.Path.{◌≡◌, refl, sym, ap, subst, ◌∙◌}
 use mathlib.Core.List.{List, [], ◌++◌, append_assoc}
 use mathlib.Core.Logic.{◌⊎◌, inl, inr}
-use Prim.Native.Nat.{ℕ, ◌-◌, ◌≤◌}
+use Prim.Native.Nat.{ℕ, ◌-◌, ◌≤◌, min}
 use native.Mathlib.Omega.{arith}
+use native.Mathlib.Decide.{dec_le}
 use lib.ListN.{length, take}
 use lib.Seq.{length-take-le}
 use Rattle.automaton.specs.declared.Header.{Header}
@@ -86,12 +87,12 @@ fed_last {t} {h} {rest = rest} {now = now} {out₁ = out₁} {input = input} {r 
 }
 
 -- the lesser of what a log may still have and what there is
-pub limits : (p : Progress) (size : ℕ) {a r : ℕ} → a ≡ 4294967295 - p.monitor.offered → r ≤ a → r ≤ size → (r ≡ a) ⊎ (r ≡ size) → Limit p size r
-limits p size {a} {r} e h k c = record { allowed = omega arith; there = k; reached = go c }
+pub limits : (p : Progress) (size : ℕ) {a r : ℕ} → a ≡ 4294967295 - p.monitor.offered → r ≡ min a size → Limit p size r
+limits p size {a} {r} e is = record { allowed = omega arith; there = omega arith; reached = go (dec_le a size) }
   where
-    go : (r ≡ a) ⊎ (r ≡ size) → (r ≡ 4294967295 - p.monitor.offered) ⊎ (r ≡ size)
-    go (inl x) = inl (x ∙ e)
-    go (inr x) = inr x
+    go : Dec (a ≤ size) → (r ≡ 4294967295 - p.monitor.offered) ⊎ (r ≡ size)
+    go (yes l) = inl (omega arith)
+    go (no l) = inr (omega arith)
 
 -- a log whose first bytes were gathered
 pub runs : (input : List ℕ) {n size : ℕ} {out out' : List ℕ} {over : ℕ} → n ≤ length input → n ≤ size → Ran (take (n - 0) input) out (size - n) out' over

@@ -1,7 +1,7 @@
 // How a log ends: its last lines, and all that is not written out yet.
 ghost use Rattle.log_output.specs.Whole.{EndLines, Finished};
 
-use super::output::{closed, with_room};
+use super::output::with_room;
 use super::{Progress, Status};
 use streams::writes::{flush, place};
 
@@ -10,12 +10,10 @@ fn write_end(rt: &(impl Print + Eprint), progress: Progress, out: &mut [u8])
     ensures { EndLines progress out.old out.new }
 {
     let last = with_room(rt, progress, out);
-    let status = last.status;
-    if closed(status) {
+    if last.status == Status::Closed {
         return;
     }
-    let monitor = last.monitor;
-    let next = place(monitor.end(out, last.at));
+    let next = place(last.monitor.end(out, last.at));
     flush(rt, out, next);
 }
 
@@ -23,10 +21,8 @@ fn write_end(rt: &(impl Print + Eprint), progress: Progress, out: &mut [u8])
 pub fn finish(rt: &(impl Print + Eprint), progress: Progress, out: &mut [u8])
     ensures { Finished progress.status progress out.old out.new }
 {
-    let status = progress.status;
-    match status {
-        Status::Going => write_end(rt, progress, out),
-        Status::Ended => write_end(rt, progress, out),
+    match progress.status {
+        Status::Going | Status::Ended => write_end(rt, progress, out),
         Status::Failed => {
             flush(rt, out, progress.at);
         }

@@ -3,7 +3,7 @@ ghost use Rattle.std.specs.Prelude.{◌≤◌, length};
 ghost use Rattle.log_output.specs.Progressing.{Usable, Parted, Followed};
 ghost use Rattle.log_output.specs.Whole.{Begins};
 
-use super::output::{going, with_room, with_status};
+use super::output::with_room;
 use super::{Monitored, Part, Progress, Status};
 use automaton::Header;
 use streams::writes::refuse;
@@ -19,10 +19,7 @@ fn advance(progress: Progress, table: &[u64], header: Header, events: &[u8], out
     let answer = advanced.answer;
     let after = advanced.monitor;
     match answer {
-        Err(_) => Part {
-            progress,
-            taken: 0,
-        },
+        Err(_) => Part { progress, taken: 0 },
         Ok(advance) => Part {
             progress: Progress {
                 monitor: after,
@@ -48,17 +45,20 @@ pub fn follow(
 {
     let mut now = progress;
     let mut i: usize = 0;
+    // (No `for`: how many bytes a call takes is known behind it.)
     while i < events.len() {
         now = with_room(rt, now, out);
-        let status = now.status;
-        if !going(status) {
+        if now.status != Status::Going {
             return now;
         }
         let part = advance(now, table, header, &events[i..], out);
         let taken = part.taken;
         now = part.progress;
         if taken == 0 {
-            return with_status(now, Status::Ended);
+            return Progress {
+                status: Status::Ended,
+                ..now
+            };
         }
         i += taken;
     }

@@ -8,17 +8,17 @@ mod ending; // the last lines
 
 ghost use Rattle.std.specs.Prelude.{◌-◌, ◌≤◌, ◌≡◌, length, take};
 ghost use Rattle.streams.specs.Reads.{There};
-ghost use Rattle.log_output.specs.Feeding.{TakenIn, Turning, Fed, Ran, Monitors};
+ghost use Rattle.log_output.specs.Feeding.{with_status, TakenIn, Turning, Fed, Ran, Monitors};
 
 use automaton::Header;
 use ending::finish;
 use following::{follow, start};
 use monitor::Monitor;
-use output::{going, with_status, written_out};
-use streams::reads::{fetch, gather, least};
+use output::written_out;
+use streams::reads::{fetch, gather};
 use streams::{Fetched, Gathered};
 
-#[derive(Clone, Copy)]
+#[derive(Clone, Copy, PartialEq, Eq)]
 pub enum Status {
     // More event bytes may follow.
     Going,
@@ -67,6 +67,16 @@ pub struct Rest {
     pub left: usize,
 }
 
+// A read that brought nothing, and why no more is read.
+fn over(progress: Progress, status: Status) -> Reading
+    ensures { result ≡ record { progress = with_status progress status; brought = 0 } }
+{
+    Reading {
+        progress: Progress { status, ..progress },
+        brought: 0,
+    }
+}
+
 // What a read found: its bytes are followed, all of them in order; or the log has ended, or failed.
 fn taken_in(
     rt: &(impl Print + Eprint),
@@ -81,27 +91,12 @@ fn taken_in(
     ensures { TakenIn table.now header progress out.old input.now fetched result out.new }
 {
     match fetched {
-        Fetched::Bytes(n) => {
-            let next = follow(rt, progress, table, header, &input[0..n], out);
-            Reading {
-                progress: next,
-                brought: n,
-            }
-        }
-        Fetched::End => {
-            let next = with_status(progress, Status::Ended);
-            Reading {
-                progress: next,
-                brought: 0,
-            }
-        }
-        Fetched::Failed => {
-            let next = with_status(progress, Status::Failed);
-            Reading {
-                progress: next,
-                brought: 0,
-            }
-        }
+        Fetched::Bytes(n) => Reading {
+            progress: follow(rt, progress, table, header, &input[0..n], out),
+            brought: n,
+        },
+        Fetched::End => over(progress, Status::Ended),
+        Fetched::Failed => over(progress, Status::Failed),
     }
 }
 
@@ -118,8 +113,7 @@ fn turn(
     ensures { Turning table.now header left progress out.old input.new result out.new }
 {
     let shown = written_out(rt, progress, out);
-    let status = shown.status;
-    if !going(status) {
+    if shown.status != Status::Going {
         return Reading {
             progress: shown,
             brought: 0,
@@ -144,8 +138,7 @@ fn all(
     let mut now = progress;
     let mut rest = left;
     loop {
-        let status = now.status;
-        if !going(status) {
+        if now.status != Status::Going {
             return Rest {
                 progress: now,
                 left: rest,
@@ -168,8 +161,7 @@ fn all(
 fn allowed(progress: Progress) -> usize
     ensures { result ≡ 4294967295 - progress.monitor.offered }
 {
-    let monitor = progress.monitor;
-    (u32::MAX - monitor.offered) as usize
+    (u32::MAX - progress.monitor.offered) as usize
 }
 
 // A log whose first `n` bytes are there, and at most `size` more. It says how many of them were not read.
@@ -185,22 +177,18 @@ fn run(
     ensures { Ran (take (n - 0) input.old) out.old size out.new result }
 {
     let monitored = start(rt, &input[0..n], out);
-    let table = monitored.table;
-    let header = monitored.header;
-    let progress = monitored.progress;
-    let limit = least(allowed(progress), size);
-    let part = least(piece, input.len());
+    let limit = allowed(monitored.progress).min(size);
+    let part = piece.min(input.len());
     let rest = all(
         rt,
-        progress,
-        &table,
-        header,
+        monitored.progress,
+        &monitored.table,
+        monitored.header,
         &mut input[0..part],
         out,
         limit,
     );
-    let last = rest.progress;
-    finish(rt, last, out);
+    finish(rt, rest.progress, out);
     unread(size, limit, rest.left)
 }
 
@@ -228,8 +216,7 @@ pub fn monitor_input(
     ensures { Monitors size out.old result out.new }
 {
     match gather(rt, input, size, piece) {
-        Gathered::Bytes(n) => run(rt, input, n, out, size - n, piece),
-        Gathered::All(n) => run(rt, input, n, out, size - n, piece),
+        Gathered::Bytes(n) | Gathered::All(n) => run(rt, input, n, out, size - n, piece),
         Gathered::Failed => 0,
     }
 }

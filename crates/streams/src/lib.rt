@@ -5,7 +5,7 @@
 pub mod reads; // bytes are read, and the first ones gathered
 pub mod writes; // lines are written out, and the one line of a refused log
 
-// What a read finds.
+// What a read finds. (No `Result` of a number: the end would be the number 0, or an `Option` inside it, and each caller tells the three apart.)
 #[derive(Clone, Copy)]
 pub enum Fetched {
     Bytes(usize),
@@ -13,7 +13,7 @@ pub enum Fetched {
     Failed,
 }
 
-// The first bytes of an input: so many are there, or that is all of the input, or a read failed.
+// The first bytes of an input: so many are there, or that is all of the input, or a read failed. (No `Result`, as of what a read finds.)
 #[derive(Clone, Copy)]
 pub enum Gathered {
     Bytes(usize),

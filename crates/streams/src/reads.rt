@@ -1,19 +1,10 @@
 // Reads from standard input: one read; the first bytes of a log, up to its length and its encoding; and an input for which there is space.
-ghost use Rattle.std.specs.Prelude.{◌-◌, ◌≤◌, ◌≡◌, ◌⊎◌, length};
+ghost use Rattle.std.specs.Prelude.{◌-◌, ◌≤◌, ◌≡◌, true, length};
 ghost use Rattle.streams.specs.Reads.{Found, There, Brought, gathered_by, Further, UpTo, Filled};
 
 use super::{Fetched, Gathered};
 use std::io;
 use std::io::Read;
-
-pub fn least(a: usize, b: usize) -> usize
-    ensures { (result ≤ a) × (result ≤ b) × ((result ≡ a) ⊎ (result ≡ b)) }
-{
-    if a < b {
-        return a;
-    }
-    b
-}
 
 fn not_read(rt: &impl Eprint) {
     let _ = rt.eprintln("read failed");
@@ -28,13 +19,10 @@ fn found(rt: &impl Eprint, got: io::Result<usize>, lent: &[u8]) -> Fetched
             not_read(rt);
             Fetched::Failed
         }
-        Ok(k) => {
-            let n = least(k, lent.len());
-            if n == 0 {
-                return Fetched::End;
-            }
-            Fetched::Bytes(n)
-        }
+        Ok(k) => match k.min(lent.len()) {
+            0 => Fetched::End,
+            n => Fetched::Bytes(n),
+        },
     }
 }
 
@@ -42,7 +30,7 @@ fn found(rt: &impl Eprint, got: io::Result<usize>, lent: &[u8]) -> Fetched
 pub fn fetch(rt: &(impl Input + Eprint), input: &mut [u8], left: usize) -> Fetched
     ensures { Brought (length input.new) left result }
 {
-    let room = least(input.len(), left);
+    let room = left.min(input.len());
     if room == 0 {
         return Fetched::End;
     }
@@ -75,21 +63,15 @@ pub fn gather(rt: &(impl Input + Eprint), input: &mut [u8], size: usize, piece: 
     ensures { UpTo input.new size result }
 {
     let mut have: usize = 0;
+    // (No `for`: where the next read goes is known by what the last one brought.)
     while have < input.len() {
         if monitor::has_encoding(&input[0..have]) {
             return Gathered::Bytes(have);
         }
-        let most = least(piece, size - have);
+        let most = piece.min(size - have);
         match gather_more(rt, input, have, most) {
-            Gathered::Bytes(n) => {
-                have = n;
-            }
-            Gathered::All(n) => {
-                return Gathered::All(n);
-            }
-            Gathered::Failed => {
-                return Gathered::Failed;
-            }
+            Gathered::Bytes(n) => have = n,
+            over => return over,
         }
     }
     Gathered::Bytes(have)
@@ -100,17 +82,11 @@ pub fn gather_all(rt: &(impl Input + Eprint), input: &mut [u8]) -> Gathered
     ensures { Filled input.new result }
 {
     let mut have: usize = 0;
+    // (No `for`, as in `gather`.)
     while have < input.len() {
         match gather_more(rt, input, have, usize::MAX) {
-            Gathered::Bytes(n) => {
-                have = n;
-            }
-            Gathered::All(n) => {
-                return Gathered::All(n);
-            }
-            Gathered::Failed => {
-                return Gathered::Failed;
-            }
+            Gathered::Bytes(n) => have = n,
+            over => return over,
         }
     }
     Gathered::Bytes(have)
@@ -121,18 +97,19 @@ pub fn read_full(rt: &impl Input, input: &mut [u8]) -> usize
     ensures { result ≤ length input.new }
 {
     let mut done: usize = 0;
+    // (No `for`, as in `gather`.)
     while done < input.len() {
         match rt.reader().read(&mut input[done..]) {
-            Err(_) => {
-                return done;
-            }
-            Ok(n) => {
-                if n == 0 {
-                    return done;
-                }
-                done += n;
-            }
+            Err(_) | Ok(0) => return done,
+            Ok(n) => done += n,
         }
     }
     done
+}
+
+// Reads past so many bytes more, and says whether there is space for them and the input has them.
+pub fn skip(rt: &impl Input, space: &mut [u8], n: usize) -> bool
+    ensures { result ≡ true → n ≤ length space.new }
+{
+    n <= space.len() && read_full(rt, &mut space[0..n]) == n
 }

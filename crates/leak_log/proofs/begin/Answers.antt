@@ -5,7 +5,6 @@ use Rattle.leak_log.proofs.begin.Goals as goal
 pub returns : goal.returns
 returns c =
     let a = c.args in
-    let least = c.least-n in
     let called = c.advance-reply in
-    begins a.table.now a.header a.search a.events.now least.result (said called.result.answer) called.result.search
-    least.ensures.0 least.ensures.1 least.ensures.2 called.ensures
+    begins a.table.now a.header a.search a.events.now c.min-n.result (said called.result.answer) called.result.search
+    c.min-n.ensures called.ensures

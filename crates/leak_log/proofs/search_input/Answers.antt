@@ -1,19 +1,20 @@
-use Rattle.std.proofs.Common.{subst}
+use Rattle.std.proofs.Common.{◌≡◌, List, ℕ, ◌≤◌, length, subst, ◌⊎◌, inl, inr}
 use Rattle.streams.specs.declared.Gathered.{Gathered}
+use Rattle.streams.specs.declared.Gathered.TheVariants.{Bytes, All}
 use Rattle.streams.specs.Reads.{UpTo}
 use Rattle.leak_log.specs.Feeding.{unread}
 use Rattle.leak_log.proofs.ReadingOn.{runs}
 use Rattle.leak_log.proofs.search_input.Goals as goal
 
+-- so many bytes were gathered, whatever follows
+gathered : (input : List ℕ) (size : ℕ) {r : Gathered} {n : ℕ} → UpTo input size r → (r ≡ Bytes n) ⊎ (r ≡ All n) → (n ≤ length input) × (n ≤ size)
+gathered input size u (inl e) = let up = subst (λ (r : Gathered). UpTo input size r) e u in (up.0, up.1)
+gathered input size u (inr e) = subst (λ (r : Gathered). UpTo input size r) e u
+
 pub returns-in-Bytes : goal.returns-in-Bytes
 returns-in-Bytes g c =
-    let up = subst (λ (r : Gathered). UpTo c.gather.new.input c.args.size r) c.in-Bytes.is c.gather.ensures in
-    runs c.gather.new.input up.0 up.1 c.run.ensures
-
-pub returns-in-All : goal.returns-in-All
-returns-in-All g c =
-    let up = subst (λ (r : Gathered). UpTo c.gather.new.input c.args.size r) c.in-All.is c.gather.ensures in
-    runs c.gather.new.input up.0 up.1 c.run-in-All.ensures
+    let few = gathered c.gather.new.input c.args.size c.gather.ensures c.in-Bytes.is in
+    runs c.gather.new.input few.0 few.1 c.run.ensures
 
 pub returns-in-Failed : goal.returns-in-Failed
 returns-in-Failed g c = unread

@@ -13,10 +13,10 @@ by_cases {t} {h} {q} {out} {input} {r = r} {out' = out'} e x = subst (λ (y : Fe
 
 pub returns-in-Bytes : goal.returns-in-Bytes
 returns-in-Bytes g c =
-    by_cases c.in-Bytes.is (followed_all (whole_front c.in-Bytes.n c.args.input.now c.follow-next.ensures))
+    by_cases c.in-Bytes.is (followed_all (whole_front c.in-Bytes.n c.args.input.now c.follow.ensures))
 
 pub returns-in-End : goal.returns-in-End
-returns-in-End g c = by_cases c.in-End.is (rw c.with_status-next.ensures no_more)
+returns-in-End g c = by_cases c.in-End.is (rw c.over.ensures no_more)
 
 pub returns-in-Failed : goal.returns-in-Failed
-returns-in-Failed g c = by_cases c.in-Failed.is (rw c.with_status-next-in-Failed.ensures not_fetched)
+returns-in-Failed g c = by_cases c.in-Failed.is (rw c.over-in-Failed.ensures not_fetched)

@@ -1,5 +1,5 @@
-use Rattle.std.proofs.Common.{ℕ, List, ◌+◌, ◌-◌, ◌≤◌, length, take, drop, length-take, refl, ◌∙◌, arith}
-use Rattle.stateset.proofs.Decides.{holds, fails}
+use Rattle.std.proofs.Common.{ℕ, List, ◌+◌, ◌-◌, ◌≤◌, length, take, drop, length-take, refl, ◌∙◌, ◌≡◌, arith, rules}
+use Rattle.log_output.specs.declared.Status.TheVariants.{Going}
 use Rattle.log_output.proofs.Keeping.{along_start, along_next, along_closed, along_full}
 use Rattle.log_output.proofs.following.follow.Goals as goal
 
@@ -12,26 +12,29 @@ loop-i-init g c =
     let a = c.args in
     (omega arith, refl, along_start a.table.now a.header a.progress a.events.now a.out.now)
 
-pub returns-then-not-going : goal.returns-then-not-going
-returns-then-not-going g c =
+pub returns-then-ne : goal.returns-then-ne
+returns-then-ne g c =
     let a = c.args in
+    let stopped : c.with_room-now.result.status ≡ Going → ⊥ = search rules in
     λ u. along_closed a.table.now a.header a.progress a.events.now a.out.now (c.loop-i.invariant.2 u) c.loop-i.invariant.0
     c.with_room-now.ensures
-    (fails _ c.if-not-going.true c.going.ensures)
+    stopped
 
 pub returns-then-taken-eq0 : goal.returns-then-taken-eq0
 returns-then-taken-eq0 g c =
     let a = c.args in
+    let going : c.with_room-now.result.status ≡ Going = search rules in
     λ u. along_full a.table.now a.header a.progress a.events.now a.out.now (c.loop-i.invariant.2 u) c.with_room-now.ensures
-    (holds _ c.if-not-going.false c.going.ensures) c.loop-i-test.true
-    c.advance-part.ensures.parted c.if-taken-eq0.true c.with_status.ensures
+    going c.loop-i-test.true
+    c.advance-part.ensures.parted c.if-taken-eq0.true refl
 
 pub loop-i-preserved : goal.loop-i-preserved
 loop-i-preserved g c =
     let a = c.args in
+    let going : c.with_room-now.result.status ≡ Going = search rules in
     let l = c.loop-i in (
       part_within a.events.now l.i c.advance-part.result.taken l.invariant.0 c.advance-part.ensures.taken_in_bounds,
       c.advance-part.auto.out ∙ l.invariant.1,
       λ u. along_next a.table.now a.header a.progress a.events.now a.out.now (l.invariant.2 u) c.with_room-now.ensures
-          (holds _ c.if-not-going.false c.going.ensures) l.invariant.0 c.advance-part.ensures.parted,
+          going l.invariant.0 c.advance-part.ensures.parted,
     )

@@ -1,9 +1,8 @@
-use Rattle.std.proofs.Common.{sym, subst}
-use Rattle.log_output.specs.Feeding.{WrittenOut, emptied, closed}
+use Rattle.log_output.specs.Feeding.{emptied, closed}
 use Rattle.log_output.proofs.output.written_out.Goals as goal
 
 pub returns-then-not-flush : goal.returns-then-not-flush
-returns-then-not-flush g c = subst (WrittenOut c.args.progress c.args.out.now) (sym c.with_status.ensures) closed
+returns-then-not-flush g c = closed
 
 pub returns : goal.returns
 returns g c = emptied (c.flush.ensures c.if-not-flush.false)

@@ -5,7 +5,6 @@
 ghost use Rattle.gateway.specs.Interface.{Decode, Fresh, Accept, Start, Offer, Explore, FirstLeakCall, CanonicalCall, Witnessing, CheckingWitness};
 
 use canonical::Answer as Canonical;
-use decoding::Answer as Decoded;
 use enforcer::{Enforcer, OfferAnswer, StartAnswer};
 use explore::ExploreAnswer;
 use layout::sizes;
@@ -24,10 +23,9 @@ pub fn opacity_decode(encoding: &[u8], table: &mut [u64], header: &mut [u8]) -> 
         return MALFORMED;
     }
     let decoded = decoding::decode(encoding, table);
-    let answer = decoded.answer;
-    match answer {
-        Decoded::Refused(refusal) => refusal::number(refusal),
-        Decoded::Accepted => {
+    match decoded.answer {
+        Err(refusal) => refusal::number(refusal),
+        Ok(()) => {
             layout::write_header(header, decoded.header);
             0
         }

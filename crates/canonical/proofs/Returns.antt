@@ -10,7 +10,7 @@ use Rattle.encoding.specs.Encoding.{Encoding, count_if, encoding}
 use Rattle.encoding.specs.Table.{one_if}
 use Rattle.encoding.specs.Answers.{FrontSmall, encoding_at, preamble_end, given_symbols, header_symbols, encoding_means}
 use Rattle.encoding.specs.declared.Front.{Front}
-use Rattle.encoding.specs.declared.FrontAnswer.TheVariants.{Value}
+use Rattle.std.specs.Prelude.{Ok}
 use Rattle.encoding.proofs.Ended.{encoding_in, symbols_few}
 use Rattle.encoding.proofs.HeaderSymbols.{header_length}
 use Rattle.encode.specs.Packing.{size_of}
@@ -29,7 +29,7 @@ meant bytes f = meaning_of (encoding_at (bits_of bytes) f)
 
 -- of an accepted encoding: its symbols, the front of its form, and how many bytes the form takes
 pub record Found (bytes : List ℕ) (f form : Front) (symbols : List ℕ) (size : ℕ) : Type 0 where
-  pub accepted : encoding (bits_of bytes) 0 ≡ encoding_means (bits_of bytes) (Value f)
+  pub accepted : encoding (bits_of bytes) 0 ≡ encoding_means (bits_of bytes) (Ok f)
   pub symbols_are : symbols ≡ header_symbols f.observable (given_symbols (bits_of bytes) f)
   pub form_is : form ≡ with_flag f (one_if (symbols_needed (meant bytes f)))
   pub size_is : size ≡ size_of (preamble_end form + form.fixed.count * 17)

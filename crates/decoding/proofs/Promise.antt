@@ -14,7 +14,7 @@ use Rattle.encoding.specs.Answers.{encoding_means, preamble_end, given_symbols, 
 use Rattle.decoding.specs.Decoding.{accept, refuse, answer_means, no_header, refused_by, Decoding}
 use Rattle.encoding.specs.declared.Front.{Front}
 use Rattle.decoding.specs.declared.Decoded.{Decoded}
-use Rattle.encoding.specs.declared.FrontAnswer.TheVariants.{Value}
+use Rattle.std.specs.Prelude.{Ok}
 use Rattle.encoding.proofs.Ended.{encoding_in}
 use Rattle.decoding.proofs.Stored.{holds}
 
@@ -24,7 +24,7 @@ pub refuses : (bytes table : List ℕ) (refusal : Refusal) {r : Decoded} → r �
 refuses bytes table refusal e d = subst (λ (x : Decoded). Decoding bytes table x.header (answer_means x.answer) table) (sym e) d
 
 -- where the first pass accepted the front f, and the second read the header and filled the table from the end of the front and its symbols on
-pub accepts : (bytes table after : List ℕ) (f : Front) (h : Header) → length table ≡ 2048 → encoding (bits_of bytes) 0 ≡ encoding_means (bits_of bytes) (Value f)
+pub accepts : (bytes table after : List ℕ) (f : Front) (h : Header) → length table ≡ 2048 → encoding (bits_of bytes) 0 ≡ encoding_means (bits_of bytes) (Ok f)
     → after ≡ table_of (transitions_at (bits_of bytes) (preamble_end f) f.fixed.count) → h ≡ header_of f (given_symbols (bits_of bytes) f)
     → Decoding bytes table h accept after
 accepts bytes table after f h size e t g =

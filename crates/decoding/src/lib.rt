@@ -1,42 +1,26 @@
 // Decodes an automaton (01: description): its header, and its transitions into a lent table of 2,048 words.
 // The whole encoding is checked first (`first_pass`), so that a refusal leaves the table as it was; then the table is cleared and filled (`second_pass`).
-// Each pass makes one Reader of `bitfields` where it begins, which goes from field to field; what the fields answer is judged by `encoding` below. Only
+// Each pass makes one Reader of `bitfields` where it begins, which goes from field to field; `encoding` below reads and judges the fields by it. Only
 // `decode` is an entry: it demands nothing of its caller, and nor does `check_bytes`, the first pass alone, which is inner, for `canonical` above.
 #![tactic(auto)]
 
 pub mod first_pass; // all of an encoding is in order
 mod second_pass; // what it says is stored
 
-ghost use Rattle.std.specs.Prelude.{◌≡◌, length, replicate};
+ghost use Rattle.std.specs.Prelude.{◌≡◌};
 ghost use Rattle.decoding.specs.Decoding.{Decoding, refused_by, answer_means};
 
 use automaton::Header;
-use encoding::FrontAnswer;
 use first_pass::check_bytes;
 use refusal::Refusal;
 use second_pass::read_bytes;
 
-// What decoding answers. The header stands beside it; of a refused call it is none: K is 255, outside its limit, so that every entry refuses it.
-#[derive(Clone, Copy)]
-pub enum Answer {
-    Accepted,
-    Refused(Refusal),
-}
-
+// What decoding answers: accepted, or the refusal; and the header beside it. That of a refused call is none: K is 255, outside its limit, so that every
+// entry refuses it. (The contract promises this header of a refusal, which an Err with no header could not.)
 #[derive(Clone, Copy)]
 pub struct Decoded {
     pub header: Header,
-    pub answer: Answer,
-}
-
-fn clear(table: &mut [u64])
-    ensures { table.new ≡ replicate (length table.old) 0 }
-{
-    let mut i: usize = 0;
-    while i < table.len() {
-        table[i] = 0;
-        i += 1;
-    }
+    pub answer: Result<(), Refusal>,
 }
 
 fn refused(refusal: Refusal) -> Decoded
@@ -50,7 +34,7 @@ fn refused(refusal: Refusal) -> Decoded
             observable: 0,
             symbols: [0u8; 32],
         },
-        answer: Answer::Refused(refusal),
+        answer: Err(refusal),
     }
 }
 
@@ -62,13 +46,13 @@ pub fn decode(bytes: &[u8], table: &mut [u64]) -> Decoded
         return refused(Refusal::Malformed);
     }
     match check_bytes(bytes) {
-        FrontAnswer::Refused(r) => refused(r),
-        FrontAnswer::Value(f) => {
-            clear(table);
+        Err(r) => refused(r),
+        Ok(f) => {
+            table.fill(0);
             let header = read_bytes(bytes, f, table);
             Decoded {
-                header: header,
-                answer: Answer::Accepted,
+                header,
+                answer: Ok(()),
             }
         }
     }

@@ -5,7 +5,6 @@ ghost use Rattle.encoding.specs.Transitions.{symbols_at};
 ghost use Rattle.encoding.specs.Answers.{front_end, preamble_end, given_symbols, symbol_for, header_symbols, header_of, FrontSmall};
 
 use super::Front;
-use super::counts::symbol_count;
 use automaton::Header;
 
 // The symbol that the header holds for an event: 0 where it is not observable, its own number where no symbols are listed.
@@ -31,10 +30,8 @@ pub fn all_symbols(bytes: &[u8], at: usize, n: usize, observable: u64) -> [u8; 3
     ensures { result ≡ header_symbols observable (symbols_at (bits_of bytes.now) at n) }
 {
     let mut symbols = [0u8; 32];
-    let mut e: usize = 0;
-    while e < 32 {
+    for e in 0..32 {
         symbols[e] = symbol_at(bytes, at, n, observable, e);
-        e += 1;
     }
     symbols
 }
@@ -45,13 +42,12 @@ pub fn header_at(bytes: &[u8], at: usize, front: Front) -> Header
     ensures { result ≡ header_of front (given_symbols (bits_of bytes.now) front) }
 {
     let fixed = front.fixed;
-    let n = symbol_count(fixed);
-    let symbols = all_symbols(bytes, at, n, front.observable);
+    let symbols = all_symbols(bytes, at, fixed.symbol_count(), front.observable);
     Header {
         initial: fixed.initial as u8,
         k: fixed.k as u8,
         secret: front.secret,
         observable: front.observable as u32,
-        symbols: symbols,
+        symbols,
     }
 }

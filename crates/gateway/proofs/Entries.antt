@@ -11,7 +11,7 @@ use Rattle.automaton.specs.declared.Header.{Header}
 use Rattle.refusal.specs.declared.Refusal.{Refusal}
 use Rattle.decoding.specs.Decoding as decoding
 use Rattle.decoding.specs.Decoding.{Decoding, answer_means}
-use Rattle.decoding.specs.declared.Answer as decoded
+use Rattle.std.specs.Prelude.{Result, Ok, Err}
 use Rattle.opacity.specs.declared.Notion.{Notion}
 use Rattle.opacity.specs.declared.Further.{Further}
 use Rattle.verifier.specs.declared.Estimator.{Estimator}
@@ -59,18 +59,18 @@ kept_form : (encoding output : List ℕ) {n : ℕ} {after : List ℕ} → Writin
 kept_form encoding output (Writing.refused r e) = refl
 kept_form encoding output (Writing.too_small e next is few) = refl
 
-module _ (encoding table header after : List ℕ) (h : Header) (answer : decoded.Answer) (size : length header ≡ header_size)
+module _ (encoding table header after : List ℕ) (h : Header) (answer : Result (Unit {0}) Refusal) (size : length header ≡ header_size)
     (did : Decoding encoding table h (answer_means answer) after) where
-  pub decode_refused : (r : Refusal) (n : ℕ) → answer ≡ decoded.TheVariants.Refused r → n ≡ number_of r → Decode encoding table header n after header
+  pub decode_refused : (r : Refusal) (n : ℕ) → answer ≡ Err r → n ≡ number_of r → Decode encoding table header n after header
   decode_refused r n is number =
-      let x = subst (λ (y : decoded.Answer). Decoding encoding table h (answer_means y) after) is did in
+      let x = subst (λ (y : Result (Unit {0}) Refusal). Decoding encoding table h (answer_means y) after) is did in
       let kept = kept_table encoding table x in
       rw (number, kept) (Decode.refused size (rw kept at x))
 
-  pub decode_accepted : (left : List ℕ) → answer ≡ decoded.TheVariants.Accepted → left ≡ header_bytes h → Decode encoding table header 0 after left
+  pub decode_accepted : (left : List ℕ) → answer ≡ Ok tt → left ≡ header_bytes h → Decode encoding table header 0 after left
   decode_accepted left is wrote =
       subst (λ (x : List ℕ). Decode encoding table header 0 after x) (sym wrote)
-      (Decode.accepted size (subst (λ (x : decoded.Answer). Decoding encoding table h (answer_means x) after) is did))
+      (Decode.accepted size (subst (λ (x : Result (Unit {0}) Refusal). Decoding encoding table h (answer_means x) after) is did))
 
 -- the judgement that was written: of all four places, of which those that are not given hold none
 abbrev judged_bytes : Judgement Verdicts → List ℕ

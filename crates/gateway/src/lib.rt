@@ -4,7 +4,6 @@
 
 ghost use Rattle.gateway.specs.Interface.{Decode, Fresh, Accept, Start, Offer, Explore, FirstLeakCall, CanonicalCall, Witnessing, CheckingWitness};
 
-use decoding::Answer as Decoded;
 use enforcer::Enforcer;
 use layout::sizes;
 use verifier::Estimator;
@@ -20,10 +19,9 @@ pub fn opacity_decode(encoding: &[u8], table: &mut [u64], header: &mut [u8]) -> 
         return MALFORMED;
     }
     let decoded = decoding::decode(encoding, table);
-    let answer = decoded.answer;
-    match answer {
-        Decoded::Refused(refusal) => refusal::number(refusal),
-        Decoded::Accepted => {
+    match decoded.answer {
+        Err(refusal) => refusal::number(refusal),
+        Ok(()) => {
             layout::write_header(header, decoded.header);
             0
         }

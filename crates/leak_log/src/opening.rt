@@ -67,10 +67,8 @@ pub fn open(log: &[u8], notion: Notion) -> Opened
     let size = monitor::front_size(log[0], log[1]);
     let mut table = [0u64; 2048];
     let decoded = decoding::decode(&log[2..size], &mut table);
-    let header = decoded.header;
-    let answer = decoded.answer;
-    match answer {
-        decoding::Answer::Refused(refusal) => refused(refusal, notion),
-        decoding::Answer::Accepted => start(table, header, size, notion),
+    match decoded.answer {
+        Err(refusal) => refused(refusal, notion),
+        Ok(()) => start(table, decoded.header, size, notion),
     }
 }

@@ -165,10 +165,8 @@ pub fn open(log: &[u8]) -> Opened
     let size = front_size(log[0], log[1]);
     let mut table = [0u64; 2048];
     let decoded = decoding::decode(&log[2..size], &mut table);
-    let header = decoded.header;
-    let answer = decoded.answer;
-    match answer {
-        decoding::Answer::Refused(refusal) => refused(refusal),
-        decoding::Answer::Accepted => start(table, header, size),
+    match decoded.answer {
+        Err(refusal) => refused(refusal),
+        Ok(()) => start(table, decoded.header, size),
     }
 }

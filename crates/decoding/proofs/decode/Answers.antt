@@ -10,13 +10,13 @@ returns-then-table-ne2048 c = refuses _ _ _ c.refused.ensures (Decoding.malforme
 
 pub read_bytes-header-requires : goal.read_bytes-header-requires
 read_bytes-header-requires c =
-    let x = encoding_in c.args.bytes.now (sym c.in-Value.ensures) in
-    (x.front, x.ends, c.clear.ensures ∙ ap (λ (n : ℕ). replicate n 0) c.if-table-ne2048.false)
+    let x = encoding_in c.args.bytes.now (sym c.in-Ok.ensures) in
+    (x.front, x.ends, c.fill.ensures.after (λ y e. e) ∙ ap (λ (n : ℕ). replicate n 0) c.if-table-ne2048.false)
 
-pub returns-in-Refused : goal.returns-in-Refused
-returns-in-Refused c =
-    refuses _ _ _ c.refused-in-Refused.ensures (Decoding.refused c.if-table-ne2048.false _ (sym c.in-Refused.ensures))
+pub returns-in-Err : goal.returns-in-Err
+returns-in-Err c =
+    refuses _ _ _ c.refused-in-Err.ensures (Decoding.refused c.if-table-ne2048.false _ (sym c.in-Err.ensures))
 
-pub returns-in-Value : goal.returns-in-Value
-returns-in-Value c =
-    accepts _ _ _ c.in-Value.f _ c.if-table-ne2048.false (sym c.in-Value.ensures) c.read_bytes-header.ensures.1 c.read_bytes-header.ensures.0
+pub returns-in-Ok : goal.returns-in-Ok
+returns-in-Ok c =
+    accepts _ _ _ c.in-Ok.f _ c.if-table-ne2048.false (sym c.in-Ok.ensures) c.read_bytes-header.ensures.1 c.read_bytes-header.ensures.0

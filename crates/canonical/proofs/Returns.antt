@@ -60,7 +60,7 @@ flagged_small f form needed small e =
     })
 
 pub found : {bytes : List ℕ} {f form : Front} {symbols : List ℕ} {size : ℕ} (needed : Bool)
-    → encoding (bits_of bytes) 0 ≡ encoding_means (bits_of bytes) (Value f) → symbols ≡ header_symbols f.observable (given_symbols (bits_of bytes) f)
+    → encoding (bits_of bytes) 0 ≡ encoding_means (bits_of bytes) (Ok f) → symbols ≡ header_symbols f.observable (given_symbols (bits_of bytes) f)
     → needed ≡ some_renamed f.observable (λ e. get_or symbols e 0) (f.fixed.topevent + 1) → form ≡ with_flag f (one_if needed)
     → size ≡ size_of (preamble_end form + form.fixed.count * 17) → Found bytes f form symbols size
 found {bytes} {f} {symbols = symbols} needed accepted s n form size = record {

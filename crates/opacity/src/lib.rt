@@ -108,13 +108,13 @@ pub fn look_back(header: Header, further: Further) -> u8
         return header.k;
     }
     let k = further.k;
-    let one = automaton::larger(header.k, k[0]);
+    let one = header.k.max(k[0]);
     if n == 1 {
         return one;
     }
-    let two = automaton::larger(one, k[1]);
+    let two = one.max(k[1]);
     if n == 2 {
         return two;
     }
-    automaton::larger(two, k[2])
+    two.max(k[2])
 }

@@ -9,36 +9,36 @@ use Rattle.opacity.proofs.look_back.Tie as tie
 returns : tie.Need-returns-then-n-eq0
 returns c = back_none c.args.header c.args.further c.if-n-eq0.true
 
-array-read-larger : tie.Need-bounds-k-0
-array-read-larger c = search rules
+array-read-max : tie.Need-bounds-k-0
+array-read-max c = search rules
 
-larger-requires : tie.Need-larger-one-requires
-larger-requires c κs = search rules
+max-requires : tie.Need-max-one-requires
+max-requires c κs = search rules
 
 returns-2 : tie.Need-returns-then-n-eq1
-returns-2 c = let a = c.args in c.larger-one.ensures ∙ back_one a.header a.further c.if-n-eq1.true
+returns-2 c = let a = c.args in c.max-one.ensures ∙ back_one a.header a.further c.if-n-eq1.true
 
-array-read-larger-2 : tie.Need-bounds-k-1
-array-read-larger-2 c = search rules
+array-read-max-2 : tie.Need-bounds-k-1
+array-read-max-2 c = search rules
 
-larger-requires-2 : tie.Need-larger-two-requires
-larger-requires-2 c κs = search rules
+max-requires-2 : tie.Need-max-two-requires
+max-requires-2 c κs = search rules
 
 returns-3 : tie.Need-returns-then-n-eq2
 returns-3 c =
     let a = c.args in
-    rw (c.larger-two.ensures, c.larger-one.ensures) (back_two a.header a.further c.if-n-eq2.true)
+    rw (c.max-two.ensures, c.max-one.ensures) (back_two a.header a.further c.if-n-eq2.true)
 
-array-read-larger-3 : tie.Need-bounds-k-2
-array-read-larger-3 c = search rules
+array-read-max-3 : tie.Need-bounds-k-2
+array-read-max-3 c = search rules
 
-larger-requires-3 : tie.Need-larger-requires
-larger-requires-3 c κs = search rules
+max-requires-3 : tie.Need-max-requires
+max-requires-3 c κs = search rules
 
 returns-4 : tie.Need-returns
 returns-4 c =
     let a = c.args in
-    rw (c.larger.ensures, c.larger-two.ensures, c.larger-one.ensures)
+    rw (c.max.ensures, c.max-two.ensures, c.max-one.ensures)
     (back_three a.header a.further (omega (
       arith,
       c.if-n-eq2.false,
@@ -51,12 +51,12 @@ look_back_spec =
     tie.close
     (tie.spec
     returns
-    array-read-larger
-    larger-requires
+    array-read-max
+    max-requires
     returns-2
-    array-read-larger-2
-    larger-requires-2
+    array-read-max-2
+    max-requires-2
     returns-3
-    array-read-larger-3
-    larger-requires-3
+    array-read-max-3
+    max-requires-3
     returns-4)

@@ -1,7 +1,7 @@
 // Automata: the header and the lent table, whether the two are well-formed, the events of each symbol, and the sets of states that runs reach by events.
 #![tactic(auto)]
 
-ghost use Rattle.std.specs.Prelude.{◌≡◌, List, [], ◌∷◌, ◌++◌, ℕ, ◌+◌, ◌*◌, ◌<◌, ◌≤◌, max, length, get_or, take, drop, replicate};
+ghost use Rattle.std.specs.Prelude.{◌≡◌, List, [], ◌∷◌, ◌++◌, ℕ, ◌+◌, ◌*◌, ◌<◌, ◌≤◌, length, get_or, take, drop, replicate};
 ghost use Rattle.stateset.specs.Set.{In, Is, Decided};
 ghost use Rattle.automaton.specs.Run.{Automaton, automaton_of, SmallSymbols, WellFormed};
 ghost use Rattle.automaton.specs.Reaching.{Enters, Arrives, Leaves, Showing, BySymbol, Listed, Known, Gained, Closed, Entered};
@@ -35,12 +35,6 @@ pub fn in_range(bytes: &[u8], count: u8) -> bool
 {
     let n = bytes.len().min(count as usize);
     bytes[..n].iter().all(|b| *b <= 31)
-}
-
-pub fn larger(a: u8, b: u8) -> u8
-    ensures { result ≡ max a b }
-{
-    a.max(b)
 }
 
 // A number that none of the 32 symbols is above, those of unobservable events among them.

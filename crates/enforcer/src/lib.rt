@@ -94,9 +94,9 @@ pub fn largest_wait(header: Header, further: Further, verdicts: EachSecret<Verdi
     let w1 = wait_at(header, further, first, 1);
     let w2 = wait_at(header, further, second, 2);
     let w3 = wait_at(header, further, third, 3);
-    let a = automaton::larger(w0, w1);
-    let b = automaton::larger(w2, w3);
-    automaton::larger(a, b)
+    let a = w0.max(w1);
+    let b = w2.max(w3);
+    a.max(b)
 }
 
 // The first `count` of the bytes, and one more behind them.

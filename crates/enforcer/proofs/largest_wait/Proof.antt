@@ -51,19 +51,19 @@ wait-at-requires-3 c κs = search rules
 wait-at-requires-4 : tie.Need-wait_at-w3-requires
 wait-at-requires-4 c κs = search rules
 
-larger-requires : tie.Need-larger-a-requires
-larger-requires c κs = search rules
+max-requires : tie.Need-max-a-requires
+max-requires c κs = search rules
 
-larger-requires-2 : tie.Need-larger-b-requires
-larger-requires-2 c κs = search rules
+max-requires-2 : tie.Need-max-b-requires
+max-requires-2 c κs = search rules
 
-larger-requires-3 : tie.Need-larger-requires
-larger-requires-3 c κs = search rules
+max-requires-3 : tie.Need-max-requires
+max-requires-3 c κs = search rules
 
 returns-2 : tie.Need-returns
 returns-2 c =
     largest_steps c.args.header c.args.further c.args.verdicts _ _ _ _ _ c.requires.1 c.wait_at-w0.ensures c.wait_at-w1.ensures
-    c.wait_at-w2.ensures c.wait_at-w3.ensures (c.larger.ensures ∙ ap₂ max c.larger-a.ensures c.larger-b.ensures)
+    c.wait_at-w2.ensures c.wait_at-w3.ensures (c.max.ensures ∙ ap₂ max c.max-a.ensures c.max-b.ensures)
 
 pub largest_wait_spec : {M : Type 1} → statement M
 largest_wait_spec =
@@ -74,7 +74,7 @@ largest_wait_spec =
     wait-at-requires-2
     wait-at-requires-3
     wait-at-requires-4
-    larger-requires
-    larger-requires-2
-    larger-requires-3
+    max-requires
+    max-requires-2
+    max-requires-3
     returns-2)

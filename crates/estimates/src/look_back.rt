@@ -103,24 +103,20 @@ pub fn strong_verdict(
     ensures { Found notion.Strong (automaton_of table.now header) (secret_of secret remembered.count) remembered.count
         remembered.symbols remembered.entries result }
 {
-    let symbols = remembered.symbols;
-    let entries = remembered.entries;
     let last = remembered.count;
     let clear = states & !secret;
     let mut then = clear;
-    let mut l: u8 = 0;
-    'steps: loop {
-        let at = l as usize;
-        if entries[at] & then == 0 {
+    for l in 0..=last {
+        let at = usize::from(l);
+        if remembered.entries[at] & then == 0 {
             return Verdict::Leak(l);
         }
-        if l == last {
-            return Verdict::NoLeak;
+        if l < last {
+            let shown = automaton::events_with(sets, remembered.symbols[at]);
+            then = automaton::backward_reach(table, back, clear, shown, then);
         }
-        let shown = automaton::events_with(sets, symbols[at]);
-        then = automaton::backward_reach(table, back, clear, shown, then);
-        l += 1;
     }
+    Verdict::NoLeak
 }
 
 // Source 000's m(l), all of it, for each step that is remembered: the states in which runs can be l steps back and from which the last l symbols can

@@ -4,11 +4,11 @@ use mathlib.Core.Path.{◌≡◌, refl, ap, sym, subst, ◌∙◌}
 use mathlib.Core.Bool.{Bool, true, false}
 use mathlib.Core.List.{List, [], ◌∷◌, ◌++◌, append_assoc, append-nil}
 use mathlib.Core.Logic.{◌⊎◌, inl, inr}
-use Prim.Native.Nat.{ℕ, suc, ◌+◌, ◌≤◌, ◌<◌, ◌^◌}
+use Prim.Native.Nat.{ℕ, suc, ◌+◌, ◌≤◌, ◌<◌}
 use native.Mathlib.Omega.{arith}
 use native.Mathlib.Decide.{dec_lt}
 use lib.ListN.{length, get_or, take, drop, length-append, take-append-drop}
-use lib.Seq.{take-length, take-suc, length-take-le}
+use lib.Seq.{take-length, take-suc}
 use Rattle.stateset.specs.Set.{Decided}
 use Rattle.stateset.proofs.Decides.{holds, fails}
 use Rattle.lists.proofs.Chains.{every_split}
@@ -261,19 +261,6 @@ pub record Along (t : List ℕ) (h : Header) (self : Search) (bytes : List ℕ) 
 module _ (t : List ℕ) (h : Header) (self : Search) (bytes : List ℕ) where
   pub along_start : Within t h self (length bytes) → Along t h self bytes self 0
   along_start within = record { within = within; among = omega arith; on = on_start t h self within.limits within.placed }
-
-  -- one more byte can be counted
-  pub along_ready : (now : Search) (i : ℕ) → Along t h self bytes now i → i < length bytes → now.found ≡ false → Within t h now 1
-  along_ready now i a less searching = record {
-    well_formed = a.within.well_formed;
-    limits = a.on.limits;
-    placed = a.on.placed;
-    countable = λ e. go self.found refl;
-  }
-    where
-      go : (f : Bool) → self.found ≡ f → now.accepted + 1 < 2 ^ 64
-      go true e = absent searching (ap (λ (s : Search). s.found) (a.on.stays e) ∙ e)
-      go false e = omega (arith, a.within.countable e, a.on.most, length-take-le i bytes a.among)
 
   pub along_next : (now : Search) (i : ℕ) (next : Search) → Along t h self bytes now i → i < length bytes → SearchedOn t h now (get_or bytes i 0 ∷ []) next
       → Along t h self bytes next (i + 1)

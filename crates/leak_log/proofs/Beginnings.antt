@@ -45,11 +45,11 @@ pub begun_none : {notion : Notion} {t : List ℕ} {h : Header} {s : Search} → 
 begun_none (Beginning.begun so allowed limits going zero x) = zero
 
 -- the events that a log may have, of those that are there
-record Fits (events : List ℕ) (n : ℕ) : Type 0 where
-  bytes : take (n - 0) events ≡ take 4294967295 events
-  count : n ≡ length (take 4294967295 events)
+pub record Fits (events : List ℕ) (n : ℕ) : Type 0 where
+  pub bytes : take (n - 0) events ≡ take 4294967295 events
+  pub count : n ≡ length (take 4294967295 events)
 
-fits : (events : List ℕ) (n : ℕ) → n ≡ min (length events) 4294967295 → Fits events n
+pub fits : (events : List ℕ) (n : ℕ) → n ≡ min (length events) 4294967295 → Fits events n
 fits events n is = go (dec_le (length events) 4294967295)
   where
     go : Dec (length events ≤ 4294967295) → Fits events n

@@ -3,22 +3,7 @@
 #![tactic(auto)]
 
 use opacity::Notion;
-use streams::reads::read_full;
-
-fn length_of(high: u8, low: u8) -> usize {
-    (high as usize) * 256 + low as usize
-}
-
-// Reads past the rest of a log.
-fn skip(rt: &impl Input, log: &mut [u8], n: usize) -> bool {
-    if log.len() < n {
-        return false;
-    }
-    if read_full(rt, &mut log[0..n]) < n {
-        return false;
-    }
-    true
-}
+use streams::reads::{read_full, skip};
 
 // A log of so many bytes.
 fn one(
@@ -38,23 +23,20 @@ fn next(rt: &(impl Input + Print + Eprint), log: &mut [u8], out: &mut [u8]) -> b
     if read_full(rt, &mut front) < 3 {
         return false;
     }
-    let n = length_of(front[1], front[2]);
-    if front[0] == 0 {
-        return one(rt, log, out, n, Notion::Weak);
+    let [notion, high, low] = front;
+    let n = usize::from(u16::from_be_bytes([high, low]));
+    match notion {
+        0 => one(rt, log, out, n, Notion::Weak),
+        1 => one(rt, log, out, n, Notion::Strong),
+        _ => false,
     }
-    if front[0] == 1 {
-        return one(rt, log, out, n, Notion::Strong);
-    }
-    false
 }
 
 fn all(rt: &(impl Input + Print + Eprint), log: &mut [u8], out: &mut [u8]) {
-    let mut turns = u32::MAX;
-    while 0 < turns {
+    for _ in 0..u32::MAX {
         if !next(rt, log, out) {
             return;
         }
-        turns -= 1;
     }
 }
 

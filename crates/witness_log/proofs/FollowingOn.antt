@@ -3,10 +3,10 @@ use Rattle.std.specs.Prelude.{Err, Ok, Result}
 use mathlib.Core.Path.{◌≡◌, refl, ap, sym, subst, ◌∙◌}
 use mathlib.Core.List.{List, [], ◌∷◌, ◌++◌, append_assoc, append-nil}
 use mathlib.Core.Logic.{◌⊎◌, inl, inr}
-use Prim.Native.Nat.{ℕ, suc, ◌+◌, ◌-◌, ◌≤◌, ◌<◌}
+use Prim.Native.Nat.{ℕ, suc, ◌+◌, ◌-◌, ◌≤◌, ◌<◌, min}
 use native.Mathlib.Omega.{arith}
 use lib.ListN.{length, get_or, take, length-append, length-take}
-use lib.Seq.{take-length, take-suc, take_all, length-take-le}
+use lib.Seq.{take-length, take-suc, length-take-le}
 use Rattle.automaton.specs.Run.{automaton_of, WellFormed}
 use Rattle.automaton.specs.declared.Header.{Header}
 use Rattle.refusal.specs.Refusals.{number_of}
@@ -21,6 +21,7 @@ use Rattle.verifier.specs.Replies.{findings_by, said_by, refused-by, verdicts_by
 use Rattle.verifier.proofs.Growing.{grown_limits}
 use Rattle.leaks.specs.FirstLeaks.{AcceptedPart}
 use Rattle.leaks.proofs.Parts.{part_one, part_append, right_exists}
+use Rattle.leak_log.proofs.Beginnings.{fits}
 use Rattle.streams.specs.declared.Fetched.TheVariants as fetched
 use Rattle.witness_log.specs.Following.{After, On, Begins, Turning, brought, Fed}
 use Rattle.witness_log.specs.declared.Followed.{Followed}
@@ -127,21 +128,11 @@ module _ (t : List ℕ) (h : Header) where
   -- ---- the first bytes
 
   -- the events that a log may have, of those that are there
-  pub begins : (s f : Followed) (events : List ℕ) (n : ℕ) → n ≤ length events → n ≤ 4294967295 → (n ≡ length events) ⊎ (n ≡ 4294967295)
-      → On t h s (take (n - 0) events) f → Begins t h s events (record { followed = f; allowed = 4294967295 - n })
-  begins s f events n a b (inl e) x =
-      let z : n - 0 ≡ length events = omega arith in
-      let all_of : take 4294967295 events ≡ events = take_all 4294967295 events (omega arith) in
-      record {
-        on = subst (λ (l : List ℕ). On t h s l f) (ap (λ (k : ℕ). take k events) z ∙ take-length events ∙ sym all_of) x;
-        allowed = ap (λ (k : ℕ). 4294967295 - k) (e ∙ sym (ap length all_of));
-      }
-  begins s f events n a b (inr e) x =
-      let z : n - 0 ≡ 4294967295 = omega arith in
-      record {
-        on = subst (λ (l : List ℕ). On t h s l f) (ap (λ (k : ℕ). take k events) z) x;
-        allowed = ap (λ (k : ℕ). 4294967295 - k) (e ∙ sym (length-take-le 4294967295 events (omega arith)));
-      }
+  pub begins : (s f : Followed) (events : List ℕ) (n : ℕ) → n ≡ min (length events) 4294967295 → On t h s (take (n - 0) events) f
+      → Begins t h s events (record { followed = f; allowed = 4294967295 - n })
+  begins s f events n is x =
+      let there = fits events n is in
+      record { on = subst (λ (l : List ℕ). On t h s l f) there.bytes x; allowed = ap (λ (k : ℕ). 4294967295 - k) there.count }
 
   -- ---- reads
 
@@ -189,8 +180,7 @@ module _ (t : List ℕ) (h : Header) where
         on = on_then s now r.followed so.bytes (take n input) so.on b.3;
       }
 
-  pub fed : {left : ℕ} {s : Followed} {rest : ℕ} {now : Followed} {input : List ℕ} {r : Reading} (failed : _) → SoFar left s rest now
-      → Turning t h rest now input r → (r.fetched ≡ fetched.End) ⊎ (r.fetched ≡ fetched.Failed)
-      → Fed t h left s (record { followed = r.followed; left = rest; failed = failed })
-  fed {s = s} {r = r} failed so turned e =
-      record { bytes = so.bytes; read = so.read; on = subst (On t h s so.bytes) (sym (still e turned)) so.on }
+  pub fed : {left : ℕ} {s : Followed} {rest : ℕ} {now : Followed} {input : List ℕ} {r : Reading} → SoFar left s rest now
+      → Turning t h rest now input r → r.fetched ≡ fetched.End → Fed t h left s (record { followed = r.followed; left = rest })
+  fed {s = s} {r = r} so turned e =
+      record { bytes = so.bytes; read = so.read; on = subst (On t h s so.bytes) (sym (still (inl e) turned)) so.on }

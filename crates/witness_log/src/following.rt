@@ -33,10 +33,8 @@ pub fn follow(followed: Followed, table: &[u64], header: Header, bytes: &[u8]) -
     ensures { On table.now header followed bytes.now result }
 {
     let mut now = followed;
-    let mut i: usize = 0;
-    while i < bytes.len() {
-        now = step(now, table, header, bytes[i]);
-        i += 1;
+    for byte in bytes {
+        now = step(now, table, header, *byte);
     }
     now
 }

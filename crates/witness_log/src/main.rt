@@ -6,7 +6,7 @@
 mod following; // the estimator follows event bytes
 mod telling; // the lines of what it has followed
 
-ghost use Rattle.std.specs.Prelude.{◌+◌, ◌-◌, ◌≤◌, length, take};
+ghost use Rattle.std.specs.Prelude.{◌+◌, ◌-◌, ◌≤◌, IfSome, length, take};
 ghost use Rattle.witness_log.specs.Following.{Begins, Turning, Fed};
 ghost use Rattle.witness_log.specs.Printing.{Ready, ReadOn, Ran, Leaves};
 
@@ -14,7 +14,7 @@ use automaton::Header;
 use following::follow;
 use leak_log::opening::open;
 use opacity::Notion;
-use streams::reads::{fetch, gather, least};
+use streams::reads::{fetch, gather};
 use streams::writes::{flush, place};
 use streams::{Fetched, Gathered};
 use telling::put_output;
@@ -47,12 +47,11 @@ struct Reading {
     fetched: Fetched,
 }
 
-// After the last read: how many bytes might still have been read, and whether a read failed.
+// After the last read, and how many bytes might still have been read.
 #[derive(Clone, Copy)]
 struct Rest {
     followed: Followed,
     left: usize,
-    failed: bool,
 }
 
 // The events among the first bytes of a log. It has at most 4,294,967,295 event bytes (01), and the others count for nothing.
@@ -60,10 +59,9 @@ fn begin(start: Followed, table: &[u64], header: Header, events: &[u8]) -> Begun
     requires { start.accepted ≤ 0 }
     ensures { Begins table.now header start events.now result }
 {
-    let n = least(events.len(), u32::MAX as usize);
-    let followed = follow(start, table, header, &events[0..n]);
+    let n = events.len().min(u32::MAX as usize);
     Begun {
-        followed: followed,
+        followed: follow(start, table, header, &events[0..n]),
         allowed: u32::MAX as usize - n,
     }
 }
@@ -82,25 +80,22 @@ fn turn(
 {
     let fetched = fetch(rt, input, left);
     match fetched {
-        Fetched::Bytes(n) => {
-            let after = follow(followed, table, header, &input[0..n]);
-            Reading {
-                followed: after,
-                fetched: Fetched::Bytes(n),
-            }
-        }
+        Fetched::Bytes(n) => Reading {
+            followed: follow(followed, table, header, &input[0..n]),
+            fetched: Fetched::Bytes(n),
+        },
         Fetched::End => Reading {
-            followed: followed,
+            followed,
             fetched: Fetched::End,
         },
         Fetched::Failed => Reading {
-            followed: followed,
+            followed,
             fetched: Fetched::Failed,
         },
     }
 }
 
-// Reads on to the end of the input, at most `left` bytes.
+// Reads on to the end of the input, at most `left` bytes. None where a read failed.
 fn all(
     rt: &(impl Input + Eprint),
     followed: Followed,
@@ -108,34 +103,24 @@ fn all(
     header: Header,
     input: &mut [u8],
     left: usize,
-) -> Rest
+) -> Option<Rest>
     requires { followed.accepted + left ≤ 4294967295 }
-    ensures { Fed table.now header left followed result }
+    ensures { IfSome result (λ rest. Fed table.now header left followed rest) }
 {
     let mut now = followed;
     let mut rest = left;
     loop {
         let one = turn(rt, now, table, header, input, rest);
         now = one.followed;
-        let fetched = one.fetched;
-        match fetched {
-            Fetched::Bytes(n) => {
-                rest -= n;
-            }
+        match one.fetched {
+            Fetched::Bytes(n) => rest -= n,
             Fetched::End => {
-                return Rest {
+                return Some(Rest {
                     followed: now,
                     left: rest,
-                    failed: false,
-                };
+                });
             }
-            Fetched::Failed => {
-                return Rest {
-                    followed: now,
-                    left: rest,
-                    failed: true,
-                };
-            }
+            Fetched::Failed => return None,
         }
     }
 }
@@ -152,13 +137,10 @@ fn read_on(
     requires { Ready table.now header begun (length out.old) }
     ensures { ReadOn table.now header begun out.old result out.new }
 {
-    let followed = begun.followed;
-    let rest = all(rt, followed, table, header, input, begun.allowed);
-    if rest.failed {
+    let Some(rest) = all(rt, begun.followed, table, header, input, begun.allowed) else {
         return 0;
-    }
-    let last = rest.followed;
-    put_output(last, table, header, out)
+    };
+    put_output(rest.followed, table, header, out)
 }
 
 // A log whose first `n` bytes are there. It says how many bytes at the front of the output are to be written out.
@@ -167,20 +149,15 @@ fn run(rt: &(impl Input + Eprint), input: &mut [u8], n: usize, out: &mut [u8]) -
     ensures { Ran (take (n - 0) input.old) out.old result out.new }
 {
     let opened = open(&input[0..n], Notion::Weak);
-    let table = opened.table;
-    let header = opened.header;
-    let search = opened.search;
-    let answer = opened.answer;
-    match answer {
+    match opened.answer {
         Err(refusal) => place(report::refused_log(out, 0, refusal)),
         Ok(first) => {
-            let estimator = search.estimator;
             let start = Followed {
-                estimator: estimator,
+                estimator: opened.search.estimator,
                 accepted: 0,
             };
-            let begun = begin(start, &table, header, &input[first..n]);
-            read_on(rt, begun, &table, header, input, out)
+            let begun = begin(start, &opened.table, opened.header, &input[first..n]);
+            read_on(rt, begun, &opened.table, opened.header, input, out)
         }
     }
 }
@@ -191,8 +168,7 @@ fn put_log(rt: &(impl Input + Eprint), input: &mut [u8], out: &mut [u8]) -> usiz
     ensures { Leaves out.old result out.new }
 {
     match gather(rt, input, usize::MAX, INPUT) {
-        Gathered::Bytes(n) => run(rt, input, n, out),
-        Gathered::All(n) => run(rt, input, n, out),
+        Gathered::Bytes(n) | Gathered::All(n) => run(rt, input, n, out),
         Gathered::Failed => 0,
     }
 }

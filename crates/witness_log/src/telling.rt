@@ -51,10 +51,8 @@ fn put_lines(
 {
     let steps = estimator.count;
     let mut next = at;
-    let mut k: u8 = 0;
-    while k <= steps {
+    for k in 0..=steps {
         next = put_line(estimator, table, header, notion, k, out, next);
-        k += 1;
     }
     next
 }

@@ -1,4 +1,4 @@
-use Rattle.std.proofs.Common.{true, false, inl, inr, rules}
+use Rattle.std.proofs.Common.{rules}
 use Rattle.witness_log.proofs.FollowingOn.{so_more, fed}
 use Rattle.witness_log.proofs.all.Goals as goal
 
@@ -6,7 +6,4 @@ pub loop-n-preserved : goal.loop-n-preserved
 loop-n-preserved g c = (search rules, so_more _ _ c.in-Bytes.n c.loop-n.invariant.1 c.turn-one.ensures c.in-Bytes.is)
 
 pub returns-in-End : goal.returns-in-End
-returns-in-End g c = fed _ _ false c.loop-n.invariant.1 c.turn-one.ensures (inl c.in-End.is)
-
-pub returns-in-Failed : goal.returns-in-Failed
-returns-in-Failed g c = fed _ _ true c.loop-n.invariant.1 c.turn-one.ensures (inr c.in-Failed.is)
+returns-in-End g c = fed _ _ c.loop-n.invariant.1 c.turn-one.ensures c.in-End.is

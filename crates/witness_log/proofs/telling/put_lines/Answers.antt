@@ -1,5 +1,5 @@
-use Rattle.std.proofs.Common.{arith}
-use Rattle.witness_log.proofs.Lining.{count_small, in_reach, lines_none, lines_more}
+use Rattle.std.proofs.Common.{◌+◌, arith}
+use Rattle.witness_log.proofs.Lining.{count_small, in_reach, lines_none, lines_more, lines_all}
 use Rattle.witness_log.proofs.telling.put_lines.Goals as goal
 
 pub loop-k-init : goal.loop-k-init
@@ -13,8 +13,10 @@ put_line-next-requires c =
       omega (arith, l.invariant.1.wrote.limit, l.invariant.1.wrote.size, count_small _ _ _ c.requires.0),
     )
 
-pub overflow_add-k : goal.overflow_add-k
-overflow_add-k c = omega (arith, count_small _ _ _ c.requires.0)
-
 pub loop-k-preserved : goal.loop-k-preserved
 loop-k-preserved c = (omega arith, lines_more _ _ _ _ _ _ _ _ _ _ _ c.loop-k.invariant.1 c.put_line-next.ensures)
+
+-- the last step ends the loop
+pub returns-2 : goal.returns-2
+returns-2 c =
+    lines_all _ _ _ _ (c.loop-k.k + 1) _ _ _ _ _ (omega arith) (lines_more _ _ _ _ _ _ _ _ _ _ _ c.loop-k.invariant.1 c.put_line-next.ensures)

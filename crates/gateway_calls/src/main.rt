@@ -1,8 +1,8 @@
 // Calls of the gateway's functions, as its standard input lists them: one line a command, and after each call its answer and every slice that the
 // function was lent to write to, whole. tests/README.md has the commands; tests/gateway_calls.py writes the input and computes the output.
 //
-// The modules, each on those before it: `store` the memory, `print` what it holds, `calls` the functions, `open` calls whose answer is left open or of
-// which any run will do, `parse` the parts of a line; here the commands.
+// The modules, each on those before it: `store` the memory, `print` what it holds, `parse` the parts of a line, `calls` the functions, `open` calls whose
+// answer is left open or of which any run will do; here the commands.
 #![tactic(auto)]
 
 ghost use Rattle.std.specs.Prelude.{◌≡◌, length};
@@ -13,210 +13,146 @@ mod parse;
 mod print;
 mod store;
 
+use calls::Call;
+use open::Said;
+use parse::Text;
+use print::show;
+use store::{Memory, SLOT, Slot};
 use streams::reads::read_full;
 
-// Sets an element so many times: the place behind them, or one behind the slot if they do not fit, or it is no byte.
-fn set_element(
-    memory: &mut [u64; 69632],
-    slot: usize,
-    place: usize,
-    word: u64,
-    times: u64,
-) -> usize {
-    if store::SLOT < place {
-        return store::SLOT + 1;
+fn put<T: Copy + Drop>(elements: &mut [T], value: T) {
+    for element in elements.iter_mut() {
+        *element = value;
     }
-    let left = store::SLOT - place;
-    if (left as u64) < times {
-        return store::SLOT + 1;
-    }
-    if slot != store::TABLE {
-        if 255 < word {
-            return store::SLOT + 1;
-        }
-    }
-    store::repeat(memory, slot, place, word, times as usize);
-    place + times as usize
 }
 
-// Sets elements from a place of the line on.
-fn fill(memory: &mut [u64; 69632], slot: usize, line: &[u8], from: usize) -> bool {
-    let mut at = from;
-    let mut place: usize = 0;
-    while at < line.len() {
-        let element = parse::element_at(line, at, place);
-        let next = element.next;
-        if next <= at {
-            return false;
-        }
-        place = set_element(memory, slot, element.place, element.word, element.times);
-        if store::SLOT < place {
-            return false;
-        }
-        at = next;
+// Sets a slot's size and elements, those that are not named to 0. Where the line is not understood, what stands before that is set.
+fn set<T: Copy + From<u8> + TryFrom<u64, Error: Drop> + Drop>(
+    slot: &mut Slot<T>,
+    line: Text<'_>,
+) -> Option<()> {
+    let mut text = line;
+    let size = text.number_after(b' ', 10)? as usize;
+    if SLOT < size {
+        return None;
     }
-    true
+    slot.size = size;
+    put(&mut slot.elements, T::from(0));
+    let mut place = 0;
+    while !text.rest.is_empty() {
+        let element = text.element(place)?;
+        let end = element.place.checked_add(element.times)?;
+        let value = T::try_from(element.word).ok()?;
+        put(slot.elements.get_mut(element.place..end)?, value);
+        place = end;
+    }
+    Some(())
 }
 
-// A slot's size and elements: those that are not named are 0.
-fn set(
-    memory: &mut [u64; 69632],
-    sizes: &mut [usize; 17],
-    slot: usize,
-    line: &[u8],
-    at: usize,
-) -> bool {
-    let size = parse::number_after(line, at, b' ', 10);
-    if size.next <= at {
-        return false;
-    }
-    if 4096 < size.value {
-        return false;
-    }
-    store::set_size(sizes, slot, size.value as usize);
-    store::repeat(memory, slot, 0, 0, store::SLOT);
-    fill(memory, slot, line, size.next)
-}
-
-// The line of a call once more, and its answer.
-fn show_answer(rt: &impl Print, line: &[u8], answer: u8) {
+// The line of a call once more, and what is said of it.
+fn show_answer(rt: &impl Print, line: &[u8], said: Said) {
     let _ = rt.write_all(line);
-    if answer == open::OPEN {
-        let _ = rt.write_all(b": open\n");
-        return;
-    }
-    if answer == open::PASSES {
-        let _ = rt.write_all(b": passes\n");
-        return;
-    }
-    let _ = rt.write_all(b": ");
-    let _ = rt.print(answer as u64);
-    let _ = rt.write_all(b"\n");
+    let _ = println!(rt; ": {said}");
 }
 
-fn show_call(
-    rt: &impl Print,
-    line: &[u8],
-    call: u64,
-    answer: u8,
-    memory: &[u64; 69632],
-    sizes: &[usize; 17],
-) {
-    let slots = calls::slots_of(call);
-    show_answer(rt, line, answer);
-    if call == calls::DECODE {
-        print::show(rt, memory, sizes, store::TABLE);
+// The slots that a call may write to.
+fn show_written(rt: &impl Print, call: Call, memory: &Memory) {
+    match call {
+        Call::Decode => {
+            show(rt, "table", memory.table.lent());
+            show(rt, "header", memory.header.lent());
+        }
+        Call::Fresh | Call::Accept(_) => {
+            show(rt, "estimator", memory.estimator.lent());
+            show(rt, "judgement", memory.judgement.lent());
+        }
+        Call::Start(_) => show(rt, "enforcer", memory.enforcer.lent()),
+        Call::Offer(_) => {
+            show(rt, "enforcer", memory.enforcer.lent());
+            show(rt, "output", memory.output.lent());
+            show(rt, "release", memory.release.lent());
+        }
+        Call::Explore(_) => show(rt, "exploration", memory.exploration.lent()),
+        Call::FirstLeak(_) => show(rt, "place", memory.place.lent()),
+        Call::Canonical => {
+            show(rt, "output", memory.output.lent());
+            show(rt, "size", memory.size.lent());
+        }
+        Call::Witness(_) => {
+            show(rt, "output", memory.output.lent());
+            show(rt, "run", memory.run.lent());
+        }
+        Call::CheckWitness(..) => show(rt, "valid", memory.valid.lent()),
     }
-    print::show(rt, memory, sizes, slots.first);
-    print::show(rt, memory, sizes, slots.second);
-    print::show(rt, memory, sizes, slots.third);
 }
 
-// A call, by the word before it, if any.
-fn make_call(
-    rt: &impl Print,
-    line: &[u8],
-    how: u64,
-    call: u64,
-    numbers: calls::Numbers,
-    memory: &mut [u64; 69632],
-    sizes: &[usize; 17],
-) {
-    if how != 0 {
-        show_answer(rt, line, open::said_of(how, call, numbers, memory, sizes));
-        return;
-    }
-    let answer = calls::answer_of(call, numbers, memory, sizes);
-    show_call(rt, line, call, answer, memory, sizes);
+// What stands behind a space.
+fn behind_space<'a>(text: Text<'a>) -> Option<Text<'a>> {
+    let rest = text.rest.strip_prefix(b" ")?;
+    Some(Text { rest })
 }
 
-// Whether the line has, from a place on, a call and as many numbers as it takes.
-fn called(
-    rt: &impl Print,
-    line: &[u8],
-    at: usize,
-    how: u64,
-    memory: &mut [u64; 69632],
-    sizes: &[usize; 17],
-) -> bool {
-    let word = parse::word_at(line, at);
-    let call = word.value;
-    let given = parse::numbers_after(line, word.next);
-    let slots = calls::slots_of(call);
-    if slots.first == store::NONE {
-        return false;
-    }
-    if slots.numbers != given.count {
-        return false;
-    }
-    if given.next < line.len() {
-        return false;
-    }
-    if calls::largest_of(call) < given.first {
-        return false;
-    }
-    if (255 < given.second) | (255 < given.third) | (255 < given.fourth) {
-        return false;
-    }
-    if (how != 0) & !open::may_be(how, call) {
-        return false;
-    }
-    let numbers = calls::Numbers {
-        first: given.first as u32,
-        second: (given.second % 256) as u32,
-        third: (given.third % 256) as u32,
-        fourth: (given.fourth % 256) as u32,
-    };
-    make_call(rt, line, how, call, numbers, memory, sizes);
-    true
+// A call, as the line has it.
+fn make_call(rt: &impl Print, line: &[u8], memory: &mut Memory) -> Option<()> {
+    let call = Call::read(Text { rest: line })?;
+    let answer = call.answer(memory);
+    show_answer(rt, line, Said::Answer(answer));
+    show_written(rt, call, memory);
+    Some(())
 }
 
-// Whether the line is understood.
-fn obeyed(
-    rt: &impl Print,
-    line: &[u8],
-    memory: &mut [u64; 69632],
-    sizes: &mut [usize; 17],
-) -> bool {
-    let word = parse::word_at(line, 0);
-    let slot = parse::slot_of(word.value);
-    let end = word.next;
-    if slot < store::NONE {
-        return set(memory, sizes, slot, line, end);
+// Obeys the line; none where it is not understood.
+fn obey(rt: &impl Print, line: &[u8], memory: &mut Memory) -> Option<()> {
+    let mut text = Text { rest: line };
+    match text.word() {
+        b"table" => set(&mut memory.table, text),
+        b"encoding" => set(&mut memory.encoding, text),
+        b"header" => set(&mut memory.header, text),
+        b"stimator" => set(&mut memory.estimator, text),
+        b"udgement" => set(&mut memory.judgement, text),
+        b"enforcer" => set(&mut memory.enforcer, text),
+        b"output" => set(&mut memory.output, text),
+        b"release" => set(&mut memory.release, text),
+        b"further" => set(&mut memory.further, text),
+        b"events" => set(&mut memory.events, text),
+        b"place" => set(&mut memory.place, text),
+        b"size" => set(&mut memory.size, text),
+        b"run" => set(&mut memory.run, text),
+        b"pairs" => set(&mut memory.pairs, text),
+        b"valid" => set(&mut memory.valid, text),
+        b"loration" => set(&mut memory.exploration, text),
+        b"open" => {
+            let said = open::open(Call::read(behind_space(text)?)?, memory)?;
+            show_answer(rt, line, said);
+            Some(())
+        }
+        b"any" => {
+            let said = open::any(Call::read(behind_space(text)?)?, memory)?;
+            show_answer(rt, line, said);
+            Some(())
+        }
+        _ => make_call(rt, line, memory),
     }
-    if (word.value == calls::OPEN_WORD) | (word.value == calls::ANY_WORD) {
-        if end < line.len() {
-            return called(rt, line, end + 1, word.value, memory, sizes);
+}
+
+// A line: one that is empty or begins with # says something to the reader.
+fn run(rt: &impl Print, line: &[u8], memory: &mut Memory) {
+    match line {
+        [] | [b'#', ..] => {
+            let _ = rt.write_all(line);
+            let _ = println!(rt);
+        }
+        _ => {
+            if obey(rt, line, memory).is_none() {
+                let _ = println!(rt; "?");
+            }
         }
     }
-    called(rt, line, 0, 0, memory, sizes)
 }
 
-// An empty line, or one that says something to the reader.
-fn comment(line: &[u8]) -> bool {
-    if line.len() == 0 {
-        return true;
-    }
-    line[0] == b'#'
-}
-
-fn run(rt: &impl Print, line: &[u8], memory: &mut [u64; 69632], sizes: &mut [usize; 17]) {
-    if comment(line) {
-        let _ = rt.write_all(line);
-        let _ = rt.write_all(b"\n");
-        return;
-    }
-    if !obeyed(rt, line, memory, sizes) {
-        let _ = rt.write_all(b"?\n");
-    }
-}
-
-fn all(rt: &impl Print, input: &[u8], memory: &mut [u64; 69632], sizes: &mut [usize; 17]) {
-    let mut at: usize = 0;
-    while at < input.len() {
-        let end = parse::line_end(input, at);
-        run(rt, &input[at..end], memory, sizes);
-        at = end + 1;
+fn all(rt: &impl Print, input: &[u8], memory: &mut Memory) {
+    for line in input.split_inclusive(|b| *b == b'\n') {
+        run(rt, line.strip_suffix(b"\n").unwrap_or(line), memory);
     }
 }
 
@@ -229,8 +165,7 @@ fn room() -> [u8; 1048576]
 
 fn main(rt: HostRuntime) {
     let mut input = room();
-    let mut memory = [0u64; 69632];
-    let mut sizes = [0usize; 17];
+    let mut memory = store::empty();
     let n = read_full(&rt, &mut input);
-    all(&rt, &input[0..n], &mut memory, &mut sizes);
+    all(&rt, &input[0..n], &mut memory);
 }

@@ -1,208 +1,101 @@
-// The parts of a line: numbers, words, elements of a slot.
-ghost use Rattle.std.specs.Prelude.{◌≤◌, ◌<◌, length};
+// The parts of a line: words, numbers, elements of a slot.
+ghost use Rattle.std.specs.Prelude.{◌≤◌, ◌<◌, length, IsSome};
 
-use super::store;
-
-// A number or a word of the line, and where the line goes on.
+// What is left of a line. A part that is there is taken off its front.
 #[derive(Clone, Copy)]
-pub struct Number {
-    pub value: u64,
-    pub next: usize,
+pub struct Text<'a> {
+    pub rest: &'a [u8],
 }
 
-// An element of a slot, how many times it is meant, and where the line goes on; at its start, if it is malformed.
+// An element of a slot, and how many times it is meant from its place on.
 #[derive(Clone, Copy)]
 pub struct Element {
     pub place: usize,
     pub word: u64,
-    pub times: u64,
-    pub next: usize,
+    pub times: usize,
 }
 
-// The digit that a byte is, or 16.
-fn digit(byte: u8) -> u8
-    ensures { result ≤ 16 }
+fn digit(byte: u8) -> Option<u8> {
+    match byte {
+        b'0'..=b'9' => Some(byte - b'0'),
+        b'a'..=b'f' => Some(byte - b'a' + 10),
+        _ => None,
+    }
+}
+
+// A number with one digit more; none where the byte is no digit to the base, or the number would be too large.
+fn with_digit(number: u64, base: u64, byte: u8) -> Option<u64> {
+    let digit = u64::from(digit(byte)?);
+    if base <= digit {
+        return None;
+    }
+    number.checked_mul(base)?.checked_add(digit)
+}
+
+// The number at the front, 0 where there is no digit, and what stands behind it.
+fn number_at(digits: &[u8], base: u64) -> (u64, &[u8])
+    ensures { length result.1.now ≤ length digits.now }
 {
-    if b'0' <= byte {
-        if byte <= b'9' {
-            return byte - b'0';
+    let mut number = 0;
+    for (i, byte) in digits.iter().enumerate() {
+        let Some(more) = with_digit(number, base, *byte) else {
+            return (number, &digits[i..]);
+        };
+        number = more;
+    }
+    (number, b"")
+}
+
+// Of a word the last eight letters, without zero bytes before them: words are told apart by no more.
+fn last_letters(word: &[u8]) -> &[u8] {
+    let last = &word[word.len().saturating_sub(8)..];
+    match last.iter().position(|b| *b != 0) {
+        Some(first) => &last[first..],
+        None => b"",
+    }
+}
+
+impl<'a> Text<'a> {
+    // The word up to the next space or to the end.
+    pub fn word(&mut self) -> &'a [u8] {
+        let all = self.rest;
+        let end = all.iter().position(|b| *b == b' ').unwrap_or(all.len());
+        let (word, behind) = all.split_at(end);
+        self.rest = behind;
+        last_letters(word)
+    }
+
+    // The number behind a mark. Where the mark or the number is not there, nothing is taken.
+    pub fn number_after(&mut self, mark: u8, base: u64) -> Option<u64>
+        ensures shorter { IsSome result → length self.new.rest.now < length self.old.rest.now }
+        ensures no_longer { length self.new.rest.now ≤ length self.old.rest.now }
+    {
+        let (first, digits) = self.rest.split_first()?;
+        if *first != mark {
+            return None;
         }
-    }
-    if b'a' <= byte {
-        if byte <= b'f' {
-            return byte - b'a' + 10;
+        let (number, behind) = number_at(digits, base);
+        if behind.len() == digits.len() {
+            return None;
         }
+        self.rest = behind;
+        Some(number)
     }
-    16
-}
 
-fn with_digit(value: u64, base: u8, digit: u8) -> u64
-    requires { (value ≤ 1152921504606846975) × (digit < 16) }
-{
-    if base == 10 {
-        return value * 10 + store::wide(digit) as u64;
+    // A number of a call.
+    pub fn number<T: TryFrom<u64, Error: Drop>>(&mut self) -> Option<T> {
+        T::try_from(self.number_after(b' ', 10)?).ok()
     }
-    value * 16 + store::wide(digit) as u64
-}
 
-// The number that starts at a place, up to the first byte that is no digit of it, or that would make it too large.
-fn number_at(line: &[u8], at: usize, base: u8) -> Number
-    requires { base ≤ 16 }
-{
-    let mut value: u64 = 0;
-    let mut i = at;
-    while i < line.len() {
-        let d = digit(line[i]);
-        if base <= d {
-            break;
-        }
-        if 0x0fff_ffff_ffff_ffff < value {
-            break;
-        }
-        value = with_digit(value, base, d);
-        i += 1;
+    // The element that follows, behind its index, or else behind the one before it, which ended at `place`.
+    pub fn element(&mut self, place: usize) -> Option<Element>
+        ensures { IsSome result → length self.new.rest.now < length self.old.rest.now }
+    {
+        let (place, word) = match self.number_after(b' ', 10) {
+            Some(index) => (index as usize, self.number_after(b':', 16)?),
+            None => (place, self.number_after(b',', 16)?),
+        };
+        let times = self.number_after(b'*', 10).unwrap_or(1) as usize;
+        Some(Element { place, word, times })
     }
-    Number {
-        value: value,
-        next: i,
-    }
-}
-
-// The number behind a mark; the line goes on where it was, if the mark or the number is not there.
-pub fn number_after(line: &[u8], at: usize, mark: u8, base: u8) -> Number
-    requires { base ≤ 16 }
-{
-    if at < line.len() {
-        if line[at] == mark {
-            let number = number_at(line, at + 1, base);
-            if at + 1 < number.next {
-                return number;
-            }
-        }
-    }
-    Number { value: 0, next: at }
-}
-
-// The numbers that stand from a place on, one space before each, up to four; how many they are, and where the line goes on.
-#[derive(Clone, Copy)]
-pub struct Numbers {
-    pub first: u64,
-    pub second: u64,
-    pub third: u64,
-    pub fourth: u64,
-    pub count: usize,
-    pub next: usize,
-}
-
-pub fn numbers_after(line: &[u8], at: usize) -> Numbers {
-    let first = number_after(line, at, b' ', 10);
-    let second = number_after(line, first.next, b' ', 10);
-    let third = number_after(line, second.next, b' ', 10);
-    let fourth = number_after(line, third.next, b' ', 10);
-    let mut count: usize = 0;
-    if at < first.next {
-        count = 1;
-    }
-    if first.next < second.next {
-        count = 2;
-    }
-    if second.next < third.next {
-        count = 3;
-    }
-    if third.next < fourth.next {
-        count = 4;
-    }
-    Numbers {
-        first: first.value,
-        second: second.value,
-        third: third.value,
-        fourth: fourth.value,
-        count: count,
-        next: fourth.next,
-    }
-}
-
-// How many times an element is meant.
-fn times_at(line: &[u8], at: usize) -> Number {
-    let times = number_after(line, at, b'*', 10);
-    if times.next <= at {
-        return Number { value: 1, next: at };
-    }
-    times
-}
-
-// The element at a place of the line, behind its index, or else behind the one before it, which ended at `place`.
-pub fn element_at(line: &[u8], at: usize, place: usize) -> Element {
-    let index = number_after(line, at, b' ', 10);
-    if index.next <= at {
-        return value_at(line, at, b',', place);
-    }
-    value_at(line, index.next, b':', index.value as usize)
-}
-
-fn value_at(line: &[u8], at: usize, mark: u8, place: usize) -> Element {
-    let word = number_after(line, at, mark, 16);
-    let mut times = times_at(line, word.next);
-    if word.next <= at {
-        times.next = 0;
-    }
-    Element {
-        place: place,
-        word: word.value,
-        times: times.value,
-        next: times.next,
-    }
-}
-
-// The last eight letters of the word that starts at a place, as a number.
-pub fn word_at(line: &[u8], at: usize) -> Number {
-    let mut value: u64 = 0;
-    let mut i = at;
-    while i < line.len() {
-        if line[i] == b' ' {
-            break;
-        }
-        value = (value << 8) | store::wide(line[i]) as u64;
-        i += 1;
-    }
-    Number {
-        value: value,
-        next: i,
-    }
-}
-
-pub fn slot_of(name: u64) -> usize {
-    match name {
-        0x7461626c65 => store::TABLE,
-        0x656e636f64696e67 => store::ENCODING,
-        0x686561646572 => store::HEADER,
-        0x7374696d61746f72 => store::ESTIMATOR,
-        0x756467656d656e74 => store::JUDGEMENT,
-        0x656e666f72636572 => store::ENFORCER,
-        0x6f7574707574 => store::OUTPUT,
-        0x72656c65617365 => store::RELEASE,
-        0x66757274686572 => store::FURTHER,
-        0x6576656e7473 => store::EVENTS,
-        0x706c616365 => store::PLACE,
-        0x73697a65 => store::SIZE,
-        0x72756e => store::RUN,
-        0x7061697273 => store::PAIRS,
-        0x76616c6964 => store::VALID,
-        0x6c6f726174696f6e => store::EXPLORATION,
-        _ => store::NONE,
-    }
-}
-
-pub fn line_end(input: &[u8], from: usize) -> usize
-    requires { from < length input.now }
-    ensures { (from ≤ result) × (result ≤ length input.now) }
-{
-    let mut i = from;
-    while i < input.len() {
-        if input[i] == b'\n' {
-            return i;
-        }
-        i += 1;
-    }
-    i
 }

@@ -24,7 +24,7 @@ use Rattle.enforcer.specs.Offerings.{refused, offer_outcome, Offering, not_obser
 use Rattle.enforcer.specs.Waits.{LargestWait}
 use Rattle.enforcer.specs.Inner.{PendingWithin, Enqueues}
 use Rattle.enforcer.specs.declared.Enforcer.{Enforcer}
-use Rattle.enforcer.specs.declared.OfferReply.{OfferReply}
+use Rattle.enforcer.specs.declared.Reply.{Reply}
 use Rattle.enforcer.proofs.TakingIn.{limits_joined, grown_next}
 use Rattle.enforcer.specs.declared.Release.{Release}
 
@@ -37,7 +37,7 @@ refused_outcome t h self byte output n s pending wide (Accepting.incompatible so
     incompatible so (limits_joined _ self li pending) wide ob (λ notion trace g. nobody trace g.estimator)
 
 -- a refusal that is handed back
-pub refused_given : (t : List ℕ) (h : Header) (self : Enforcer) (byte : ℕ) (output : List ℕ) (refusal : Refusal) (r : OfferReply) → r.enforcer ≡ self
+pub refused_given : (t : List ℕ) (h : Header) (self : Enforcer) (byte : ℕ) (output : List ℕ) (refusal : Refusal) (r : Reply Release) → r.enforcer ≡ self
     → r.answer ≡ Err refusal
     → Offering t h self byte output (refused (number_of refusal)) self output → Offering t h self byte output (offer_outcome r.answer) r.enforcer output
 refused_given t h self byte output refusal r e f x = rw (e, f) x

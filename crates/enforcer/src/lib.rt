@@ -30,13 +30,6 @@ pub struct Enforcer {
     pub waits: [u8; 16],
 }
 
-// The enforcer that a start hands back, and whether it is one.
-#[derive(Clone, Copy)]
-pub struct Start {
-    pub enforcer: Enforcer,
-    pub answer: Result<(), Refusal>,
-}
-
 // How many symbols were released to the front of the output (01: freed, tray), and how many states are possible after all that were accepted (02: how
 // many fit), 1 to 64.
 #[derive(Clone, Copy)]
@@ -45,11 +38,11 @@ pub struct Release {
     pub size: u8,
 }
 
-// The enforcer after an offer, and what was released.
+// The enforcer that an entry hands back, and what it answers: nothing more of a start, and what was released of an offer.
 #[derive(Clone, Copy)]
-pub struct OfferReply {
+pub struct Reply<A> {
     pub enforcer: Enforcer,
-    pub answer: Result<Release, Refusal>,
+    pub answer: Result<A, Refusal>,
 }
 
 // How many later symbols make a trace with this verdict safe.
@@ -166,7 +159,7 @@ fn write_front(a: &[u8], n: u8, output: &mut [u8])
 
 impl Enforcer {
     // A fresh enforcer under the notion, with these further secrets. One that is refused is outside its limits on every automaton.
-    pub fn start(table: &[u64], header: Header, notion: Notion, further: Further) -> Start
+    pub fn start(table: &[u64], header: Header, notion: Notion, further: Further) -> Reply<()>
         ensures { Starting table.now header further notion (start_outcome result.answer) result.enforcer }
     {
         let reply = Estimator::fresh(table, header, further);
@@ -180,7 +173,7 @@ impl Enforcer {
             waits: [0u8; 16],
         };
         match answer {
-            Err(refusal) => Start {
+            Err(refusal) => Reply {
                 enforcer: none,
                 answer: Err(refusal),
             },
@@ -188,15 +181,15 @@ impl Enforcer {
                 let verdicts = verifier::choose_each(notion, judgement.verdicts);
                 let largest = largest_wait(header, further, verdicts);
                 if largest != 0 { // the wait of a leak 0 is not over, and the empty trace has no other leak
-                    return Start {
+                    return Reply {
                         enforcer: none,
                         answer: Err(Refusal::InitialLeak),
                     };
                 }
-                Start {
+                Reply {
                     enforcer: Enforcer {
-                        estimator: estimator,
-                        notion: notion,
+                        estimator,
+                        notion,
                         count: 0,
                         pending: [0u8; 16],
                         waits: [0u8; 16],
@@ -228,10 +221,10 @@ impl Enforcer {
     }
 
     // As it was, with the reason.
-    fn refused(self, refusal: Refusal) -> OfferReply
+    fn refused(self, refusal: Refusal) -> Reply<Release>
         ensures { (result.enforcer ≡ self) × (result.answer ≡ Err refusal) }
     {
-        OfferReply {
+        Reply {
             enforcer: self,
             answer: Err(refusal),
         }
@@ -246,7 +239,7 @@ impl Enforcer {
         size: u8,
         byte: u8,
         output: &mut [u8],
-    ) -> OfferReply
+    ) -> Reply<Release>
         requires { (k ≤ 15) × (self.count ≤ k + 1) × (17 ≤ length output.old) }
         ensures { Enqueues k self estimator w size byte output.old result.answer result.enforcer output.new }
     {
@@ -255,7 +248,7 @@ impl Enforcer {
         let soon = nearer(&self.waits, count, w);
         let f = ready(&soon, count, k);
         write_front(&symbols, f, output);
-        OfferReply {
+        Reply {
             enforcer: Enforcer {
                 estimator,
                 notion: self.notion,
@@ -269,7 +262,7 @@ impl Enforcer {
 
     // Offers one byte: a symbol that is accepted joins the pending ones, and the longest prefix that is safe for all secrets is released to the front of
     // the output. (The table, the header and the estimator are tested once, by the verifier; where the output is too small, here, since 9 comes before 10.)
-    pub fn offer(self, table: &[u64], header: Header, byte: u8, output: &mut [u8]) -> OfferReply
+    pub fn offer(self, table: &[u64], header: Header, byte: u8, output: &mut [u8]) -> Reply<Release>
         ensures { Offering table.now header self byte output.old (offer_outcome result.answer) result.enforcer output.new }
     {
         if output.len() < 17 {

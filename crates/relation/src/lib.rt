@@ -65,8 +65,8 @@ pub fn transpose_few(rows: &[u64], few: usize, out: &mut [u64])
     requires { (length rows.now ≡ 64) × (few ≤ 64) × (out.old ≡ replicate 64 0) }
     ensures { Rows out.new (λ q p. Row rows.now p q × (p < few)) }
 {
-    for p in 0..few {
-        let mut todo = rows[p];
+    for (p, row) in rows[..few].iter().enumerate() {
+        let mut todo = *row;
         while todo != 0 {
             let q = u64::trailing_zeros(todo) as usize;
             out[q] |= 1 << p;

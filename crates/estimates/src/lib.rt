@@ -13,7 +13,7 @@ ghost use Rattle.estimates.specs.Estimates.{PushedOn, Inside, Estimated, Next};
 use automaton::{Header, Reach};
 
 // What is kept of a trace for look backs: how many symbols are remembered, these, the newest first, and for each step back the states right after the last
-// one that is left.
+// one that is left. (Two arrays and a count, and not a list of steps: memory is fixed, and these are an estimator's, whose bytes are the C interface.)
 #[derive(Clone, Copy, PartialEq, Eq)]
 pub struct Remembered {
     pub count: u8,

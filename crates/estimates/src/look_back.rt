@@ -41,7 +41,8 @@ fn possible_states(silent: &[u64], states: u64, entry: u64, then: u64, secret: u
 
 // The least step back at which every possible state is secret, none where there is no such step. (01: "every moment of count n − l is in a secret
 // state".) As source 000's Proposition 4 takes it: l from 0 upward, and leak l at the first l for which all of m(l), the possible states l steps back, are
-// secret. Whenever the loop takes up a step, no smaller one is a leak (`NoLeakBelow`). m(0) is the estimate, which is known.
+// secret. Whenever the loop takes up a step, no smaller one is a leak (`NoLeakBelow`). m(0) is the estimate, which is known. (The scope names this form,
+// nested loops over steps and states, the inner one left by its label; `first_secret` tests a set as a whole.)
 pub fn weak_verdict(
     remembered: Remembered,
     table: &[u64],
@@ -58,13 +59,10 @@ pub fn weak_verdict(
     ensures { Found notion.Weak (automaton_of table.now header) (secret_of secret remembered.count) remembered.count
         remembered.symbols remembered.entries result }
 {
-    let symbols = remembered.symbols;
-    let entries = remembered.entries;
     let last = remembered.count; // K, or n where that is less
     let mut then = states;
     let mut possible = estimate;
-    let mut l: u8 = 0; // from 0 upward
-    'steps: loop {
+    'steps: for l in 0..=last { // from 0 upward
         let mut todo = possible;
         // whether all of m(l) is secret: the first state that is not decides
         'states: while todo != 0 {
@@ -77,14 +75,15 @@ pub fn weak_verdict(
         if todo == 0 {
             return Verdict::Leak(l);
         }
-        if l == last { // K, or n
-            return Verdict::NoLeak;
+        if l < last { // no step up to l is a leak
+            let at = usize::from(l);
+            let shown = automaton::events_with(sets, remembered.symbols[at]);
+            then = automaton::backward_reach(table, back, states, shown, then);
+            let entry = remembered.entries[at + 1];
+            possible = possible_states(silent, states, entry, then, secret);
         }
-        let shown = automaton::events_with(sets, symbols[l as usize]);
-        then = automaton::backward_reach(table, back, states, shown, then);
-        l += 1; // no step below l is a leak
-        possible = possible_states(silent, states, entries[l as usize], then, secret);
     }
+    Verdict::NoLeak
 }
 
 // The least step back from which no run avoids the secret. (01: "every fitting run has a moment of count at least n − l in a secret state".) In the

@@ -2,11 +2,12 @@
 use mathlib.Core.Path.{◌≡◌, refl, ap, sym, ◌∙◌, subst}
 use Rattle.std.specs.List.{fold}
 use mathlib.Core.List.{List, [], ◌∷◌, map}
+use mathlib.Core.Logic.{◌⊎◌, inl, inr}
 use Prim.Native.Nat.{ℕ, zero, suc, ◌≤◌, ◌<◌, min, max}
 use native.Mathlib.Omega.{arith}
 use native.Mathlib.Decide.{dec_lt}
-use lib.ListN.{length, get_or, take, length-take}
-use lib.Seq.{length-take-le, ext_get_or}
+use lib.ListN.{length, get_or, take, length-take, get_or-eq_default}
+use lib.Seq.{get_or-take, length-take-le, ext_get_or}
 use Rattle.automaton.specs.declared.Header.{Header}
 use Rattle.opacity.specs.declared.Secret.{Secret}
 use Rattle.opacity.specs.declared.Further.{Further}
@@ -71,6 +72,23 @@ how_many_most h f = omega (arith, length-take f.count (places_of f))
 pub alone : (h : Header) → length (secrets_of h no_further) ≡ 1
 alone h = refl
 
+-- the further secret at a place that is given is what stands there; past the count, or past the three places, there is none
+pub placed : (f : Further) (j : ℕ) → j < f.count → j < 3 → secret_at (further_of f) j ≡ place_of f j
+placed f j less few = get_or-take f.count (places_of f) j empty_secret less ∙ at j few
+  where
+    at : (j : ℕ) → j < 3 → get_or (places_of f) j empty_secret ≡ place_of f j
+    at zero few = refl
+    at (suc zero) few = refl
+    at (suc (suc zero)) few = refl
+    at (suc (suc (suc j))) few = absurd (omega arith)
+
+pub not_placed : (f : Further) (j : ℕ) → (f.count ≤ j) ⊎ (3 ≤ j) → secret_at (further_of f) j ≡ empty_secret
+not_placed f j more = get_or-eq_default (further_of f) empty_secret (long more)
+  where
+    long : (f.count ≤ j) ⊎ (3 ≤ j) → length (further_of f) ≤ j
+    long (inl h) = omega (arith, length-take f.count (places_of f))
+    long (inr h) = omega (arith, length-take f.count (places_of f))
+
 -- what a state keeps are the same secrets
 cleared_places : (n : ℕ) (a b c : Secret)
     → take n (get_or (take n (a ∷ b ∷ c ∷ [])) 0 empty_secret ∷ get_or (take n (a ∷ b ∷ c ∷ [])) 1 empty_secret ∷ get_or (take n (a ∷ b ∷ c ∷ [])) 2 empty_secret ∷ [])
@@ -103,12 +121,39 @@ cleared_allowed f a = record { few = a.few; back = subst (λ (cs : List Secret).
 pub cleared_none : (f : Further) → f.count ≡ 0 → cleared_of f ≡ no_further
 cleared_none f e = rw e refl
 
--- the largest K: with no further secret the automaton's own
+-- the largest K, place by place
 pub back_none : (h : Header) (f : Further) → f.count ≡ 0 → h.k ≡ look_back_of h f
 unfolding largest
 back_none h f e = rw e (omega arith)
 
--- and from that on, one after another
+pub back_one : (h : Header) (f : Further) → f.count ≡ 1 → max h.k (get_or f.k 0 0) ≡ look_back_of h f
+unfolding largest
+back_one h f e = rw e (omega arith)
+
+pub back_two : (h : Header) (f : Further) → f.count ≡ 2 → max (max h.k (get_or f.k 0 0)) (get_or f.k 1 0) ≡ look_back_of h f
+unfolding largest
+back_two h f e = rw e (omega arith)
+
+max_assoc : (a b c : ℕ) → max (max a b) c ≡ max a (max b c)
+max_assoc a b c = omega arith
+
+last : (a b c d : ℕ) → max (max (max a b) c) d ≡ max a (max b (max c (max d 0)))
+last a b c d =
+    let e : d ≡ max d 0 = omega arith in
+    max_assoc (max a b) c d ∙ max_assoc a b (max c d) ∙ ap (λ (x : ℕ). max a (max b (max c x))) e
+
+three : (n : ℕ) (c : Secret) (a b d : Secret) → 3 ≤ n → max (max (max c.k a.k) b.k) d.k ≡ largest (c ∷ take n (a ∷ b ∷ d ∷ []))
+unfolding largest
+three zero c a b d h = absurd (omega arith)
+three (suc zero) c a b d h = absurd (omega arith)
+three (suc (suc zero)) c a b d h = absurd (omega arith)
+three (suc (suc (suc zero))) c a b d h = last c.k a.k b.k d.k
+three (suc (suc (suc (suc n)))) c a b d h = last c.k a.k b.k d.k
+
+pub back_three : (h : Header) (f : Further) → 3 ≤ f.count → max (max (max h.k (get_or f.k 0 0)) (get_or f.k 1 0)) (get_or f.k 2 0) ≡ look_back_of h f
+back_three h f few = three f.count (own h) (place_of f 0) (place_of f 1) (place_of f 2) few
+
+-- and from the automaton's own on, one after another
 back_from : (m : ℕ) (cs : List Secret) → fold (λ a k. max a k) m (map (λ (c : Secret). c.k) cs) ≡ max m (largest cs)
 unfolding largest
 back_from m [] = omega arith

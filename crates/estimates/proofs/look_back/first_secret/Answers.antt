@@ -1,7 +1,6 @@
 -- `estimates::look_back::first_secret` meets its contract, in the order of `weak_verdict`: the steps from 0 upward, and at each step l that the loop takes up
 -- no step below l is a leak (`NoLeakBelow`). What it tests is all of m(l), which was worked out before. Assumes nothing.
-use Rattle.std.proofs.Common.{◌≡◌, ◌+◌, ◌-◌, length, get_or, bit_and, arith}
-use Rattle.automaton.specs.Notion.{ClearAt}
+use Rattle.std.proofs.Common.{◌+◌, get_or, arith}
 use Rattle.opacity.specs.declared.Notion.TheVariants.{Weak}
 use Rattle.opacity.specs.Secrets.{secret_of}
 use Rattle.opacity.specs.Verdicts.{NoLeakBelow}

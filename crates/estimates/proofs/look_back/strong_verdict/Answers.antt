@@ -1,13 +1,13 @@
 -- `estimates::look_back::strong_verdict` meets its contract, in the order of `weak_verdict`: the steps from 0 upward, and at each step l that the loop takes up
 -- no step below l is a leak (`NoLeakBelow`, by the strong notion). What a step tests is another: a state right after the event l steps back from which the
 -- later events can follow with no secret state. Assumes nothing.
-use Rattle.std.proofs.Common.{◌≡◌, ◌+◌, ◌-◌, ◌≤◌, ◌<◌, length, get_or, arith}
+use Rattle.std.proofs.Common.{◌+◌, ◌≤◌, arith}
 use Rattle.stateset.specs.Set.{complement}
 use Rattle.stateset.proofs.Bits.{in_and}
 use Rattle.opacity.specs.declared.Notion.TheVariants.{Strong}
 use Rattle.opacity.specs.Secrets.{secret_of}
 use Rattle.opacity.specs.Verdicts.{NoLeakBelow}
-use Rattle.estimates.proofs.LookBack.{ForTraces, follows_start, follows_step, remembers_inside, strong_sure, strong_clear}
+use Rattle.estimates.proofs.LookBack.{ForTraces, follows_step, remembers_inside, strong_sure, strong_clear}
 use Rattle.opacity.proofs.Exactness.{below_step, below_leak, below_last}
 use Rattle.estimates.proofs.look_back.strong_verdict.Goals as goal
 use Rattle.estimates.proofs.look_back.strong_verdict.Goals.{Else-remembered-at-eq0, then-l-last, else-l-last}
@@ -52,12 +52,12 @@ loop-l-preserved c =
     let a = c.args in (
       below_next (goal.at.loop-l-preserved c).Else-remembered-at-eq0,
       λ next p trace g m. elim c.if-l-last.branch [
-        then-l-last w ↦
+        | then-l-last w ↦
             let shown = rw c.from-at.ensures at (w.events_with-shown.ensures p g.symbols_small g.sets_are) in
             rw w.then-is (follows_step p _ trace _ _ _ _ _ m (omega arith)
             (w.backward_reach-then.ensures p _ _ _ g.table_is shown (g.back_are (omega arith))
             (λ q i. (in_and q a.states (complement a.secret) i).0) (s.invariant.1 (omega arith) p trace g m)))
-      | else-l-last w ↦ absurd (omega (arith, w.if-l-last.false))
+        | else-l-last w ↦ absurd (omega (arith, w.if-l-last.false))
       ],
       omega arith,
       s.invariant.3,

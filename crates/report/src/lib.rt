@@ -1,4 +1,7 @@
-// The lines of the log programs, written into a lent output. Bytes past the written ones stay as they were.
+// The lines of the log programs, written into a lent output. Bytes past the written ones stay as they were. Each public function says where the next line
+// goes, or None: there is no room for its line, and nothing is written.
+// (The output and the place in it are two parameters everywhere: the public functions have them so, and a struct of both would be no plainer inside, since
+// each function would have to ensure besides that its `&mut` is still the one that was lent.)
 #![tactic(auto)]
 
 pub mod witnesses; // the lines of the witnesses of a log

@@ -27,7 +27,7 @@ fn transition(table: &[u64], from: u8, event: u8, to: u8) -> bool
     stateset::member(table[at], to as usize)
 }
 
-// How many of the last symbols are left after one more event: as many as before where it is unobservable, one less where it shows the next of them, and else none.
+// How many of the last symbols are left after one more event: as many as before where it is unobservable, one less where it shows the next of them, or None: it shows another.
 fn left_after(observable: u32, symbols: [u8; 32], last: [u8; 15], left: u8, event: u8) -> Option<u8>
     requires { left ≤ 15 }
     ensures { (t : List ℕ) (initial : ℕ) → LeftAfter (automaton_with t initial observable symbols) last left event result }
@@ -48,8 +48,7 @@ fn left_after(observable: u32, symbols: [u8; 32], last: [u8; 15], left: u8, even
 // Whether all bytes are pairs, and from the start steps through allowed states that show the last k symbols.
 fn is_run(
     table: &[u64],
-    observable: u32,
-    symbols: [u8; 32],
+    header: Header,
     last: [u8; 15],
     k: u8,
     allowed: u64,
@@ -57,8 +56,7 @@ fn is_run(
     pairs: &[u8],
 ) -> bool
     requires { (length table.now ≡ 2048) × (k ≤ 15) }
-    ensures { (initial : ℕ) → Decided result (Follows (automaton_with table.now initial observable symbols) allowed (recent k last) start
-        pairs.now) }
+    ensures { Decided result (Follows (automaton_of table.now header) allowed (recent k last) start pairs.now) }
 {
     let mut q = start;
     let mut left = k;
@@ -70,7 +68,7 @@ fn is_run(
         if !stateset::member(allowed, *to as usize) {
             return false;
         }
-        let Some(fewer) = left_after(observable, symbols, last, left, *event) else {
+        let Some(fewer) = left_after(header.observable, header.symbols, last, left, *event) else {
             return false;
         };
         q = *to;
@@ -114,10 +112,7 @@ pub fn is_witness(
     requires { WellFormed table.now header × InLimits header estimator × (k ≤ estimator.count) }
     ensures { Decided result (Pairs (WitnessIn notion (automaton_of table.now header) secret estimator k start) pairs.now) }
 {
-    let last = estimator.symbols;
-    let entries = estimator.entries;
-    let symbols = header.symbols;
-    let entry = word_at(&entries, k as usize);
+    let entry = word_at(&estimator.entries, k as usize);
     if !stateset::member(entry, start as usize) {
         return false;
     }
@@ -125,16 +120,7 @@ pub fn is_witness(
     if !stateset::member(allowed, start as usize) {
         return false;
     }
-    if !is_run(
-        table,
-        header.observable,
-        symbols,
-        last,
-        k,
-        allowed,
-        start,
-        pairs,
-    ) {
+    if !is_run(table, header, estimator.symbols, k, allowed, start, pairs) {
         return false;
     }
     has_clear(header.observable, secret, start, pairs)

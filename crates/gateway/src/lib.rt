@@ -8,7 +8,8 @@ use enforcer::Enforcer;
 use layout::sizes;
 use verifier::Estimator;
 
-// The refusal of a slice that has not the length of its layout, and of a notion that is none.
+// The refusal of a slice that has not the length of its layout, and of a notion that is none: the number of `Refusal::Malformed`. (A constant calls no
+// function.) Each function tests the slices that C lends it one by one: a test, a length and its constant, is no shorter as a call.
 const MALFORMED: u8 = 9;
 
 // Decodes an encoding: the table, and the header's bytes.

@@ -220,6 +220,7 @@ pub fn write_estimator(bytes: &mut [u8], estimator: Estimator)
 
 // ---- enforcers
 
+// The bytes of notions and of verdicts. (No `From`: the types are those of `opacity`, where an `impl` would stand, and their bytes are the layout's alone.)
 pub fn notion_of(byte: u8) -> Notion
     ensures { result ≡ notion_at byte }
 {

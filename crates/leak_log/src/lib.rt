@@ -45,7 +45,9 @@ pub struct Begun {
     pub allowed: usize,
 }
 
-// The search after one more read, and what the read found.
+// The search after one more read, and what the read found. (`witness_log` has three types and two functions like these on what it follows. One of each
+// with a type parameter would lose the fields' names, by which the definitions of both speak of them, and take the search, the test whether the leak is
+// found, and the relation of a block, of which `Turning` and `Feeding` tell, as arguments of its own.)
 #[derive(Clone, Copy)]
 struct Reading {
     search: Search,

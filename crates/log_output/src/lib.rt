@@ -53,7 +53,7 @@ struct Part {
     taken: usize,
 }
 
-// What one more read leaves, and how many bytes it brought.
+// What one more read leaves, and how many bytes it brought, 0 where no more is read. (No `Option`: so `Feeding` in the specs has it.)
 #[derive(Clone, Copy)]
 struct Reading {
     progress: Progress,

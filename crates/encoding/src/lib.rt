@@ -21,7 +21,8 @@ pub struct Fixed {
     pub symbols: usize,
 }
 
-// All of an encoding but the symbols and the transitions, which are read again where they are stored.
+// All of an encoding but the symbols and the transitions, which are read again where they are stored. (How large the numbers are stands in the contracts,
+// as FixedSmall and FrontSmall, and in no type: the layout of `specs/` gives these records of any numbers, so that a type with that fact would be no plainer.)
 #[derive(Clone, Copy)]
 pub struct Front {
     pub fixed: Fixed,

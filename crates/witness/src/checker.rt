@@ -27,7 +27,8 @@ fn transition(table: &[u64], from: u8, event: u8, to: u8) -> bool
     stateset::member(table[at], to as usize)
 }
 
-// How many of the last symbols are left after one more event: as many as before where it is unobservable, one less where it shows the next of them, or None: it shows another.
+// How many of the last symbols are left after one more event: as many as before where it is unobservable, one less where it shows the next of them, and
+// None where it shows another.
 fn left_after(observable: u32, symbols: [u8; 32], last: [u8; 15], left: u8, event: u8) -> Option<u8>
     requires { left ≤ 15 }
     ensures { (t : List ℕ) (initial : ℕ) → LeftAfter (automaton_with t initial observable symbols) last left event result }
@@ -35,10 +36,7 @@ fn left_after(observable: u32, symbols: [u8; 32], last: [u8; 15], left: u8, even
     if !stateset::member(observable as u64, event as usize) {
         return Some(left);
     }
-    if left == 0 {
-        return None;
-    }
-    let next = left - 1;
+    let next = left.checked_sub(1)?;
     if last[next as usize] != symbols[event as usize] {
         return None;
     }

@@ -34,7 +34,8 @@ fn read_asked(text: &mut Text<'_>) -> Option<Asked> {
 }
 
 impl Call {
-    // The call that the whole text is: its word, and as many numbers as the function takes, each within its type.
+    // The call that the whole text is: its word, of which `Text::word` gives the last eight letters, and as many numbers as the function takes, each
+    // within its type.
     pub fn read(line: Text<'_>) -> Option<Call> {
         let mut text = line;
         let call = match text.word() {
@@ -50,11 +51,7 @@ impl Call {
             b"_witness" => Call::CheckWitness(read_asked(&mut text)?, text.number()?),
             _ => return None,
         };
-        if text.rest.is_empty() {
-            Some(call)
-        } else {
-            None
-        }
+        text.rest.is_empty().then_some(call)
     }
 
     // A call: its answer, after which the memory is as the function left it.

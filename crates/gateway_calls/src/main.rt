@@ -20,13 +20,15 @@ use print::show;
 use store::{Memory, SLOT, Slot};
 use streams::reads::read_full;
 
+// (`fill` would want a clause on how a `T` is cloned.)
 fn put<T: Copy + Drop>(elements: &mut [T], value: T) {
     for element in elements.iter_mut() {
         *element = value;
     }
 }
 
-// Sets a slot's size and elements, those that are not named to 0. Where the line is not understood, what stands before that is set.
+// Sets a slot's size and elements, those that are not named to 0. Where the line is not understood, what stands before that is set. (The loop ends where
+// nothing is left of the line. How far an element leads is known once it is read.)
 fn set<T: Copy + From<u8> + TryFrom<u64, Error: Drop> + Drop>(
     slot: &mut Slot<T>,
     line: Text<'_>,
@@ -86,12 +88,6 @@ fn show_written(rt: &impl Print, call: Call, memory: &Memory) {
     }
 }
 
-// What stands behind a space.
-fn behind_space<'a>(text: Text<'a>) -> Option<Text<'a>> {
-    let rest = text.rest.strip_prefix(b" ")?;
-    Some(Text { rest })
-}
-
 // A call, as the line has it.
 fn make_call(rt: &impl Print, line: &[u8], memory: &mut Memory) -> Option<()> {
     let call = Call::read(Text { rest: line })?;
@@ -101,7 +97,7 @@ fn make_call(rt: &impl Print, line: &[u8], memory: &mut Memory) -> Option<()> {
     Some(())
 }
 
-// Obeys the line; none where it is not understood.
+// Obeys the line; none where it is not understood. (`Text::word` gives the last eight letters of a word.)
 fn obey(rt: &impl Print, line: &[u8], memory: &mut Memory) -> Option<()> {
     let mut text = Text { rest: line };
     match text.word() {
@@ -122,12 +118,12 @@ fn obey(rt: &impl Print, line: &[u8], memory: &mut Memory) -> Option<()> {
         b"valid" => set(&mut memory.valid, text),
         b"loration" => set(&mut memory.exploration, text),
         b"open" => {
-            let said = open::open(Call::read(behind_space(text)?)?, memory)?;
+            let said = open::open(Call::read(text.behind_space()?)?, memory)?;
             show_answer(rt, line, said);
             Some(())
         }
         b"any" => {
-            let said = open::any(Call::read(behind_space(text)?)?, memory)?;
+            let said = open::any(Call::read(text.behind_space()?)?, memory)?;
             show_answer(rt, line, said);
             Some(())
         }

@@ -65,6 +65,12 @@ impl<'a> Text<'a> {
         last_letters(word)
     }
 
+    // What stands behind a space.
+    pub fn behind_space(self) -> Option<Text<'a>> {
+        let rest = self.rest.strip_prefix(b" ")?;
+        Some(Text { rest })
+    }
+
     // The number behind a mark. Where the mark or the number is not there, nothing is taken.
     pub fn number_after(&mut self, mark: u8, base: u64) -> Option<u64>
         ensures shorter { IsSome result → length self.new.rest.now < length self.old.rest.now }

@@ -24,7 +24,8 @@ pub enum Refusal {
     StepTooFar,
 }
 
-// The number of a refusal in 01's table.
+// The number of a refusal in 01's table. (A match, in which each number stands beside its reason: they are C's, and have gaps. A `From` would be no
+// plainer: `u8::from(refusal)` for `refusal::number(refusal)`, with a ghost member in place of the clause. Nothing compares refusals, so no derive does.)
 pub fn number(refusal: Refusal) -> u8
     ensures { result ≡ number_of refusal }
 {

@@ -21,7 +21,7 @@ pub fn opacity_decode(encoding: &[u8], table: &mut [u64], header: &mut [u8]) -> 
     }
     let decoded = decoding::decode(encoding, table);
     match decoded.answer {
-        Err(refusal) => refusal::number(refusal),
+        Err(refused) => refusal::number(refused),
         Ok(()) => {
             layout::write_header(header, decoded.header);
             0

@@ -10,7 +10,7 @@ pub returns-in-Err : goal.returns-in-Err
 returns-in-Err c =
     let a = c.args in
     decode_refused a.encoding.now a.table.now a.header.now _ c.decode-decoded.result.header c.decode-decoded.result.answer
-    c.if-header-ne-HEADER_SIZE.false c.decode-decoded.ensures c.in-Err.refusal _ c.in-Err.is c.number.ensures
+    c.if-header-ne-HEADER_SIZE.false c.decode-decoded.ensures c.in-Err.refused _ c.in-Err.is c.number.ensures
 
 pub returns-in-Ok : goal.returns-in-Ok
 returns-in-Ok c =

@@ -1,5 +1,5 @@
 // The parts of a line: words, numbers, elements of a slot.
-ghost use Rattle.std.specs.Prelude.{◌≤◌, ◌<◌, length, IsSome};
+ghost use Rattle.std.specs.Prelude.{◌≤◌, ◌<◌, length, IsSome, IfSome};
 
 // What is left of a line. A part that is there is taken off its front.
 #[derive(Clone, Copy)]
@@ -15,7 +15,9 @@ pub struct Element {
     pub times: usize,
 }
 
-fn digit(byte: u8) -> Option<u8> {
+fn digit(byte: u8) -> Option<u8>
+    ensures { IfSome result (λ d. d < 16) }
+{
     match byte {
         b'0'..=b'9' => Some(byte - b'0'),
         b'a'..=b'f' => Some(byte - b'a' + 10),

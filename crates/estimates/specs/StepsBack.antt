@@ -9,7 +9,9 @@ use Rattle.opacity.specs.declared.Notion.{Notion}
 use Rattle.opacity.specs.declared.Secret.{Secret}
 use Rattle.opacity.specs.declared.Verdict.{Verdict}
 use Rattle.opacity.specs.Verdicts.{steps_of, Bounded, Tells}
-use Rattle.estimates.specs.Estimates.{Inside}
+use Rattle.opacity.specs.Secrets.{secret_of}
+use Rattle.estimates.specs.Estimates.{Inside, UnobservableReach}
+use Rattle.estimates.specs.declared.look_back.LookBack.{LookBack}
 
 -- a part of the states of which P holds that decides whether all of them are secret: one that is not excuses the system, so that it need not be the
 -- whole. Where all of the part are secret, all are
@@ -59,3 +61,20 @@ pub record Found (notion : Notion) (p : Automaton) (secret : Secret) (n : ℕ) (
 pub record Delayed (p : Automaton) (symbols entries : List ℕ) (last : ℕ) (past : List ℕ) : Type 0 where
   pub size : length past ≡ 16
   pub are : (trace : List ℕ) (l : ℕ) → l ≤ last → Remembers p trace l symbols entries → Is (get_or past l 0) (DelayedEstimate p trace (length trace - l))
+
+-- a look back has what it requires; and its estimate is of the states right after the last symbol
+abbrev pub Ready : LookBack → Type 0
+Ready b =
+    Prepared b.table.now b.header.now b.sets.now b.remembered.now.entries b.silent.now b.back.now b.states b.remembered.now.count
+
+abbrev pub Begins : LookBack → Type 0
+Begins b = UnobservableReach (automaton_of b.table.now b.header.now) (get_or b.remembered.now.entries 0 0) b.estimate
+
+-- the verdict of a secret by a notion, and the sets m(l), over all steps that a look back goes
+abbrev pub FoundBy : Notion → LookBack → ℕ → Verdict → Type 0
+FoundBy notion b secret v =
+    Found notion (automaton_of b.table.now b.header.now) (secret_of secret b.remembered.now.count) b.remembered.now.count b.remembered.now.symbols
+    b.remembered.now.entries v
+
+abbrev pub DelayedBy : LookBack → List ℕ → Type 0
+DelayedBy b past = Delayed (automaton_of b.table.now b.header.now) b.remembered.now.symbols b.remembered.now.entries b.remembered.now.count past

@@ -223,8 +223,7 @@ impl Estimator {
         let estimate = estimates::estimate_from(table, header, &mut silent, 0, 0, entry);
         let mut sets = [0u32; 32];
         automaton::by_symbol(header, &mut sets);
-        let mut back = [0u64; 64];
-        self.assess(table, header, &sets, &silent, &mut back, estimate, asked)
+        self.assess(table, header, &sets, &silent, estimate, asked)
     }
 
     // A fresh estimator with these further secrets, with the verdicts of the empty trace and how many states are possible then.
@@ -266,7 +265,13 @@ impl Estimator {
 
     // Accepts one symbol, or hands back the estimator as it was. (01: "An event on which no run is left is turned back, and the watch stays.") Only
     // the verdicts that are asked for are found.
-    fn accept_asked(self, table: &[u64], header: Header, symbol: u8, asked: Asked) -> Reply<Verdicts>
+    fn accept_asked(
+        self,
+        table: &[u64],
+        header: Header,
+        symbol: u8,
+        asked: Asked,
+    ) -> Reply<Verdicts>
         ensures { AcceptingAsked asked table.now header self symbol result.answer result.estimator }
     {
         if !self.well_formed(table, header) {
@@ -289,8 +294,7 @@ impl Estimator {
         let further = self.further;
         let k = opacity::look_back(header, further);
         let after = self.push(k, symbol, estimate.entry);
-        let mut back = [0u64; 64];
-        let judgement = after.assess(table, header, &sets, &silent, &mut back, estimate, asked);
+        let judgement = after.assess(table, header, &sets, &silent, estimate, asked);
         Reply {
             estimator: after,
             answer: Ok(judgement),
@@ -310,7 +314,13 @@ impl Estimator {
     }
 
     // Accepts one symbol, with the verdict of each secret by one notion: an enforcer pays for the look backs of that notion alone.
-    pub fn accept_by(self, table: &[u64], header: Header, symbol: u8, notion: Notion) -> Reply<Verdict>
+    pub fn accept_by(
+        self,
+        table: &[u64],
+        header: Header,
+        symbol: u8,
+        notion: Notion,
+    ) -> Reply<Verdict>
         ensures { AcceptingBy notion table.now header self symbol (said_by self.further result.answer) result.estimator
             × OthersBy self.further result.answer }
     {

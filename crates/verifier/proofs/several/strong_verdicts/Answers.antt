@@ -33,14 +33,14 @@ tested {p} {trace} {states = states} {last} {secret} then l v w g m few small wi
 pub loop-l-init : goal.loop-l-init
 loop-l-init c = record {
   each = λ i secret h small e. (
-    omega (arith, e, and_le_r c.args.states (complement secret)),
+    omega (arith, e, and_le_r c.args.look_back.states (complement secret)),
     λ p trace g m. (
-      subst (λ (v : Verdict). Searched Strong p (secret_of secret c.args.estimator.count) trace 0 v) (sym (c.none_found-found.ensures i h))
-          (below_start Strong p (secret_of secret c.args.estimator.count) trace),
-      subst (λ (x : ℕ). Follows p (bit_and c.args.states (complement secret)) trace 0 x) (sym e) (follows_start p _ trace),
+      subst (λ (v : Verdict). Searched Strong p (secret_of secret c.args.look_back.remembered.now.count) trace 0 v) (sym (c.none_found-found.ensures i h))
+          (below_start Strong p (secret_of secret c.args.look_back.remembered.now.count) trace),
+      subst (λ (x : ℕ). Follows p (bit_and c.args.look_back.states (complement secret)) trace 0 x) (sym e) (follows_start p _ trace),
     ),
   );
-  bounded = λ i h. subst (λ (v : Verdict). Bounded c.args.estimator.count (steps_of v)) (sym (c.none_found-found.ensures i h)) tt;
+  bounded = λ i h. subst (λ (v : Verdict). Bounded c.args.look_back.remembered.now.count (steps_of v)) (sym (c.none_found-found.ensures i h)) tt;
 }
 
 -- the events that show the symbol before are sound
@@ -63,9 +63,9 @@ loop-l-preserved c =
               tested _ l.l _ _ g m c.requires.few small (omega arith) x.0 (c.with_steps-found.ensures i h) y.0 y.1,
               follows_step p _ trace _ _ _ _ _ m (omega arith)
                   (subst (λ (x : ℕ). Is (set_at c.backward_reaches-then.result i)
-                  (Leaves p x (get_or a.estimator.symbols l.l 0 ∷ drop (length trace - l.l) trace))) e
+                  (Leaves p x (get_or a.look_back.remembered.now.symbols l.l 0 ∷ drop (length trace - l.l) trace))) e
                   (c.backward_reaches-then.ensures i p _ _ h g.table_is shown (g.back_are (omega arith))
-                  (λ q j. (in_and q a.states (complement secret) (subst (λ (x : ℕ). In q x) e j)).0)
+                  (λ q j. (in_and q a.look_back.states (complement secret) (subst (λ (x : ℕ). In q x) e j)).0)
                   (subst (λ (x : ℕ). Is (set_at l.then i) (Leaves p x (drop (length trace - l.l) trace))) (sym e) y.1))),
             ),
       );
@@ -77,7 +77,7 @@ pub returns : goal.returns
 returns c i secret h small e =
     let a = c.args in
     let l = c.loop-l in
-    let n = a.estimator.count in
+    let n = a.look_back.remembered.now.count in
     let end : l.l ≡ n = omega arith in
     let x = rw end at (l.invariant.each i secret h small e) in
     let g = c.requires.looks in
@@ -85,6 +85,6 @@ returns c i secret h small e =
       bounded = searched_bounded (c.with_steps.ensures i h) (omega arith) (l.invariant.bounded i h);
       exact = λ trace m.
           let y = x.1 _ trace g m in
-          searched_end Strong (automaton_of a.table.now a.header) (secret_of secret n) trace n (verdict_at c.with_steps.result i) (omega arith)
+          searched_end Strong (automaton_of a.look_back.table.now a.look_back.header.now) (secret_of secret n) trace n (verdict_at c.with_steps.result i) (omega arith)
           (tested _ n _ _ g m c.requires.few small (omega arith) x.0 (c.with_steps.ensures i h) y.0 y.1);
     }

@@ -13,9 +13,10 @@ use Rattle.verifier.proofs.several.strong_verdicts.Given as goal
 
 abbrev pub invariant-loop-l : goal.invariant-loop-l
 invariant-loop-l v = record {
-  each : (i secret : ℕ) → i < 4 → secret < 2 ^ 64 → set_at v.clear i ≡ bit_and v.states (complement secret)
-      → (set_at v.then i < 2 ^ 64) × ForTraces v.table v.sets v.silent v.back v.states v.last v.symbols v.entries (λ p trace.
+  each : (i secret : ℕ) → i < 4 → secret < 2 ^ 64 → set_at v.clear i ≡ bit_and v.look_back.states (complement secret)
+      → (set_at v.then i < 2 ^ 64) × ForTraces v.look_back.table.now v.look_back.sets.now v.look_back.silent.now v.look_back.back.now v.look_back.states v.last v.look_back.remembered.now.symbols
+      v.look_back.remembered.now.entries (λ p trace.
       Searched Strong p (secret_of secret v.last) trace v.l (verdict_at v.found i)
-      × Follows p (bit_and v.states (complement secret)) trace v.l (set_at v.then i));
+      × Follows p (bit_and v.look_back.states (complement secret)) trace v.l (set_at v.then i));
   bounded : (i : ℕ) → i < 4 → Bounded v.last (steps_of (verdict_at v.found i));
 }

@@ -1,5 +1,5 @@
 -- `estimates::look_back::weak_verdict` meets its contract, step by step beside source document 000's Proposition 4 (Invariants has its words). Assumes nothing.
-use Rattle.std.proofs.Common.{◌+◌, ◌-◌, ◌≤◌, length, arith}
+use Rattle.std.proofs.Common.{◌+◌, ◌-◌, ◌≤◌, length, rules, arith}
 use Rattle.std.specs.Int.Count.{count_trailing_zeros}
 use Rattle.stateset.proofs.Bits.{taken, in_test}
 use Rattle.automaton.specs.Notion.{ClearAt}
@@ -10,20 +10,20 @@ use Rattle.estimates.proofs.Passing.{pass_turn, pass_end, digit_in}
 use Rattle.estimates.proofs.LookBack.{ForTracesWith, Follows, follows_start, follows_step, remembers_inside, delayed_is, delayed_by}
 use Rattle.estimates.proofs.LookBack.{estimate_by, decided_sure, decided_clear}
 use Rattle.opacity.proofs.Exactness.{below_start, below_step, below_leak, below_last}
-use Rattle.estimates.proofs.look_back.weak_verdict.Goals as goal
-use Rattle.estimates.proofs.look_back.weak_verdict.Goals.{Else-todo-eq0, else-states-test, then-states-test+then-secret-q-eq0, then-l-last, else-l-last}
+use Rattle.estimates.proofs.look_back.LookBack.weak_verdict.Goals as goal
+use Rattle.estimates.proofs.look_back.LookBack.weak_verdict.Goals.{Else-todo-eq0, else-states-test, then-states-test+then-secret-q-eq0, then-l-last, else-l-last}
 
 -- Start, "k ∈ [0, ..": the loop takes up step 0, and there is no smaller one. m(0) is the estimate
 
 pub steps-init : goal.steps-init
 steps-init c =
-    let few : c.args.remembered.count ≤ 15 = c.requires.0.few in (
-      λ p trace g m r. below_start Weak p (secret_of c.args.secret c.args.remembered.count) trace,
+    let few : c.args.self.remembered.now.count ≤ 15 = c.requires.0.few in (
+      λ p trace g m r. below_start Weak p (secret_of c.args.secret c.args.self.remembered.now.count) trace,
       λ _ p trace g m r. follows_start p _ trace,
       λ _ p trace g m r. estimate_by p _ trace _ _ _ _ _ _ g.start few g.near m r,
       omega arith,
       few,
-      c.ranges.estimate.fits,
+      search rules,
     )
 
 -- One step, "m(l) ∈ 2^S" or not: the states of a part of m(l) are visited, and the first that is not secret ends the visit ('states). The state that is
@@ -38,8 +38,8 @@ states-preserved c =
 -- "m(l) ∉ 2^S": the state at which the visit ended is not secret, and a run through it excuses the system; so that, with what was known below l, no step below
 -- l + 1 is a leak
 below_next : (c : Else-todo-eq0)
-    → ForTracesWith c.args.table.now c.args.sets.now c.args.silent.now c.args.back.now c.args.states c.args.estimate c.args.remembered.count
-    c.args.remembered.symbols c.args.remembered.entries (λ p trace. NoLeakBelow Weak p (secret_of c.args.secret c.args.remembered.count) trace (c.steps.l + 1))
+    → ForTracesWith c.args.self.table.now c.args.self.sets.now c.args.self.silent.now c.args.self.back.now c.args.self.states c.args.self.estimate c.args.self.remembered.now.count
+    c.args.self.remembered.now.symbols c.args.self.remembered.now.entries (λ p trace. NoLeakBelow Weak p (secret_of c.args.secret c.args.self.remembered.now.count) trace (c.steps.l + 1))
 below_next c p trace g m r =
     let s = c.steps in
     let todo = c.states.todo in
@@ -51,7 +51,7 @@ below_next c p trace g m r =
           decided_clear _ _ trace _ _ (s.invariant.2 (omega arith) p trace g m r) q (c.states.invariant.kept q t.inside)
           (λ i. omega (arith, in_test q c.args.secret, w.if-secret-q-eq0.true))
     ] in
-    below_step Weak p (secret_of c.args.secret c.args.remembered.count) trace _ (s.invariant.0 p trace g m r) clear
+    below_step Weak p (secret_of c.args.secret c.args.self.remembered.now.count) trace _ (s.invariant.0 p trace g m r) clear
 
 pub backward_reach-then-requires : goal.backward_reach-then-requires
 backward_reach-then-requires c =
@@ -65,9 +65,9 @@ steps-preserved c =
     let a = c.args in
     elim c.if-l-last.branch [
       | then-l-last w ↦
-          let next : s.l + 1 ≤ a.remembered.count = omega arith in
-          let follows : ForTracesWith a.table.now a.sets.now a.silent.now a.back.now a.states a.estimate a.remembered.count a.remembered.symbols
-          a.remembered.entries (λ p trace. Follows p a.states trace (s.l + 1) w.backward_reach-then.result) =
+          let next : s.l + 1 ≤ a.self.remembered.now.count = omega arith in
+          let follows : ForTracesWith a.self.table.now a.self.sets.now a.self.silent.now a.self.back.now a.self.states a.self.estimate a.self.remembered.now.count a.self.remembered.now.symbols
+          a.self.remembered.now.entries (λ p trace. Follows p a.self.states trace (s.l + 1) w.backward_reach-then.result) =
           λ p trace g m r.
           let shown = rw w.from-at.ensures at (w.events_with-shown.ensures p g.symbols_small g.sets_are) in
           follows_step p _ trace _ _ _ _ _ m (omega arith) (w.backward_reach-then.ensures p _ _ _ g.table_is shown (g.back_are (omega arith)) (λ q i. i)
@@ -94,11 +94,11 @@ returns-then-todo-eq0 c =
     let s = c.steps in
     let g = c.requires.0.looks in
     let r = c.requires.1 in
-    let few : s.l ≤ c.args.remembered.count = omega arith in
+    let few : s.l ≤ c.args.self.remembered.now.count = omega arith in
     record {
       bounded = few;
       exact = λ trace m.
-          below_leak Weak _ (secret_of c.args.secret c.args.remembered.count) trace _ few m.reached (s.invariant.0 _ trace g m r)
+          below_leak Weak _ (secret_of c.args.secret c.args.self.remembered.now.count) trace _ few m.reached (s.invariant.0 _ trace g m r)
           (decided_sure _ _ trace _ _ (s.invariant.2 few _ trace g m r) (λ q i. pass_end _ _ _ c.if-todo-eq0.true c.states.invariant q i));
     }
 
@@ -110,6 +110,6 @@ returns-after-l-last c =
     record {
       bounded = tt;
       exact = λ trace m.
-          below_last Weak _ (secret_of c.args.secret c.args.remembered.count) trace c.steps.l (omega arith)
+          below_last Weak _ (secret_of c.args.secret c.args.self.remembered.now.count) trace c.steps.l (omega arith)
           (below_next (goal.at.returns-after-l-last c).Else-todo-eq0 _ trace c.requires.0.looks m c.requires.1);
     }

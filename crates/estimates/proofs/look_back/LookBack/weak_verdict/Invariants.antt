@@ -19,17 +19,17 @@ use Rattle.opacity.specs.Verdicts.{NoLeakBelow}
 use Rattle.estimates.specs.StepsBack.{DecidedBy}
 use Rattle.estimates.proofs.Passing.{Passed}
 use Rattle.estimates.proofs.LookBack.{ForTracesWith, Follows}
-use Rattle.estimates.proofs.look_back.weak_verdict.Given as goal
+use Rattle.estimates.proofs.look_back.LookBack.weak_verdict.Given as goal
 
 -- 'steps: no step below l is a leak; and where l is a step, `then` has the states that the last l events can follow, and `possible` is a part of m(l) that
 -- decides
 abbrev pub invariant-steps : goal.invariant-steps
 invariant-steps l =
-    ForTracesWith l.table l.sets l.silent l.back l.states l.estimate l.last l.remembered.symbols l.remembered.entries
+    ForTracesWith l.self.table.now l.self.sets.now l.self.silent.now l.self.back.now l.self.states l.self.estimate l.last l.self.remembered.now.symbols l.self.remembered.now.entries
     (λ p trace. NoLeakBelow Weak p (secret_of l.secret l.last) trace l.l)
-    × (l.l ≤ l.last → ForTracesWith l.table l.sets l.silent l.back l.states l.estimate l.last l.remembered.symbols l.remembered.entries
-    (λ p trace. Follows p l.states trace l.l l.then))
-    × (l.l ≤ l.last → ForTracesWith l.table l.sets l.silent l.back l.states l.estimate l.last l.remembered.symbols l.remembered.entries
+    × (l.l ≤ l.last → ForTracesWith l.self.table.now l.self.sets.now l.self.silent.now l.self.back.now l.self.states l.self.estimate l.last l.self.remembered.now.symbols l.self.remembered.now.entries
+    (λ p trace. Follows p l.self.states trace l.l l.then))
+    × (l.l ≤ l.last → ForTracesWith l.self.table.now l.self.sets.now l.self.silent.now l.self.back.now l.self.states l.self.estimate l.last l.self.remembered.now.symbols l.self.remembered.now.entries
     (λ p trace. DecidedBy l.secret (DelayedEstimate p trace (length trace - l.l)) l.possible))
     × (l.l ≤ l.last + 1) × (l.last ≤ 15) × (l.possible < 2 ^ 64)
 

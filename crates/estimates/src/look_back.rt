@@ -1,16 +1,17 @@
 // Over the steps back (source 000's delayed estimates m(l)): the verdict of one secret by each notion, alone, and m(l) for all secrets at once.
-ghost use Rattle.std.specs.Prelude.{◌≡◌, List, ℕ, ◌≤◌, ◌<◌, length, replicate};
+ghost use Rattle.std.specs.Prelude.{◌≡◌, List, ℕ, ◌+◌, ◌≤◌, ◌<◌, replicate};
 ghost use Rattle.stateset.specs.Set.{Is};
 ghost use Rattle.automaton.specs.Run.{Automaton};
 ghost use Rattle.automaton.specs.Reaching.{Enters, Arrives, Closed, Entered};
 ghost use Rattle.relation.specs.Relation.{Sub};
 ghost use Rattle.opacity.specs.declared.Notion.TheVariants as notion;
 ghost use Rattle.opacity.specs.Secrets.{secret_of};
-ghost use Rattle.estimates.specs.StepsBack.{Sampled, Found, Delayed, Ready, Begins, FoundBy, DelayedBy};
+ghost use Rattle.estimates.specs.StepsBack.{Sampled, Found, Delayed, Follows, looked_at, LooksAt, Ready, Begins, FoundBy, DelayedBy};
 
 use super::Remembered;
 use automaton::Header;
 use opacity::Verdict;
+use relation::Sets;
 
 // What a look back works on: what is remembered of the trace; the automaton, and the events of each symbol; the unobservable events from the states
 // that it does not leave, as rows, and the other way round, where it takes a step; these states, and the estimate, from which it starts.
@@ -52,16 +53,28 @@ fn possible_states(silent: &[u64; 64], states: u64, entry: u64, then: u64, secre
 }
 
 impl<'a> LookBack<'a> {
-    // The least step back at which every possible state is secret, none where there is no such step. (01: "every moment of count n − l is in a secret
-    // state".) As source 000's Proposition 4 takes it: l from 0 upward, and leak l at the first l for which all of m(l), the possible states l steps back, are
-    // secret. Whenever the loop takes up a step, no smaller one is a leak (`NoLeakBelow`). m(0) is the estimate, which is known. (The scope names this form,
-    // nested loops over steps and states, the inner one left by its label; `first_secret` tests a set as a whole.)
+    // One step further back, for one set or for several side by side, each through its own allowed states: from the states that the last l symbols can
+    // follow, those that l + 1 can. (`automaton` takes slices of any length, and a field is lent as what it is: so the two stand in variables.)
+    pub fn step_back<S: Sets>(self, allowed: S, l: usize, then: S) -> S
+        requires { Ready self × (l < self.remembered.now.count) }
+        ensures { S.Each (λ i. (n : ℕ) (trace : List ℕ) → l < n → LooksAt self.entry n trace → Sub (S.at allowed i) self.entry.states
+            → Follows (looked_at self.entry) (S.at allowed i) trace l (S.at then i)
+            → Follows (looked_at self.entry) (S.at allowed i) trace (l + 1) (S.at result i)) }
+    {
+        let sets = self.sets;
+        let back = self.back;
+        let shown = automaton::events_with(sets, self.remembered.symbols[l]);
+        automaton::backward_reach(self.table, back, allowed, shown, then)
+    }
+
+    // The least step back at which every possible state is secret, none where there is no such step. (01: "every moment of count n − l is in a
+    // secret state".) As source 000's Proposition 4 takes it: l from 0 upward, and leak l at the first l for which all of m(l), the possible states
+    // l steps back, are secret. Whenever the loop takes up a step, no smaller one is a leak (`NoLeakBelow`). m(0) is the estimate, which is known.
+    // (The scope names this form, nested loops over steps and states, the inner one left by its label; `first_secret` tests a set as a whole.)
     pub fn weak_verdict(self, secret: u64) -> Verdict
         requires { Ready self × Begins self }
         ensures { FoundBy notion.Weak self.entry secret result }
     {
-        let sets = self.sets;
-        let back = self.back;
         let last = self.remembered.count; // K, or n where that is less
         let mut then = self.states;
         let mut possible = self.estimate;
@@ -80,8 +93,7 @@ impl<'a> LookBack<'a> {
             }
             if l < last { // no step up to l is a leak
                 let at = usize::from(l);
-                let shown = automaton::events_with(sets, self.remembered.symbols[at]);
-                then = automaton::backward_reach(self.table, back, self.states, shown, then);
+                then = self.step_back(self.states, at, then);
                 let entry = self.remembered.entries[at + 1];
                 possible = possible_states(self.silent, self.states, entry, then, secret);
             }
@@ -89,14 +101,12 @@ impl<'a> LookBack<'a> {
         Verdict::NoLeak
     }
 
-    // The least step back from which no run avoids the secret. (01: "every fitting run has a moment of count at least n − l in a secret state".) In the
-    // same order.
+    // The least step back from which no run avoids the secret. (01: "every fitting run has a moment of count at least n − l in a secret state".) In
+    // the same order.
     pub fn strong_verdict(self, secret: u64) -> Verdict
         requires { Ready self }
         ensures { FoundBy notion.Strong self.entry secret result }
     {
-        let sets = self.sets;
-        let back = self.back;
         let last = self.remembered.count;
         let clear = self.states & !secret;
         let mut then = clear;
@@ -106,27 +116,23 @@ impl<'a> LookBack<'a> {
                 return Verdict::Leak(l);
             }
             if l < last {
-                let shown = automaton::events_with(sets, self.remembered.symbols[at]);
-                then = automaton::backward_reach(self.table, back, clear, shown, then);
+                then = self.step_back(clear, at, then);
             }
         }
         Verdict::NoLeak
     }
 
-    // Source 000's m(l), all of it, for each step that is remembered: the states in which runs can be l steps back and from which the last l symbols can
-    // follow. It depends on no secret.
+    // Source 000's m(l), all of it, for each step that is remembered: the states in which runs can be l steps back and from which the last l symbols
+    // can follow. It depends on no secret.
     pub fn delayed_estimates(self, past: &mut [u64; 16])
         requires { Ready self × Begins self }
         ensures { DelayedBy self.entry past.new }
     {
-        let sets = self.sets;
         let silent = self.silent;
-        let back = self.back;
         past[0] = self.estimate;
         let mut then = self.states;
         for l in 0..usize::from(self.remembered.count) {
-            let shown = automaton::events_with(sets, self.remembered.symbols[l]);
-            then = automaton::backward_reach(self.table, back, self.states, shown, then);
+            then = self.step_back(self.states, l, then);
             let entry = self.remembered.entries[l + 1];
             past[l + 1] = automaton::unobservable_reach(silent, self.states, entry) & then;
         }

@@ -57,23 +57,13 @@ fn strong_verdicts(look_back: LookBack, clear: StateSets) -> EachSecret<Verdict>
     ensures { (i secret : ℕ) → i < 4 → secret < 2 ^ 64 → set_at clear i ≡ bit_and look_back.entry.states (complement secret)
         → FoundBy notion.Strong look_back.entry secret (verdict_at result i) }
 {
-    let sets = look_back.sets;
-    let back = look_back.back;
     let last = look_back.remembered.count;
     let mut then = clear;
     let mut found = none_found();
     for l in 0..last {
         let at = l as usize;
         found = with_steps(found, look_back.remembered.entries[at], then, l);
-        let shown = automaton::events_with(sets, look_back.remembered.symbols[at]);
-        then = automaton::backward_reaches(
-            look_back.table,
-            back,
-            look_back.states,
-            clear,
-            shown,
-            then,
-        );
+        then = look_back.step_back(clear, at, then);
     }
     with_steps(
         found,

@@ -5,9 +5,9 @@ ghost use Rattle.std.specs.Prelude.{◌≡◌, List, [], ◌∷◌, ◌++◌, �
 ghost use Rattle.stateset.specs.Set.{In, Is, Decided};
 ghost use Rattle.automaton.specs.Run.{Automaton, automaton_of, SmallSymbols, WellFormed};
 ghost use Rattle.automaton.specs.Reaching.{Enters, Arrives, Leaves, Showing, BySymbol, Listed, Known, Gained, Closed, Entered};
-ghost use Rattle.relation.specs.Relation.{Image, Preimage, Sub, set_at};
+ghost use Rattle.relation.specs.Relation.{Image, Preimage, Sub};
 
-use relation::{Sets, StateSets};
+use relation::Sets;
 
 // What an encoding says beside its transitions (01: head): the initial state, the look-back K, the secret states, the observable events, and
 // the observation symbol of each event (02: lamp), which counts only where the event is observable. (The symbols stand first: a header is copied
@@ -224,25 +224,6 @@ pub fn backward_reach<S: Sets>(table: &[u64], back: &[u64], allowed: S, events: 
 {
     let below = stateset::bound(allowed.any());
     let into = preimage_by(table, events, S::steps(below), then);
-    relation::closure(back, allowed, into)
-}
-
-// `backward_reach` for four sets, each through its own allowed states, all of them among `states`.
-pub fn backward_reaches(
-    table: &[u64],
-    back: &[u64],
-    states: u64,
-    allowed: StateSets,
-    events: u64,
-    then: StateSets,
-) -> StateSets
-    requires { (length table.now ≡ 2048) × (length back.now ≡ 64) × ((e : ℕ) → In e events → e < 32) }
-    ensures { (i : ℕ) (p : Automaton) (rest : List ℕ) (symbol : ℕ) → i < 4 → p.table ≡ table.now → Showing p symbol events
-        → Entered p states back.now → Sub (set_at allowed i) states → Is (set_at then i) (Leaves p (set_at allowed i) rest)
-        → Is (set_at result i) (Leaves p (set_at allowed i) (symbol ∷ rest)) }
-{
-    let few = stateset::bound(states);
-    let into = preimage_by(table, events, few, then);
     relation::closure(back, allowed, into)
 }
 

@@ -1,15 +1,17 @@
 -- What the functions of `look_back` promise: source 000's m(l), and the verdicts that it gives, of what is remembered of a trace.
-use Rattle.std.specs.Prelude.{◌≡◌, List, ℕ, suc, ◌≤◌, ◌<◌, ◌-◌, length, get_or, take}
+use Rattle.std.specs.Prelude.{◌≡◌, List, ℕ, suc, ◌≤◌, ◌<◌, ◌-◌, length, get_or, take, drop}
 use Rattle.stateset.specs.Set.{In, Is}
 use Rattle.relation.specs.Relation.{Sub}
 use Rattle.automaton.specs.Run.{Automaton, automaton_of, SmallSymbols, Possible}
-use Rattle.automaton.specs.Reaching.{Enters, DelayedEstimate, BySymbol, Closed, Entered}
+use Rattle.automaton.specs.Reaching.{Enters, DelayedEstimate, Leaves, BySymbol, Closed, Entered}
 use Rattle.automaton.specs.declared.Header.{Header}
 use Rattle.opacity.specs.declared.Notion.{Notion}
 use Rattle.opacity.specs.declared.Secret.{Secret}
 use Rattle.opacity.specs.declared.Verdict.{Verdict}
 use Rattle.opacity.specs.Verdicts.{steps_of, Bounded, Tells}
-use Rattle.estimates.specs.Estimates.{Inside}
+use Rattle.opacity.specs.Secrets.{secret_of}
+use Rattle.estimates.specs.Estimates.{Inside, UnobservableReach}
+use Rattle.estimates.specs.declared.look_back.LookBack.{LookBack}
 
 -- a part of the states of which P holds that decides whether all of them are secret: one that is not excuses the system, so that it need not be the
 -- whole. Where all of the part are secret, all are
@@ -59,3 +61,30 @@ pub record Found (notion : Notion) (p : Automaton) (secret : Secret) (n : ℕ) (
 pub record Delayed (p : Automaton) (symbols entries : List ℕ) (last : ℕ) (past : List ℕ) : Type 0 where
   pub size : length past ≡ 16
   pub are : (trace : List ℕ) (l : ℕ) → l ≤ last → Remembers p trace l symbols entries → Is (get_or past l 0) (DelayedEstimate p trace (length trace - l))
+
+-- `then` has the states that the last l symbols can follow through allowed ones
+abbrev pub Follows : Automaton → (allowed : ℕ) → List ℕ → (l then : ℕ) → Type 0
+Follows p allowed trace l then = Is then (Leaves p allowed (drop (length trace - l) trace))
+
+-- the automaton that a look back works on, and the traces of which the first n of its symbols and their entry sets are remembered
+abbrev pub looked_at : LookBack → Automaton
+looked_at b = automaton_of b.table.now b.header.now
+
+abbrev pub LooksAt : LookBack → ℕ → List ℕ → Type 0
+LooksAt b n trace = Remembers (looked_at b) trace n b.remembered.now.symbols b.remembered.now.entries
+
+-- it has what it requires; and its estimate is of the states right after the last symbol
+abbrev pub Ready : LookBack → Type 0
+Ready b =
+    Prepared b.table.now b.header.now b.sets.now b.remembered.now.entries b.silent.now b.back.now b.states b.remembered.now.count
+
+abbrev pub Begins : LookBack → Type 0
+Begins b = UnobservableReach (looked_at b) (get_or b.remembered.now.entries 0 0) b.estimate
+
+-- the verdict of a secret by a notion, and the sets m(l), over all steps that it goes
+abbrev pub FoundBy : Notion → LookBack → ℕ → Verdict → Type 0
+FoundBy notion b secret v =
+    Found notion (looked_at b) (secret_of secret b.remembered.now.count) b.remembered.now.count b.remembered.now.symbols b.remembered.now.entries v
+
+abbrev pub DelayedBy : LookBack → List ℕ → Type 0
+DelayedBy b past = Delayed (looked_at b) b.remembered.now.symbols b.remembered.now.entries b.remembered.now.count past

@@ -34,9 +34,9 @@ use Rattle.verifier.specs.Estimators.{remembered_of, Limits, InLimits, Grown, Gr
 use Rattle.verifier.specs.Replies.{FindingsBy, told_of, none_told, no_leaks, steps_by, told_at, numbered, told_each, refused, said, OthersNoLeak, Others}
 use Rattle.verifier.specs.Replies.{refused-by, verdicts_by, said_by, OthersBy, chosen, Opening, opened, Accepting, accepted, Moved, TellsBy}
 use Rattle.verifier.specs.Replies.{AcceptingBy, turned_back, accepted_by}
-use Rattle.estimates.specs.StepsBack.{Found, Delayed}
+use Rattle.estimates.specs.StepsBack.{Found}
 use Rattle.estimates.specs.declared.Remembered.{Remembered}
-use Rattle.verifier.specs.Inner.{up_to, Asks, ask_for, chosen_answer, WhereAsked, Judged, JudgedAt, JudgedAll, Opened, AcceptingAsked}
+use Rattle.verifier.specs.Inner.{up_to, Asks, ask_for, chosen_answer, WhereAsked, JudgedOf, JudgedAt, JudgedAll, Opened, AcceptingAsked}
 use Rattle.verifier.specs.declared.Asked.{Asked}
 use Rattle.opacity.proofs.Exactness.{sure_any, clear_any}
 use Rattle.opacity.proofs.Numbering.{get_d_map, secret_back, how_many, how_many_most, same_secrets}
@@ -73,38 +73,25 @@ found_tells notion p secret K trace s v low g f =
     tells_up notion p secret (min secret.k s.count) trace (steps_of v) (omega arith)
     (f.exact trace (grown_remembers p K trace s g s.count (omega arith)))
 
-pub judged_of : (t : List ℕ) (h : Header) (s : Estimator) (c d : Secret) (a : Asked) (v : Verdicts) → c ≡ d → Judged t h s c a v → Judged t h s d a v
-judged_of t h s c d a v e j = subst (λ (x : Secret). Judged t h s x a v) e j
+pub judged_of : (t : List ℕ) (h : Header) (r q : Remembered) (c d : Secret) (a : Asked) (v : Verdicts) → r ≡ q → c ≡ d → JudgedOf t h r c a v
+    → JudgedOf t h q d a v
+judged_of t h r q c d a v e f j = subst (λ (x : Remembered). JudgedOf t h x d a v) e (subst (λ (x : Secret). JudgedOf t h r x a v) f j)
 
 -- a notion is asked for, or it is not
 pub not_both : (b : Bool) → b ≡ true → b ≡ false → ⊥
 not_both b t f = subst T (sym t ∙ f) tt
 
 -- both verdicts of one secret
-pub judged_both : (t : List ℕ) (h : Header) (s : Estimator) (c : Secret) (a : Asked) (weak strong : Verdict)
-    → WhereAsked Weak a weak (Found Weak (automaton_of t h) (up_to s.count c) s.count s.symbols s.entries weak)
-    → WhereAsked Strong a strong (Found Strong (automaton_of t h) (up_to s.count c) s.count s.symbols s.entries strong)
-    → Judged t h s c a (record { weak = weak; strong = strong })
-judged_both t h s c a weak strong x y Weak = x
-judged_both t h s c a weak strong x y Strong = y
+pub judged_both : (t : List ℕ) (h : Header) (r : Remembered) (c : Secret) (a : Asked) (weak strong : Verdict)
+    → WhereAsked Weak a weak (Found Weak (automaton_of t h) (up_to r.count c) r.count r.symbols r.entries weak)
+    → WhereAsked Strong a strong (Found Strong (automaton_of t h) (up_to r.count c) r.count r.symbols r.entries strong)
+    → JudgedOf t h r c a (record { weak = weak; strong = strong })
+judged_both t h r c a weak strong x y Weak = x
+judged_both t h r c a weak strong x y Strong = y
 
 pub found_last : {notion : Notion} {p : Automaton} {secret last m n : ℕ} {symbols entries : List ℕ} {v : Verdict} → last ≡ m
     → Found notion p (secret_of secret last) n symbols entries v → Found notion p (secret_of secret m) n symbols entries v
 found_last {notion} {p} {secret} {last} {m} {n} {symbols} {entries} {v} e f = subst (λ (x : ℕ). Found notion p (secret_of secret x) n symbols entries v) e f
-
--- what is said of what an estimator remembers
-of_remembered : (P : (symbols entries : List ℕ) (count : ℕ) → Type 0) (s : Estimator) {r : Remembered} → r ≡ remembered_of s
-    → P r.symbols r.entries r.count → P s.symbols s.entries s.count
-of_remembered P s e x = subst (λ (y : Remembered). P y.symbols y.entries y.count) e x
-
-pub found_of : {notion : Notion} {p : Automaton} {secret : ℕ} (s : Estimator) {r : Remembered} {v : Verdict} → r ≡ remembered_of s
-    → Found notion p (secret_of secret r.count) r.count r.symbols r.entries v
-    → Found notion p (secret_of secret s.count) s.count s.symbols s.entries v
-found_of {notion} {p} {secret} s {r} {v} e f = of_remembered (λ symbols entries n. Found notion p (secret_of secret n) n symbols entries v) s e f
-
-pub delayed_of : {p : Automaton} (s : Estimator) {r : Remembered} {past : List ℕ} → r ≡ remembered_of s
-    → Delayed p r.symbols r.entries r.count past → Delayed p s.symbols s.entries s.count past
-delayed_of {p} s {r} {past} e d = of_remembered (λ symbols entries n. Delayed p symbols entries n past) s e d
 
 both : (a : Asked) → Asks Weak a → Asks Strong a → (notion : Notion) → Asks notion a
 both a weak strong Weak = weak
@@ -122,7 +109,7 @@ judged_four t h s a v w x y few j k l m (suc (suc (suc (suc i)))) =
     record { given = λ g. absurd (omega (arith, how_many_most h s.further)); other = λ o. refl }
 
 -- with none further the own one alone is judged
-pub judged_alone : (t : List ℕ) (h : Header) (s : Estimator) (a : Asked) (v : Verdicts) → s.further.count ≡ 0 → Judged t h s (own h) a v
+pub judged_alone : (t : List ℕ) (h : Header) (s : Estimator) (a : Asked) (v : Verdicts) → s.further.count ≡ 0 → JudgedOf t h (remembered_of s) (own h) a v
     → JudgedAll t h s a (record { own = v; first = no_leaks; second = no_leaks; third = no_leaks })
 judged_alone t h s a v alone j =
     judged_four t h s a v no_leaks no_leaks no_leaks (omega arith) (record { given = λ g. j; other = λ o. absurd (omega arith) }) (not_given 1 (omega arith))

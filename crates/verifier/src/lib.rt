@@ -223,8 +223,7 @@ impl Estimator {
         let estimate = estimates::estimate_from(table, header, &mut silent, 0, 0, entry);
         let mut sets = [0u32; 32];
         automaton::by_symbol(header, &mut sets);
-        let mut back = [0u64; 64];
-        self.assess(table, header, &sets, &silent, &mut back, estimate, asked)
+        self.assess(table, header, &sets, &silent, estimate, asked)
     }
 
     // A fresh estimator with these further secrets, with the verdicts of the empty trace and how many states are possible then.
@@ -295,8 +294,7 @@ impl Estimator {
         let further = self.further;
         let k = opacity::look_back(header, further);
         let after = self.push(k, symbol, estimate.entry);
-        let mut back = [0u64; 64];
-        let judgement = after.assess(table, header, &sets, &silent, &mut back, estimate, asked);
+        let judgement = after.assess(table, header, &sets, &silent, estimate, asked);
         Reply {
             estimator: after,
             answer: Ok(judgement),

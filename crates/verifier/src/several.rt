@@ -2,16 +2,17 @@
 ghost use Rattle.std.specs.Prelude.{◌≡◌, List, ℕ, ◌^◌, ◌≤◌, ◌<◌};
 ghost use Rattle.std.specs.Int.Bits.{bit_and};
 ghost use Rattle.stateset.specs.Set.{complement};
-ghost use Rattle.automaton.specs.Run.{Automaton, automaton_of};
+ghost use Rattle.automaton.specs.Run.{Automaton};
 ghost use Rattle.relation.specs.Relation.{set_at};
 ghost use Rattle.opacity.specs.declared.Notion.TheVariants as notion;
 ghost use Rattle.opacity.specs.declared.Verdict.TheVariants as verdict;
 ghost use Rattle.opacity.specs.Secrets.{secret_of, secrets_of, secret_at};
-ghost use Rattle.estimates.specs.StepsBack.{Prepared, Found};
+ghost use Rattle.estimates.specs.StepsBack.{Found, Ready, FoundBy};
 ghost use Rattle.verifier.specs.Inner.{verdict_at, WithStep, StrongEach};
 
-use super::{Asked, EachSecret, Estimator};
+use super::{Asked, EachSecret};
 use automaton::Header;
+use estimates::look_back::LookBack;
 use opacity::{Further, Notion, Verdict};
 use relation::StateSets;
 
@@ -49,35 +50,27 @@ fn none_found() -> EachSecret<Verdict>
     }
 }
 
-// The strong verdicts of four secrets, over all steps that are remembered: as `estimates::look_back::strong_verdict` takes them, in one pass for all.
+// The strong verdicts of four secrets, over all steps that are remembered: as `LookBack::strong_verdict` takes them, in one pass for all.
 // `clear` has for each the states that are not in it.
-fn strong_verdicts(
-    estimator: Estimator,
-    table: &[u64],
-    header: Header,
-    sets: &[u32],
-    silent: &[u64],
-    back: &[u64],
-    states: u64,
-    clear: StateSets,
-) -> EachSecret<Verdict>
-    requires { Prepared table.now header sets.now estimator.entries silent.now back.now states estimator.count }
-    ensures { (i secret : ℕ) → i < 4 → secret < 2 ^ 64 → set_at clear i ≡ bit_and states (complement secret)
-        → Found notion.Strong (automaton_of table.now header) (secret_of secret estimator.count) estimator.count estimator.symbols
-        estimator.entries (verdict_at result i) }
+fn strong_verdicts(look_back: LookBack, clear: StateSets) -> EachSecret<Verdict>
+    requires { Ready look_back }
+    ensures { (i secret : ℕ) → i < 4 → secret < 2 ^ 64 → set_at clear i ≡ bit_and look_back.entry.states (complement secret)
+        → FoundBy notion.Strong look_back.entry secret (verdict_at result i) }
 {
-    let symbols = estimator.symbols;
-    let entries = estimator.entries;
-    let last = estimator.count;
+    let last = look_back.remembered.count;
     let mut then = clear;
     let mut found = none_found();
     for l in 0..last {
         let at = l as usize;
-        found = with_steps(found, entries[at], then, l);
-        let shown = automaton::events_with(sets, symbols[at]);
-        then = automaton::backward_reaches(table, back, states, clear, shown, then);
+        found = with_steps(found, look_back.remembered.entries[at], then, l);
+        then = look_back.step_back(clear, at, then);
     }
-    with_steps(found, entries[last as usize], then, last)
+    with_steps(
+        found,
+        look_back.remembered.entries[last as usize],
+        then,
+        last,
+    )
 }
 
 // The states that are not in the secret with a number. None where it is not given: such a place costs no closure.
@@ -94,29 +87,25 @@ fn outside_secret(header: Header, further: Further, states: u64, i: u8) -> u64
 
 // The strong verdicts of the secrets that are given, where they are asked for. What stands in the place of one that is not given says nothing.
 pub(crate) fn strong_each(
-    estimator: Estimator,
-    table: &[u64],
-    header: Header,
-    sets: &[u32],
-    silent: &[u64],
-    back: &[u64],
-    states: u64,
+    look_back: LookBack,
+    further: Further,
     asked: Asked,
 ) -> EachSecret<Verdict>
-    requires { Prepared table.now header sets.now estimator.entries silent.now back.now states estimator.count }
-    ensures { StrongEach table.now header estimator asked result }
+    requires { Ready look_back }
+    ensures { StrongEach look_back.entry further asked result }
 {
     if !asked.strong {
         return none_found();
     }
-    let further = estimator.further;
+    let header = *look_back.header;
+    let states = look_back.states;
     let clear = StateSets {
         own: outside_secret(header, further, states, 0),
         first: outside_secret(header, further, states, 1),
         second: outside_secret(header, further, states, 2),
         third: outside_secret(header, further, states, 3),
     };
-    strong_verdicts(estimator, table, header, sets, silent, back, states, clear)
+    strong_verdicts(look_back, clear)
 }
 
 // The verdict over fewer steps.

@@ -1,14 +1,12 @@
--- `estimates::look_back::possible_states` meets its contract: an entry set is part of its unobservable reach.
-use native.Mathlib.Omega.{arith}
-use lib.Bits.{bit_and}
+-- An entry set is part of its unobservable reach.
+use Rattle.std.proofs.Common.{arith}
+use Rattle.std.specs.Int.Bits.{bit_and}
 use Rattle.stateset.specs.Set.{complement}
 use Rattle.stateset.proofs.Bits.{in_and, and_in, in_not, meet}
-use borrow.Author.Rules.{rules}
-use Rattle.estimates.proofs.look_back.possible_states.Statement.{statement}
-use Rattle.estimates.proofs.look_back.possible_states.Tie as tie
+use Rattle.estimates.proofs.look_back.possible_states.Goals as goal
 
-returns : tie.Need-returns-then-some-secret-ne0
-returns c = λ p trace start k sub E.
+pub returns-then-some-secret-ne0 : goal.returns-then-some-secret-ne0
+returns-then-some-secret-ne0 c = λ p trace start k sub E.
     let a = c.args in
     let x = meet (bit_and a.entry a.then) (complement a.secret) (omega arith) c.if-some-secret-ne0.true in
     record {
@@ -19,16 +17,10 @@ returns c = λ p trace start k sub E.
       whole = λ all. absurd (in_not 64 x.0 a.secret c.ranges.secret.fits x.2 (all x.0 x.1));
     }
 
-unobservable-reach-requires : tie.Need-unobservable_reach-requires
-unobservable-reach-requires c κs = search rules
-
-returns-2 : tie.Need-returns
-returns-2 c = λ p trace start k sub E.
+pub returns : goal.returns
+returns c = λ p trace start k sub E.
     let A = c.unobservable_reach.ensures.1 p trace start k sub E in
     record {
       sound = λ q i. let m = in_and q c.unobservable_reach.result c.args.then i in (A.sound q m.0, m.1);
       whole = λ all q x. all q (and_in q c.unobservable_reach.result c.args.then (A.whole q x.0) x.1);
     }
-
-pub possible_states_spec : {M : Type 1} → statement M
-possible_states_spec = tie.close (tie.spec returns unobservable-reach-requires returns-2)

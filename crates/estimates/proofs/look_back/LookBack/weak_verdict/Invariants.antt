@@ -1,4 +1,4 @@
--- What the loops of `estimates::look_back::weak_verdict` know, in the order of source document 000's Proposition 4: "noleak if ∀ k ∈ [0, K] : m(k) ∉ 2^S,
+-- What the loops of `LookBack::weak_verdict` know, in the order of source document 000's Proposition 4: "noleak if ∀ k ∈ [0, K] : m(k) ∉ 2^S,
 -- leak_l where l = min{k ∈ [0, K] | m(k) ∈ 2^S} otherwise". Its k is the loop's l, taken up from 0 upward. Whenever the loop takes up a step l, it knows
 -- `NoLeakBelow`:
 -- for every i < l a compatible run with a position of count n − i that is not secret, so that no smaller step is a leak.
@@ -11,27 +11,23 @@
 -- - The proposition's k goes to K, the loop's l to `last`, which is K or n, whichever is less. For k past n, m(k) is m(n), since that estimator starts with
 --   its first state repeated (`estimator-delayed` too), so that no verdict is lost; from `last` to K: `Judging`: `tells-up`.
 -- Assumes nothing.
-use Rattle.std.proofs.Common.{◌+◌, ◌-◌, ◌^◌, ◌≤◌, ◌<◌, length}
+use Rattle.std.proofs.Common.{List, ℕ, ◌+◌, ◌-◌, ◌^◌, ◌≤◌, ◌<◌, length}
 use Rattle.automaton.specs.Reaching.{DelayedEstimate}
 use Rattle.opacity.specs.declared.Notion.TheVariants.{Weak}
 use Rattle.opacity.specs.Secrets.{secret_of}
 use Rattle.opacity.specs.Verdicts.{NoLeakBelow}
-use Rattle.estimates.specs.StepsBack.{DecidedBy}
+use Rattle.estimates.specs.StepsBack.{DecidedBy, Follows, looked_at, LooksAt}
 use Rattle.estimates.proofs.Passing.{Passed}
-use Rattle.estimates.proofs.LookBack.{ForTracesWith, Follows}
-use Rattle.estimates.proofs.look_back.weak_verdict.Given as goal
+use Rattle.estimates.proofs.look_back.LookBack.weak_verdict.Given as goal
 
 -- 'steps: no step below l is a leak; and where l is a step, `then` has the states that the last l events can follow, and `possible` is a part of m(l) that
 -- decides
 abbrev pub invariant-steps : goal.invariant-steps
 invariant-steps l =
-    ForTracesWith l.table l.sets l.silent l.back l.states l.estimate l.last l.remembered.symbols l.remembered.entries
-    (λ p trace. NoLeakBelow Weak p (secret_of l.secret l.last) trace l.l)
-    × (l.l ≤ l.last → ForTracesWith l.table l.sets l.silent l.back l.states l.estimate l.last l.remembered.symbols l.remembered.entries
-    (λ p trace. Follows p l.states trace l.l l.then))
-    × (l.l ≤ l.last → ForTracesWith l.table l.sets l.silent l.back l.states l.estimate l.last l.remembered.symbols l.remembered.entries
-    (λ p trace. DecidedBy l.secret (DelayedEstimate p trace (length trace - l.l)) l.possible))
-    × (l.l ≤ l.last + 1) × (l.last ≤ 15) × (l.possible < 2 ^ 64)
+    ((trace : List ℕ) → LooksAt l.self l.last trace → NoLeakBelow Weak (looked_at l.self) (secret_of l.secret l.last) trace l.l)
+    × ((trace : List ℕ) → LooksAt l.self l.last trace → l.l ≤ l.last → Follows (looked_at l.self) l.self.states trace l.l l.then)
+    × ((trace : List ℕ) → LooksAt l.self l.last trace → l.l ≤ l.last → DecidedBy l.secret (DelayedEstimate (looked_at l.self) trace (length trace - l.l)) l.possible)
+    × (l.l ≤ l.last + 1) × (l.possible < 2 ^ 64)
 
 -- 'states: what is left of the part of m(l) that is visited, and all else of it is secret
 abbrev pub invariant-states : goal.invariant-states

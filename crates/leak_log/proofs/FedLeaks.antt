@@ -1,7 +1,7 @@
 -- What a search has told: the line at the front of the output is the output of the input by the definitions. Assumes nothing.
 use Rattle.std.specs.Prelude.{Option}
 use mathlib.Core.Path.{◌≡◌, refl, sym, ap, subst, ◌∙◌}
-use mathlib.Core.Bool.{true, false}
+use mathlib.Core.Bool.{true}
 use mathlib.Core.List.{List, [], ◌∷◌, ◌++◌, append_assoc, append-nil}
 use mathlib.Core.Logic.{◌⊎◌, inl, inr}
 use Prim.Native.Nat.{ℕ, ◌+◌, ◌-◌, ◌≤◌, ◌<◌, ◌^◌}
@@ -26,16 +26,19 @@ use Rattle.report.specs.Writing.{room_for, Written, no_room, written}
 use Rattle.monitor.specs.Opening.{refused, front_size, Decodes}
 use Rattle.monitor.specs.Stepping.{place_of}
 use Rattle.monitor.proofs.LogOutput.{take_is, decodes_as, size_kept, encoding_kept}
-use Rattle.leak_log.specs.declared.Status.{Status}
-use Rattle.leak_log.specs.declared.Status.TheVariants.{Found, Ended, Failed}
-use Rattle.leak_log.specs.declared.Begun.{Begun}
-use Rattle.leak_log.specs.declared.Rest.{Rest}
+use Rattle.streams.specs.declared.Begun.{Begun}
+use Rattle.streams.specs.declared.Ending.{Ending}
+use Rattle.streams.specs.declared.Ending.TheVariants.{Done, Ended, Failed}
+use Rattle.streams.specs.declared.Rest.{Rest}
+use Rattle.streams.specs.Following.{Begins, Feeding, stopped, ended, failed, more}
+use Rattle.streams.proofs.Feeding.{feeding_read, feeding_done, feeding_ended}
 use Rattle.leak_log.specs.LeakOutput as output
 use Rattle.leak_log.specs.LeakOutput.{Refused, Searchable, Output}
 use Rattle.leak_log.specs.Opens as opens
 use Rattle.leak_log.specs.Opens.{Opening}
-use Rattle.leak_log.specs.Feeding.{Block, Begins, Feeding, found, ended, failed, more, Finished, Ran, not_opened, searched, Told, LeftBehind}
-use Rattle.leak_log.proofs.ReadingOn.{few_brought, block_brought, still, block_counts, feeding_counts}
+use Rattle.leak_log.specs.declared.Searching.{Searching}
+use Rattle.leak_log.specs.Feeding.{Block, found_by, Finished, Ran, not_opened, searched, Told, LeftBehind}
+use Rattle.leak_log.specs.Taking.{block_counts}
 
 -- ---- one line at the front of an output
 
@@ -57,49 +60,31 @@ module _ (t : List ℕ) (h : Header) (well_formed : WellFormed t h) where
       absurd (bad (record { well_formed = well_formed; limits = limits; placed = placed; countable = λ e. few }))
   advance_on limits placed few (Advancing.searched within on) = on
 
-  block_on : {s m : Search} {bytes : List ℕ} → InLimits h s.estimator → (s.found ≡ true → 1 ≤ s.accepted) → s.accepted + length bytes < 2 ^ 64
-      → Block t h s bytes m → SearchedOn t h s bytes m
+  block_on : {s m : Searching} {bytes : List ℕ} → InLimits h s.search.estimator → (s.search.found ≡ true → 1 ≤ s.search.accepted)
+      → s.search.accepted + length bytes < 2 ^ 64 → Block t h s bytes m → SearchedOn t h s.search bytes m.search
   block_on limits placed few b = advance_on limits placed few b.advancing
 
-  -- the last read left it as it was
-  same_on : {s m : Search} → m ≡ s → InLimits h s.estimator → (s.found ≡ true → 1 ≤ s.accepted) → SearchedOn t h s [] m
-  same_on {s} e limits placed = subst (SearchedOn t h s []) (sym e) (on_start t h s limits placed)
-
   -- ALL THAT WAS HANDED ON IS SEARCHED, IN ORDER
-  feeding_on : {left : ℕ} {s : Search} {bytes : List ℕ} {r : Rest} → InLimits h s.estimator → (s.found ≡ true → 1 ≤ s.accepted)
-      → s.accepted + left < 2 ^ 64 → Feeding t h left s bytes r → SearchedOn t h s bytes r.search
-  feeding_on {s = s} limits placed few (found f) = on_start t h s limits placed
-  feeding_on limits placed few (ended f x) = same_on (still t h (inl refl) x) limits placed
-  feeding_on limits placed few (failed f x) = same_on (still t h (inr refl) x) limits placed
-  feeding_on {s = s} {r = r} limits placed few (more {n = n} {m = m} {input = input} {later = later} f x y) =
-      let b = few_brought t h n refl x in
-      let size : length (take n input) ≡ n = length-take-le n input b.1 in
-      let block = block_brought t h x in
-      let here : SearchedOn t h s (take n input) m = block_on limits placed (omega (arith, few, size, b.2)) block in
-      on_then t h s m r.search (take n input) later here
-      (feeding_on here.limits here.placed (omega (arith, few, size, b.2, block_counts t h block)) y)
-
-  -- why it stopped
-  feeding_found : {left : ℕ} {s : Search} {bytes : List ℕ} {r : Rest} → Feeding t h left s bytes r → r.status ≡ Found → r.search.found ≡ true
-  feeding_found (found f) e = f
-  feeding_found (ended f x) e = let z : ◌≡◌ {A = ℕ} 0 1 = cc in absurd (omega arith)
-  feeding_found (failed f x) e = let z : ◌≡◌ {A = ℕ} 0 1 = cc in absurd (omega arith)
-  feeding_found (more f x y) e = feeding_found y e
-
-  feeding_ended : {left : ℕ} {s : Search} {bytes : List ℕ} {r : Rest} → Feeding t h left s bytes r → r.status ≡ Ended → r.search.found ≡ false
-  feeding_ended (found f) e = let z : ◌≡◌ {A = ℕ} 0 1 = cc in absurd (omega arith)
-  feeding_ended (ended f x) e = ap (λ (k : Search). k.found) (still t h (inl refl) x) ∙ f
-  feeding_ended (failed f x) e = let z : ◌≡◌ {A = ℕ} 0 1 = cc in absurd (omega arith)
-  feeding_ended (more f x y) e = feeding_ended y e
+  feeding_on : {left : ℕ} {s : Searching} {bytes : List ℕ} {r : Rest Searching} → InLimits h s.search.estimator → (s.search.found ≡ true → 1 ≤ s.search.accepted)
+      → s.search.accepted + left < 2 ^ 64 → Feeding (Block t h) found_by left s bytes r → SearchedOn t h s.search bytes r.follower.search
+  feeding_on {s = s} limits placed few (stopped e) = on_start t h s.search limits placed
+  feeding_on {s = s} limits placed few (ended e) = on_start t h s.search limits placed
+  feeding_on {s = s} limits placed few (failed e) = on_start t h s.search limits placed
+  feeding_on {s = s} {r = r} limits placed few (more {n = n} {m = m} input {later = later} e some there fits block y) =
+      let size : length (take n input) ≡ n = length-take-le n input there in
+      let here : SearchedOn t h s.search (take n input) m.search = block_on limits placed (omega (arith, few, size, fits)) block in
+      on_then t h s.search m.search r.follower.search (take n input) later here
+      (feeding_on here.limits here.placed (omega (arith, few, size, fits, block_counts block)) y)
 
 -- the search of a log that has started, after the events among its first bytes and those that were handed on
-all_searched : (notion : Notion) (t : List ℕ) (h : Header) (s : Search) (events : List ℕ) (b : Begun) (limit : ℕ) (bytes : List ℕ) (r : Rest)
-    → length events ≤ 4294967295 → limit ≤ 4294967295 → Beginning notion t h no_further nowhere s → Block t h s events b.search
-    → Feeding t h limit b.search bytes r → Searched notion t h no_further (events ++ bytes) r.search
+all_searched : (notion : Notion) (t : List ℕ) (h : Header) (s : Search) (events : List ℕ) (b : Begun Searching) (limit : ℕ) (bytes : List ℕ)
+    (r : Rest Searching) → length events ≤ 4294967295 → limit ≤ 4294967295 → Beginning notion t h no_further nowhere s
+    → Block t h (record { search = s }) events b.follower → Feeding (Block t h) found_by limit b.follower bytes r
+    → Searched notion t h no_further (events ++ bytes) r.follower.search
 all_searched notion t h s events b limit bytes r few most (Beginning.begun so allowed limits going zero x) block feeding =
-    let first : SearchedOn t h s events b.search = block_on t h so limits (λ u. absent going u) (omega (arith, zero, few)) block in
+    let first : SearchedOn t h s events b.follower.search = block_on t h so limits (λ u. absent going u) (omega (arith, zero, few)) block in
     let rest = feeding_on t h so first.limits first.placed (omega (arith, first.most, zero, few, most)) feeding in
-    (on_then t h s b.search r.search events bytes first rest).exact notion no_further [] x
+    (on_then t h s b.follower.search r.follower.search events bytes first rest).exact notion no_further [] x
 
 -- ---- the events of an input, by its first bytes
 
@@ -183,37 +168,37 @@ pub no_later : (k : ℕ) (l later : List ℕ) → (later ≡ []) ⊎ (k ≡ 0) �
 no_later k l later (inl e) = ap (λ (x : List ℕ). l ++ take k x) e ∙ ap (λ (x : List ℕ). l ++ x) (take-nil {A = ℕ} k) ∙ append-nil l
 no_later k l later (inr e) = ap (λ (n : ℕ). l ++ take n later) e ∙ append-nil l
 
-module _ (notion : Notion) (first t : List ℕ) (h : Header) (s : Search) (b : Begun) (limit : ℕ) (bytes : List ℕ) (r : Rest)
+module _ (notion : Notion) (first t : List ℕ) (h : Header) (s : Search) (b : Begun Searching) (limit : ℕ) (bytes : List ℕ) (r : Rest Searching)
     (whole : front_size first ≤ length first) (decodes : Decodes first h accept t) (begin : Beginning notion t h no_further nowhere s)
-    (begins : Begins t h s (drop (front_size first) first) b) (within : limit ≤ b.allowed) (feeding : Feeding t h limit b.search bytes r) where
+    (begins : Begins (Block t h) (record { search = s }) (drop (front_size first) first) b) (within : limit ≤ b.allowed) (feeding : Feeding (Block t h) found_by limit b.follower bytes r) where
   abbrev events : List ℕ
   events = take 4294967295 (drop (front_size first) first)
 
   few : length bytes ≤ 4294967295 - length events
-  few = few_of r.left (length bytes) limit b.allowed (4294967295 - length events) (feeding_counts t h feeding).0 within begins.allowed
+  few = few_of r.left (length bytes) limit b.allowed (4294967295 - length events) (feeding_read feeding) within begins.allowed
 
-  holds : Searched notion t h no_further (events ++ bytes) r.search
+  holds : Searched notion t h no_further (events ++ bytes) r.follower.search
   holds = all_searched notion t h s events b limit bytes r (few_taken 4294967295 (drop (front_size first) first))
-      (most_of limit b.allowed 4294967295 (length events) within begins.allowed) begin begins.block feeding
+      (most_of limit b.allowed 4294967295 (length events) within begins.allowed) begin begins.on feeding
 
   on : (later : List ℕ) → OnEvents 4294967295 first bytes later t h
   on later = on_events 4294967295 first bytes later t h whole decodes few
 
   -- the leak is found, whatever follows
-  told_found : r.status ≡ Found → (later : List ℕ) → Output notion ((first ++ bytes) ++ later) (place_line r.search.accepted)
+  told_found : r.ending ≡ Done → (later : List ℕ) → Output notion ((first ++ bytes) ++ later) (place_line r.follower.search.accepted)
   told_found e later =
-      let place = r.search.accepted in
-      let leak : FirstLeak notion t h no_further (events ++ bytes) place = holds.found (feeding_found t h (begun_well_formed notion t h s begin) feeding e) in
+      let place = r.follower.search.accepted in
+      let leak : FirstLeak notion t h no_further (events ++ bytes) place = holds.found (feeding_done feeding e) in
       let more = take (4294967295 - length events - length bytes) later in
       output.found (on later).searchable
       (subst (λ (l : List ℕ). FirstLeak notion t h no_further l place) (sym (on later).events)
       (first_kept notion t h no_further (begun_well_formed notion t h s begin) (events ++ bytes) more place leak))
 
   -- there is none, up to the end
-  told_ended : r.status ≡ Ended → (later : List ℕ) → (later ≡ []) ⊎ (b.allowed - length bytes ≡ 0)
+  told_ended : r.ending ≡ Ended → (later : List ℕ) → (later ≡ []) ⊎ (b.allowed - length bytes ≡ 0)
       → Output notion ((first ++ bytes) ++ later) no_place_line
   told_ended e later end =
-      let g = holds.not_found (feeding_ended t h (begun_well_formed notion t h s begin) feeding e) in
+      let g = holds.not_found (feeding_ended feeding e) in
       let free : NoneLeaks notion t h no_further (events ++ bytes) = record { trace = g.trace; part = g.part; none_leaks = g.none_leaks } in
       let over : (later ≡ []) ⊎ (4294967295 - length events - length bytes ≡ 0) =
       subst (λ (k : ℕ). (later ≡ []) ⊎ (k - length bytes ≡ 0)) begins.allowed end in
@@ -221,9 +206,9 @@ module _ (notion : Notion) (first t : List ℕ) (h : Header) (s : Search) (b : B
       (subst (NoneLeaks notion t h no_further)
       (sym ((on later).events ∙ no_later (4294967295 - length events - length bytes) (events ++ bytes) later over)) free)
 
-  told : (out out' : List ℕ) → 64 ≤ length out → (status : Status) → r.status ≡ status → (f : Finished status r.search out out')
-      → Told notion (first ++ bytes) (b.allowed - length bytes) r.search out out' status f
-  told out out' room Found e f = λ later. put notion ((first ++ bytes) ++ later) room f.put (told_found e later)
+  told : (out out' : List ℕ) → 64 ≤ length out → (ending : Ending) → r.ending ≡ ending → (f : Finished ending r.follower.search out out')
+      → Told notion (first ++ bytes) (b.allowed - length bytes) r.follower.search out out' ending f
+  told out out' room Done e f = λ later. put notion ((first ++ bytes) ++ later) room f.put (told_found e later)
   told out out' room Ended e f = λ later end. put notion ((first ++ bytes) ++ later) room f.put (told_ended e later end)
   told out out' room Failed e f = f
 
@@ -243,5 +228,5 @@ pub ran_search : {notion : Notion} {first out : List ℕ} {size : ℕ} {out' : L
 ran_search {notion} (not_opened r o l e) room = λ input f.
     put notion input room l.put (output.refused r (subst (λ (x : List ℕ). Refused x (number_of r)) f.splits (refuses f.later f.enough o)))
 ran_search {notion} {first} {out} {size} {out'} (searched {t = t} {h = h} {s = s} {b = b} (opens.opened whole d begin) begins x) room =
-    told notion first t h s b x.limit x.fed.bytes x.rest whole d begin begins x.limited.few x.fed.feeding out out' room x.rest.status
+    told notion first t h s b x.limit x.fed.bytes x.rest whole d begin begins x.limited.few x.fed.feeding out out' room x.rest.ending
     refl x.finished

@@ -1,167 +1,70 @@
 // A log that is read from standard input and searched for its first leak by one notion (02, S-8): its place is written to standard output, or `-`. `streams`
-// reads and writes, `leaks` searches. Here the types, and a log from its first read to its one line. The modules stand beside one another.
+// reads and writes, `leaks` searches. Here a log from its first read to its one line. The modules stand beside one another.
 #![tactic(auto)]
 
 pub mod opening; // the search of a log with its first bytes
 mod telling; // the one line
 
 ghost use Rattle.std.specs.Prelude.{◌+◌, ◌-◌, ◌≤◌, length, take};
-ghost use Rattle.leak_log.specs.Feeding.{Begins, Turning, Fed, ReadOn, Ran, Searches};
+ghost use Rattle.leak_log.specs.Feeding.{Block, ReadOn, Ran, Searches};
+ghost use Rattle.leak_log.specs.Taking.{takes_fewer, takes_onward};
 
 use automaton::Header;
 use leaks::Search;
 use opacity::Notion;
 use opening::open;
-use refusal::Refusal;
-use streams::reads::{fetch, gather};
+use streams::following::Follower;
+use streams::reads::gather;
 use streams::writes::refuse;
-use streams::{Fetched, Gathered};
+use streams::{Begun, Gathered, following};
 use telling::finish;
 
-// Why a search ended.
+// A search that follows event bytes until the leak is found: then no byte behind it is looked at, and no further read is made. (A struct of its own, since a
+// trait of another crate is written only for types of this one.)
 #[derive(Clone, Copy)]
-pub enum Status {
-    // The first leak is found: no byte behind it is looked at, and no further read is made.
-    Found,
-    // No more event bytes follow, or a log may have no more of them.
-    Ended,
-    // They could not be read: nothing is written.
-    Failed,
-}
-
-// The automaton of a log, the search of no event yet, and where the events start. (The table is no lent one: a refusal may come after it is filled.)
-#[derive(Clone, Copy)]
-pub struct Opened {
-    pub table: [u64; 2048],
-    pub header: Header,
+pub struct Searching {
     pub search: Search,
-    pub answer: Result<usize, Refusal>,
 }
 
-// The search after the events among the first bytes of a log, and how many event bytes the log may still have.
-#[derive(Clone, Copy)]
-pub struct Begun {
-    pub search: Search,
-    pub allowed: usize,
-}
+impl Follower for Searching {
+    ghost Goes = { Block };
 
-// The search after one more read, and what the read found. (`witness_log` has three types and two functions like these on what it follows. One of each
-// with a type parameter would lose the fields' names, by which the definitions of both speak of them, and take the search, the test whether the leak is
-// found, and the relation of a block, of which `Turning` and `Feeding` tell, as arguments of its own.)
-#[derive(Clone, Copy)]
-struct Reading {
-    search: Search,
-    fetched: Fetched,
-}
+    ghost done = { λ s. s.search.found };
 
-// How a search was left, and how many bytes might still have been read.
-#[derive(Clone, Copy)]
-pub struct Rest {
-    pub search: Search,
-    pub status: Status,
-    pub left: usize,
-}
+    ghost Takes = { λ s n. s.search.accepted + n ≤ 4294967295 };
 
-// The events among the first bytes of a log. It has at most 4,294,967,295 event bytes (01), and the others count for nothing.
-fn begin(search: Search, table: &[u64], header: Header, events: &[u8]) -> Begun
-    ensures { Begins table.now header search events.now result }
-{
-    let n = events.len().min(u32::MAX as usize);
-    let reply = search.advance(table, header, &events[0..n]);
-    Begun {
-        search: reply.search,
-        allowed: u32::MAX as usize - n,
+    ghost fewer = { takes_fewer };
+
+    ghost onward = { takes_onward };
+
+    fn is_done(self) -> bool {
+        self.search.found
     }
-}
 
-// One more read, of at most `left` bytes: they are searched, all of them in order.
-fn turn(
-    rt: &(impl Input + Eprint),
-    search: Search,
-    table: &[u64],
-    header: Header,
-    input: &mut [u8],
-    left: usize,
-) -> Reading
-    ensures { Turning table.now header left search input.new result }
-{
-    let fetched = fetch(rt, input, left);
-    match fetched {
-        Fetched::Bytes(n) => {
-            let reply = search.advance(table, header, &input[0..n]);
-            Reading {
-                search: reply.search,
-                fetched: Fetched::Bytes(n),
-            }
+    fn follow(self, table: &[u64], header: Header, bytes: &[u8]) -> Searching {
+        let reply = self.search.advance(table, header, bytes);
+        Searching {
+            search: reply.search,
         }
-        Fetched::End => Reading {
-            search,
-            fetched: Fetched::End,
-        },
-        Fetched::Failed => Reading {
-            search,
-            fetched: Fetched::Failed,
-        },
-    }
-}
-
-// Reads on until the leak is found, at most `left` bytes.
-fn all(
-    rt: &(impl Input + Eprint),
-    search: Search,
-    table: &[u64],
-    header: Header,
-    input: &mut [u8],
-    left: usize,
-) -> Rest
-    ensures { Fed table.now header left search result }
-{
-    let mut now = search;
-    let mut rest = left;
-    while !now.found {
-        let one = turn(rt, now, table, header, input, rest);
-        now = one.search;
-        match one.fetched {
-            Fetched::Bytes(n) => rest -= n,
-            Fetched::End => {
-                return Rest {
-                    search: now,
-                    status: Status::Ended,
-                    left: rest,
-                };
-            }
-            Fetched::Failed => {
-                return Rest {
-                    search: now,
-                    status: Status::Failed,
-                    left: rest,
-                };
-            }
-        }
-    }
-    Rest {
-        search: now,
-        status: Status::Found,
-        left: rest,
     }
 }
 
 // A search that has begun is read on, and told. It says how many of `size` bytes were not read.
 fn read_on(
     rt: &(impl Input + Print + Eprint),
-    begun: Begun,
+    begun: Begun<Searching>,
     table: &[u64],
     header: Header,
     input: &mut [u8],
     out: &mut [u8],
     size: usize,
 ) -> usize
-    requires { begun.search.accepted + begun.allowed ≤ 4294967295 }
+    requires { begun.follower.search.accepted + begun.allowed ≤ 4294967295 }
     ensures { ReadOn table.now header begun out.old size out.new result }
 {
     let limit = begun.allowed.min(size);
-    let rest = all(rt, begun.search, table, header, input, limit);
-    finish(rt, rest.status, rest.search, out);
+    let rest = following::read_on(rt, begun.follower, table, header, input, limit);
+    finish(rt, rest.ending, rest.follower.search, out);
     size - (limit - rest.left)
 }
 
@@ -186,7 +89,10 @@ fn run(
         }
         Ok(first) => {
             let events = &input[first..n];
-            let begun = begin(opened.search, &opened.table, opened.header, events);
+            let start = Searching {
+                search: opened.follower,
+            };
+            let begun = following::begin(start, &opened.table, opened.header, events);
             let part = piece.min(input.len());
             let part = &mut input[0..part];
             read_on(rt, begun, &opened.table, opened.header, part, out, size)

@@ -1,19 +1,18 @@
 // How a log begins: the automaton of its encoding, and a search of no event yet; or what a refused log hands back.
-ghost use Rattle.std.specs.Prelude.{◌≡◌, Err};
 ghost use Rattle.automaton.specs.Run.{WellFormed};
+ghost use Rattle.verifier.specs.Replies.{Unusable};
 ghost use Rattle.monitor.specs.Opening.{open_outcome as opened};
-ghost use Rattle.leak_log.specs.Opens.{NoSearch, StartedOn, Opening};
+ghost use Rattle.leak_log.specs.Opens.{StartedOn, Opening};
 
-use super::Opened;
 use automaton::Header;
 use leaks::Search;
+use monitor::Opened;
 use opacity::Notion;
-use refusal::Refusal;
 use verifier::Estimator;
 
-// What a refused log hands back: header and estimator are outside their limits.
-fn refused(refusal: Refusal, notion: Notion) -> Opened
-    ensures { (result.answer ≡ Err refusal) × NoSearch result.header result.search }
+// A search whose estimator is outside its limits.
+fn no_search(notion: Notion) -> Search
+    ensures { Unusable result.estimator }
 {
     let estimator = Estimator {
         count: 255,
@@ -21,30 +20,18 @@ fn refused(refusal: Refusal, notion: Notion) -> Opened
         entries: [0u64; 16],
         further: opacity::no_further(),
     };
-    let search = Search {
+    Search {
         estimator,
         notion,
         accepted: 0,
         found: false,
-    };
-    Opened {
-        table: [0u64; 2048],
-        header: Header {
-            initial: 0,
-            k: 255,
-            secret: 0,
-            observable: 0,
-            symbols: [0u8; 32],
-        },
-        search,
-        answer: Err(refusal),
     }
 }
 
 // A search with no further secret, for events that start at a place. (It is refused on no automaton.)
-fn start(table: [u64; 2048], header: Header, events: usize, notion: Notion) -> Opened
+fn start(table: [u64; 2048], header: Header, events: usize, notion: Notion) -> Opened<Search>
     requires { WellFormed table header }
-    ensures { StartedOn notion table header events (opened result.answer) result.table result.header result.search }
+    ensures { StartedOn notion table header events (opened result.answer) result.table result.header result.follower }
 {
     let alone = opacity::no_further();
     let begun = Search::begin(&table, header, alone, notion);
@@ -52,23 +39,17 @@ fn start(table: [u64; 2048], header: Header, events: usize, notion: Notion) -> O
     Opened {
         table: table,
         header: header,
-        search: search,
+        follower: search,
         answer: Ok(events),
     }
 }
 
 // Opens a log by its first bytes: all of its length and its encoding, unless the log ends before that. (No enforcer starts, so there is no 8.)
-pub fn open(log: &[u8], notion: Notion) -> Opened
-    ensures { Opening notion log.now (opened result.answer) result.table result.header result.search }
+pub fn open(log: &[u8], notion: Notion) -> Opened<Search>
+    ensures { Opening notion log.now (opened result.answer) result.table result.header result.follower }
 {
-    if !monitor::has_encoding(log) {
-        return refused(Refusal::Truncated, notion);
-    }
-    let size = monitor::front_size(log[0], log[1]);
-    let mut table = [0u64; 2048];
-    let decoded = decoding::decode(&log[2..size], &mut table);
-    match decoded.answer {
-        Err(refusal) => refused(refusal, notion),
-        Ok(()) => start(table, decoded.header, size, notion),
+    match monitor::description(log) {
+        Err(refusal) => monitor::no_log(refusal, no_search(notion)),
+        Ok(described) => start(described.table, described.header, described.size, notion),
     }
 }

@@ -3,8 +3,8 @@ ghost use Rattle.std.specs.Prelude.{◌≤◌};
 ghost use Rattle.report.specs.Text.{place_line, no_place_line};
 ghost use Rattle.leak_log.specs.Feeding.{OneLine, Finished};
 
-use super::Status;
 use leaks::Search;
+use streams::Ending;
 use streams::writes::{flush, place};
 
 fn tell_place(rt: &(impl Print + Eprint), leak: u32, out: &mut [u8])
@@ -22,13 +22,13 @@ fn tell_none(rt: &(impl Print + Eprint), out: &mut [u8])
 }
 
 // What the search has found. (A log has at most 4,294,967,295 event bytes, so each place is a u32.)
-pub fn finish(rt: &(impl Print + Eprint), status: Status, search: Search, out: &mut [u8])
+pub fn finish(rt: &(impl Print + Eprint), ending: Ending, search: Search, out: &mut [u8])
     requires { search.accepted ≤ 4294967295 }
-    ensures { Finished status search out.old out.new }
+    ensures { Finished ending search out.old out.new }
 {
-    match status {
-        Status::Found => tell_place(rt, search.accepted as u32, out),
-        Status::Ended => tell_none(rt, out),
-        Status::Failed => {}
+    match ending {
+        Ending::Done => tell_place(rt, search.accepted as u32, out),
+        Ending::Ended => tell_none(rt, out),
+        Ending::Failed => {}
     }
 }

@@ -72,7 +72,7 @@ pub fn start(rt: &(impl Print + Eprint), log: &[u8], out: &mut [u8]) -> Monitore
     let opened = monitor::open(log);
     let table = opened.table;
     let header = opened.header;
-    let monitor = opened.monitor;
+    let monitor = opened.follower;
     let answer = opened.answer;
     match answer {
         Err(refusal) => {

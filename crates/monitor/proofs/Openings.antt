@@ -1,5 +1,5 @@
 -- How a log starts, from what decoding, the verifier and the enforcer answered. Assumes nothing.
-use mathlib.Core.Path.{◌≡◌, refl, sym, subst}
+use mathlib.Core.Path.{◌≡◌, refl, subst}
 use mathlib.Core.List.{List, []}
 use Prim.Native.Nat.{ℕ, ◌-◌, ◌≤◌, ◌<◌}
 use native.Mathlib.Omega.{arith}
@@ -14,11 +14,16 @@ use Rattle.verifier.specs.Replies.{findings, OthersNoLeak}
 use Rattle.verifier.specs.Calls.{Right}
 use Rattle.verifier.proofs.SecondPoint.{right}
 use lib.ListN.{length, take, drop}
-use Rattle.decoding.specs.Decoding.{Outcome, accept, Decoding}
+use Rattle.decoding.specs.Decoding.{Outcome, Decoding}
+use Rattle.decoding.proofs.Listing.{decoded_well_formed}
+use Rattle.refusal.specs.Refusals.{number_of}
+use Rattle.refusal.specs.declared.Refusal.{Refusal}
+use Rattle.std.specs.Prelude.{Ok, Err}
+use Rattle.monitor.specs.declared.Described.{Described}
 use Rattle.enforcer.specs.declared.Enforcer.{Enforcer}
 use Rattle.enforcer.specs.Offerings as enforcer
 use Rattle.enforcer.specs.Offerings.{Starting}
-use Rattle.monitor.specs.Opening.{OpenOutcome, refused, started, front_size, RightOwn, Decodes, NoMonitor, Opening, opened, StartedOn, leaks, begun}
+use Rattle.monitor.specs.Opening.{OpenOutcome, refused, started, front_size, RightOwn, Decodes, encoding_of, Describing, cut, no_automaton, whole, NoMonitor, Opening, opened, StartedOn, leaks, begun}
 use Rattle.monitor.specs.declared.Monitor.{Monitor}
 use Rattle.verifier.specs.declared.Judgement.{Judgement}
 use Rattle.opacity.specs.declared.Verdicts.{Verdicts}
@@ -72,11 +77,18 @@ decodes log size before h answer t e w d = record {
   decoding = subst (λ (k : ℕ). Decoding (take (k - 2) (drop 2 log)) before h answer t) e d;
 }
 
-pub opens : (log : List ℕ) (size : ℕ) (t : List ℕ) (h : Header) (says : OpenOutcome) (t' : List ℕ) (h' : Header) (m : Monitor) → size ≡ front_size log
-    → size ≤ length log
-    → Decodes log h accept t → StartedOn t h size says t' h' m → Opening log says t' h' m
-opens log size t h says t' h' m e l d (leaks start out) = Opening.initial_leak (omega arith) d start out
-opens log size t h says t' h' m e l d (begun fresh) = subst (λ (k : ℕ). Opening log (started k) t h m) (sym e) (opened (omega arith) d fresh)
+-- what the front of a log tells of its start
+pub described_well_formed : {log : List ℕ} {f : Described} → Describing log (Ok f) → WellFormed f.table f.header
+described_well_formed {log} (whole {t = t} {h = h} l d) = decoded_well_formed (encoding_of log) d.before h t d.decoding
+
+pub described_refused : {log t : List ℕ} {h : Header} {m : Monitor} {r : Refusal} → Describing log (Err r) → NoMonitor h m → Opening log (refused (number_of r)) t h m
+described_refused (cut l) out = Opening.truncated l out
+described_refused (no_automaton l d) out = Opening.not_decoded l d out
+
+pub described_started : {log : List ℕ} {f : Described} {says : OpenOutcome} {t' : List ℕ} {h' : Header} {m : Monitor} → Describing log (Ok f)
+    → StartedOn f.table f.header f.size says t' h' m → Opening log says t' h' m
+described_started (whole l d) (leaks start out) = Opening.initial_leak l d start out
+described_started (whole l d) (begun fresh) = opened l d fresh
 
 -- the events of a log that has started, if there are any, are behind its front, which is whole
 pub started_within : {log t : List ℕ} {h : Header} {m : Monitor} {n : ℕ} → Opening log (started n) t h m → (n ≡ front_size log) × (n ≤ length log)

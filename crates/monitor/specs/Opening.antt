@@ -19,6 +19,8 @@ use Rattle.monitor.specs.Stepping.{Balanced}
 use Rattle.monitor.specs.declared.Monitor.{Monitor}
 use Rattle.verifier.specs.declared.Judgement.{Judgement}
 use Rattle.refusal.specs.declared.Refusal.{Refusal}
+use Rattle.refusal.specs.declared.Refusal.TheVariants.{Truncated}
+use Rattle.monitor.specs.declared.Described.{Described}
 
 -- what an answer says: the number of a refusal, or where the events start
 pub data OpenOutcome : Type 0 where
@@ -60,6 +62,13 @@ pub record Decodes (log : List ℕ) (h : Header) (answer : Outcome) (t : List �
   pub before : List ℕ
   pub words : length before ≡ 2048
   pub decoding : Decoding (encoding_of log) before h answer t
+
+-- the automaton of a log, by its first bytes, in the order of its refusals: 1, those of the encoding. What stands behind the encoding does not matter
+pub data Describing (log : List ℕ) : Result Described Refusal → Type 0 where
+  cut : length log < front_size log → Describing log (Err Truncated)
+  no_automaton : {r : Refusal} {t : List ℕ} {h : Header} → front_size log ≤ length log → Decodes log h (refuse (number_of r)) t → Describing log (Err r)
+  whole : {t : List ℕ} {h : Header} → front_size log ≤ length log → Decodes log h accept t
+      → Describing log (Ok (record { table = t; header = h; size = front_size log }))
 
 -- no leak and no state to tell
 abbrev pub nothing_told : Judgement Verdicts

@@ -5,11 +5,11 @@
 mod opening; // the monitor of a log with its first bytes
 mod stepping; // one event byte, and its line
 
-ghost use Rattle.std.specs.Prelude.{◌≡◌, ◌+◌, ◌*◌, ◌≤◌, length};
+ghost use Rattle.std.specs.Prelude.{◌≡◌, ◌+◌, ◌*◌, ◌≤◌, ◌<◌, length, Err};
 ghost use Rattle.stateset.specs.Set.{Decided};
 ghost use Rattle.report.specs.Writing.{room_at_end, Written};
 ghost use Rattle.monitor.specs.Stepping.{Balanced, Within};
-ghost use Rattle.monitor.specs.Opening.{front_size, Opening, open_outcome as opened};
+ghost use Rattle.monitor.specs.Opening.{front_size, Describing, Opening, open_outcome as opened};
 ghost use Rattle.monitor.specs.Advancing.{Advancing, advance_outcome as advanced};
 ghost use Rattle.monitor.specs.Ending.{last_lines};
 
@@ -53,12 +53,20 @@ pub struct Advanced {
     pub answer: Result<Advance, Refusal>,
 }
 
-// A log's automaton and its monitor, and where the events start. (The table is no lent one: a refusal may come after it is filled.)
+// The automaton of a log, and how many bytes its length and its encoding take.
 #[derive(Clone, Copy)]
-pub struct Opened {
+pub struct Described {
     pub table: [u64; 2048],
     pub header: Header,
-    pub monitor: Monitor,
+    pub size: usize,
+}
+
+// A log's automaton and what follows its events, as a monitor; and where they start. (The table is no lent one: a refusal may come after it is filled.)
+#[derive(Clone, Copy)]
+pub struct Opened<F> {
+    pub table: [u64; 2048],
+    pub header: Header,
+    pub follower: F,
     pub answer: Result<usize, Refusal>,
 }
 
@@ -155,18 +163,51 @@ pub fn has_encoding(log: &[u8]) -> bool
     front_size(*high, *low) <= log.len()
 }
 
-// Opens a log by its first bytes: all of its length and its encoding, unless the log ends before that.
-pub fn open(log: &[u8]) -> Opened
-    ensures { Opening log.now (opened result.answer) result.table result.header result.monitor }
+// The automaton of a log by its first bytes: all of its length and its encoding, unless the log ends before that.
+pub fn description(log: &[u8]) -> Result<Described, Refusal>
+    ensures { Describing log.now result }
 {
     if !has_encoding(log) {
-        return refused(Refusal::Truncated);
+        return Err(Refusal::Truncated);
     }
     let size = front_size(log[0], log[1]);
     let mut table = [0u64; 2048];
     let decoded = decoding::decode(&log[2..size], &mut table);
+    let header = decoded.header;
     match decoded.answer {
+        Err(refusal) => Err(refusal),
+        Ok(()) => Ok(Described {
+            table,
+            header,
+            size,
+        }),
+    }
+}
+
+// What a refused log hands back: a header outside its limits, and what follows no byte.
+pub fn no_log<F: Copy>(refusal: Refusal, follower: F) -> Opened<F>
+    ensures { (result.answer ≡ Err refusal) × (15 < result.header.k) × (result.follower ≡ follower) }
+{
+    Opened {
+        table: [0u64; 2048],
+        header: Header {
+            initial: 0,
+            k: 255,
+            secret: 0,
+            observable: 0,
+            symbols: [0u8; 32],
+        },
+        follower,
+        answer: Err(refusal),
+    }
+}
+
+// Opens a log by its first bytes: all of its length and its encoding, unless the log ends before that.
+pub fn open(log: &[u8]) -> Opened<Monitor>
+    ensures { Opening log.now (opened result.answer) result.table result.header result.follower }
+{
+    match description(log) {
         Err(refusal) => refused(refusal),
-        Ok(()) => start(table, decoded.header, size),
+        Ok(described) => start(described.table, described.header, described.size),
     }
 }

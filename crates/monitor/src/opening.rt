@@ -1,9 +1,10 @@
 // How a log begins: a fresh verifier and a weak enforcer for its automaton, or what a refused log hands back.
-ghost use Rattle.std.specs.Prelude.{◌≡◌, Err};
+ghost use Rattle.std.specs.Prelude.{◌≡◌, ◌<◌, Err};
 ghost use Rattle.automaton.specs.Run.{WellFormed};
+ghost use Rattle.automaton.specs.declared.Header.{Header};
 ghost use Rattle.monitor.specs.Opening.{nothing_told, NoMonitor, StartedOn, open_outcome as opened};
 
-use super::{Monitor, Opened};
+use super::{Monitor, Opened, no_log};
 use automaton::Header;
 use enforcer::Enforcer;
 use opacity::{Notion, Verdict, Verdicts};
@@ -29,9 +30,9 @@ fn nothing_told() -> Judgement<Verdicts>
     }
 }
 
-// What a refused log hands back: header, estimator and enforcer are outside their limits, and the monitor takes no byte.
-pub(crate) fn refused(refusal: Refusal) -> Opened
-    ensures { (result.answer ≡ Err refusal) × NoMonitor result.header result.monitor }
+// A monitor that takes no byte: estimator and enforcer are outside their limits.
+fn no_monitor() -> Monitor
+    ensures { (h : Header) → 15 < h.k → NoMonitor h result }
 {
     let further = opacity::no_further();
     let estimator = Estimator {
@@ -48,31 +49,27 @@ pub(crate) fn refused(refusal: Refusal) -> Opened
         waits: [0u8; 16],
     };
     let opening = nothing_told();
-    Opened {
-        table: [0u64; 2048],
-        header: Header {
-            initial: 0,
-            k: 255,
-            secret: 0,
-            observable: 0,
-            symbols: [0u8; 32],
-        },
-        monitor: Monitor {
-            opening: opening,
-            estimator: estimator,
-            enforcer: enforcer,
-            offered: u32::MAX,
-            accepted: 0,
-            released: 0,
-        },
-        answer: Err(refusal),
+    Monitor {
+        opening: opening,
+        estimator: estimator,
+        enforcer: enforcer,
+        offered: u32::MAX,
+        accepted: 0,
+        released: 0,
     }
 }
 
+// What a refused log hands back.
+pub(crate) fn refused(refusal: Refusal) -> Opened<Monitor>
+    ensures { (result.answer ≡ Err refusal) × NoMonitor result.header result.follower }
+{
+    no_log(refusal, no_monitor())
+}
+
 // A weak enforcer and a fresh verifier, both with no further secret, for events that start at a place.
-pub(crate) fn start(table: [u64; 2048], header: Header, events: usize) -> Opened
+pub(crate) fn start(table: [u64; 2048], header: Header, events: usize) -> Opened<Monitor>
     requires { WellFormed table header }
-    ensures { StartedOn table header events (opened result.answer) result.table result.header result.monitor }
+    ensures { StartedOn table header events (opened result.answer) result.table result.header result.follower }
 {
     let alone = opacity::no_further();
     let begun = Enforcer::start(&table, header, Notion::Weak, alone);
@@ -90,7 +87,7 @@ pub(crate) fn start(table: [u64; 2048], header: Header, events: usize) -> Opened
             Opened {
                 table: table,
                 header: header,
-                monitor: Monitor {
+                follower: Monitor {
                     opening: opening,
                     estimator: estimator,
                     enforcer: enforcer,

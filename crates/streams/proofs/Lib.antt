@@ -1,2 +1,3 @@
 -- Laws that belong to no one function.
 pub mod Fetching
+pub mod Feeding

@@ -2,6 +2,7 @@
 // of an input are. The modules stand beside one another.
 #![tactic(auto)]
 
+pub mod following; // event bytes are followed as they are read
 pub mod reads; // bytes are read, and the first ones gathered
 pub mod writes; // lines are written out, and the one line of a refused log
 
@@ -19,4 +20,30 @@ pub enum Gathered {
     Bytes(usize),
     All(usize),
     Failed,
+}
+
+// What follows the bytes of a log, after the events among its first ones, and how many event bytes the log may still have.
+#[derive(Clone, Copy)]
+pub struct Begun<F> {
+    pub follower: F,
+    pub allowed: usize,
+}
+
+// Why no more is read.
+#[derive(Clone, Copy, PartialEq, Eq)]
+pub enum Ending {
+    // No more bytes are asked for: none behind them is looked at, and no further read is made.
+    Done,
+    // No more event bytes follow, or a log may have no more of them.
+    Ended,
+    // They could not be read.
+    Failed,
+}
+
+// What follows the bytes, after the last read, why it was the last, and how many bytes might still have been read.
+#[derive(Clone, Copy)]
+pub struct Rest<F> {
+    pub follower: F,
+    pub ending: Ending,
+    pub left: usize,
 }

@@ -1,11 +1,12 @@
 -- What was followed after one byte more, after some bytes and then others, and read after read. Assumes nothing.
 use Rattle.std.specs.Prelude.{Err, Ok, Result}
 use mathlib.Core.Path.{◌≡◌, refl, ap, sym, subst, ◌∙◌}
+use mathlib.Core.Bool.{Bool, false}
 use mathlib.Core.List.{List, [], ◌∷◌, ◌++◌, append_assoc, append-nil}
-use mathlib.Core.Logic.{◌⊎◌, inl, inr}
-use Prim.Native.Nat.{ℕ, suc, ◌+◌, ◌-◌, ◌≤◌, ◌<◌, min}
+use mathlib.Core.Logic.{inl, inr}
+use Prim.Native.Nat.{ℕ, suc, ◌+◌, ◌≤◌, ◌<◌}
 use native.Mathlib.Omega.{arith}
-use lib.ListN.{length, get_or, take, length-append, length-take}
+use lib.ListN.{length, get_or, take, length-append}
 use lib.Seq.{take-length, take-suc, length-take-le}
 use Rattle.automaton.specs.Run.{automaton_of, WellFormed}
 use Rattle.automaton.specs.declared.Header.{Header}
@@ -21,17 +22,12 @@ use Rattle.verifier.specs.Replies.{findings_by, said_by, refused-by, verdicts_by
 use Rattle.verifier.proofs.Growing.{grown_limits}
 use Rattle.leaks.specs.FirstLeaks.{AcceptedPart}
 use Rattle.leaks.proofs.Parts.{part_one, part_append, right_exists}
-use Rattle.leak_log.proofs.Beginnings.{fits}
-use Rattle.streams.specs.declared.Fetched.TheVariants as fetched
-use Rattle.witness_log.specs.Following.{After, On, Begins, Turning, brought, Fed}
+use Rattle.streams.specs.declared.Rest.{Rest}
+use Rattle.streams.specs.Following.{Feeding, stopped, ended, failed, more}
+use Rattle.witness_log.specs.Following.{After, On}
 use Rattle.witness_log.specs.declared.Followed.{Followed}
-use Rattle.witness_log.specs.declared.Reading.{Reading}
 use Rattle.verifier.specs.declared.Judgement.{Judgement}
 use Rattle.opacity.specs.declared.Verdict.{Verdict}
-
--- what a read brought can be counted
-pub few_follow : (accepted left n : ℕ) (input : List ℕ) → accepted + left ≤ 4294967295 → n ≤ left → accepted + length (take (n - 0) input) ≤ 4294967295
-few_follow accepted left n input a b = omega (arith, length-take (n - 0) input)
 
 module _ (t : List ℕ) (h : Header) where
   -- no byte more
@@ -125,62 +121,15 @@ module _ (t : List ℕ) (h : Header) where
         let e : i ≡ length bytes = omega (arith, a.among) in
         subst (λ (l : List ℕ). On t h self l now) (ap (λ (n : ℕ). take n bytes) e ∙ take-length bytes) a.on
 
-  -- ---- the first bytes
-
-  -- the events that a log may have, of those that are there
-  pub begins : (s f : Followed) (events : List ℕ) (n : ℕ) → n ≡ min (length events) 4294967295 → On t h s (take (n - 0) events) f
-      → Begins t h s events (record { followed = f; allowed = 4294967295 - n })
-  begins s f events n is x =
-      let there = fits events n is in
-      record { on = subst (λ (l : List ℕ). On t h s l f) there.bytes x; allowed = ap (λ (k : ℕ). 4294967295 - k) there.count }
-
   -- ---- reads
 
-  pub turn_brought : (s : Followed) (input : List ℕ) (left n : ℕ) (f : Followed) → (0 < n) × (n ≤ length input) × (n ≤ left)
-      → On t h s (take (n - 0) input) f → Turning t h left s input (record { followed = f; fetched = fetched.Bytes n })
-  turn_brought s input left n f b x =
-      let z : n - 0 ≡ n = omega arith in
-      brought b.0 b.1 b.2 (subst (λ (k : ℕ). On t h s (take k input) f) z x)
+  abbrev pub never : Followed → Bool
+  never f = false
 
-  pub few_brought : {left : ℕ} {s : Followed} {input : List ℕ} {r : Reading} (n : ℕ) → r.fetched ≡ fetched.Bytes n → Turning t h left s input r
-      → (0 < n) × (n ≤ length input) × (n ≤ left) × On t h s (take n input) r.followed
-  few_brought {s = s} {input = input} {r = r} n e (brought {n = k} some there fits b) =
-      let is : k ≡ n = cc in
-      (omega arith, omega arith, omega arith, subst (λ (i : ℕ). On t h s (take i input) r.followed) is b)
-  few_brought n e Turning.no_more = let z : ◌≡◌ {A = ℕ} 0 1 = cc in absurd (omega arith)
-  few_brought n e Turning.not_fetched = let z : ◌≡◌ {A = ℕ} 0 1 = cc in absurd (omega arith)
-
-  pub still : {left : ℕ} {s : Followed} {input : List ℕ} {r : Reading} → (r.fetched ≡ fetched.End) ⊎ (r.fetched ≡ fetched.Failed)
-      → Turning t h left s input r → r.followed ≡ s
-  still (inl e) (brought some there fits b) = let z : ◌≡◌ {A = ℕ} 0 1 = cc in absurd (omega arith)
-  still (inr e) (brought some there fits b) = let z : ◌≡◌ {A = ℕ} 0 1 = cc in absurd (omega arith)
-  still e Turning.no_more = refl
-  still e Turning.not_fetched = refl
-
-  -- the reads so far
-  pub record SoFar (left : ℕ) (s : Followed) (rest : ℕ) (now : Followed) : Type 0 where
-    pub bytes : List ℕ
-    pub read : rest + length bytes ≡ left
-    pub on : On t h s bytes now
-
-  pub so_start : {left : ℕ} {s : Followed} → SoFar left s left s
-  so_start {s = s} = record { bytes = []; read = omega arith; on = on_start s }
-
-  pub so_few : {left : ℕ} {s : Followed} {rest : ℕ} {now : Followed} → SoFar left s rest now → s.accepted + left ≤ 4294967295
-      → now.accepted + rest ≤ 4294967295
-  so_few so few = omega (arith, so.read, so.on.few)
-
-  pub so_more : {left : ℕ} {s : Followed} {rest : ℕ} {now : Followed} {input : List ℕ} {r : Reading} (n : ℕ) → SoFar left s rest now
-      → Turning t h rest now input r → r.fetched ≡ fetched.Bytes n → SoFar left s (rest - n) r.followed
-  so_more {s = s} {now = now} {input = input} {r = r} n so turned e =
-      let b = few_brought n e turned in
-      record {
-        bytes = so.bytes ++ take n input;
-        read = omega (arith, so.read, b.2, length-append so.bytes (take n input), length-take-le n input b.1);
-        on = on_then s now r.followed so.bytes (take n input) so.on b.3;
-      }
-
-  pub fed : {left : ℕ} {s : Followed} {rest : ℕ} {now : Followed} {input : List ℕ} {r : Reading} → SoFar left s rest now
-      → Turning t h rest now input r → r.fetched ≡ fetched.End → Fed t h left s (record { followed = r.followed; left = rest })
-  fed {s = s} {r = r} so turned e =
-      record { bytes = so.bytes; read = so.read; on = subst (On t h s so.bytes) (sym (still (inl e) turned)) so.on }
+  -- ALL THAT WAS READ IS FOLLOWED, IN ORDER
+  pub feeding_on : {left : ℕ} {s : Followed} {bytes : List ℕ} {r : Rest Followed} → Feeding (On t h) never left s bytes r → On t h s bytes r.follower
+  feeding_on {s = s} (stopped e) = on_start s
+  feeding_on {s = s} (ended e) = on_start s
+  feeding_on {s = s} (failed e) = on_start s
+  feeding_on {s = s} {r = r} (more {n = n} {m = m} input {later = later} e some there fits x y) =
+      on_then s m r.follower (take n input) later x (feeding_on y)

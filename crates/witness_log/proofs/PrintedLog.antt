@@ -36,24 +36,24 @@ use Rattle.monitor.proofs.LogOutput.{take_is}
 use Rattle.leak_log.specs.LeakOutput.{Refused}
 use Rattle.leak_log.specs.Opens.{Opening, opened}
 use Rattle.leak_log.proofs.Beginnings.{drop_take}
-use Rattle.leak_log.proofs.FedLeaks.{OnEvents, on_events, no_later, refuses, few_taken, begun_well_formed}
+use Rattle.leak_log.proofs.FedLeaks.{OnEvents, on_events, no_later, refuses, begun_well_formed}
 use Rattle.witness_log.specs.WitnessOutput as output
 use Rattle.witness_log.specs.WitnessOutput.{LineOf, LinesOf, none, more, Excuses, steps_of, Output}
-use Rattle.witness_log.specs.Following.{After, On, Begins, Fed}
+use Rattle.streams.specs.declared.Begun.{Begun}
+use Rattle.streams.specs.Following.{Begins}
+use Rattle.witness_log.specs.Following.{After, On}
 use Rattle.witness_log.specs.Putting.{PutOutput}
 use Rattle.witness_log.specs.Printing.{Stands, Ran, refused, ended, failed, Ready, ReadOn, put, not_read}
 use Rattle.witness_log.specs.declared.Followed.{Followed}
-use Rattle.witness_log.specs.declared.Begun.{Begun}
-use Rattle.witness_log.specs.declared.Rest.{Rest}
 
 -- ---- a log that has begun
 
 -- the events among the first bytes
-pub among_first : {t : List ℕ} {h : Header} {s : Followed} {b : Begun} (a n : ℕ) (input : List ℕ) → a ≤ n → n ≤ length input
-    → Begins t h s (take (n - a) (drop a input)) b → Begins t h s (drop a (take (n - 0) input)) b
+pub among_first : {t : List ℕ} {h : Header} {s : Followed} {b : Begun Followed} (a n : ℕ) (input : List ℕ) → a ≤ n → n ≤ length input
+    → Begins (On t h) s (take (n - a) (drop a input)) b → Begins (On t h) s (drop a (take (n - 0) input)) b
 among_first {t} {h} {s} {b} a n input l k x =
     let z : n ≡ n - 0 = omega arith in
-    subst (λ (e : List ℕ). Begins t h s e b) (drop_take a n input l k ∙ ap (λ (i : ℕ). drop a (take i input)) z) x
+    subst (λ (e : List ℕ). Begins (On t h) s e b) (drop_take a n input l k ∙ ap (λ (i : ℕ). drop a (take i input)) z) x
 
 abbrev pub start_of : Search → Followed
 start_of s = record { estimator = s.estimator; accepted = 0 }
@@ -68,20 +68,17 @@ first_after : (t : List ℕ) (h : Header) (s : Search) (events : List ℕ) (f : 
     → After t h events f
 first_after t h s events f begin x = x.exact (begun_well_formed Weak t h s begin) [] (start_after t h s begin)
 
-few_counted : (accepted events allowed most : ℕ) → accepted ≤ 0 + events → allowed ≡ most - events → events ≤ most → accepted + allowed ≤ most
-few_counted accepted events allowed most a b c = omega arith
-
 -- it is ready to be read on
-pub ready : (first : List ℕ) (n : ℕ) (t : List ℕ) (h : Header) (s : Search) (b : Begun) (size : ℕ) → Opening Weak first (opening.started n) t h s
-    → Begins t h (start_of s) (drop n first) b → 766656 ≤ size → Ready t h b size
-ready first n t h s b size (opened whole d begin) x room =
+pub ready : (first : List ℕ) (n : ℕ) (t : List ℕ) (h : Header) (s : Search) (b : Begun Followed) (size : ℕ) → Opening Weak first (opening.started n) t h s
+    → Begins (On t h) (start_of s) (drop n first) b → b.follower.accepted + b.allowed ≤ 4294967295
+    → 766656 ≤ size → Ready t h b size
+ready first n t h s b size (opened whole d begin) x few room =
     let sound = begun_well_formed Weak t h s begin in
     record {
       well_formed = sound;
       bytes = take 4294967295 (drop (front_size first) first);
-      after = first_after t h s (take 4294967295 (drop (front_size first) first)) b.followed begin x.on;
-      few = few_counted b.followed.accepted (length (take 4294967295 (drop (front_size first) first))) b.allowed 4294967295
-          x.on.few x.allowed (few_taken 4294967295 (drop (front_size first) first));
+      after = first_after t h s (take 4294967295 (drop (front_size first) first)) b.follower begin x.on;
+      few = few;
       room = room;
     }
 
@@ -89,11 +86,6 @@ ready first n t h s b size (opened whole d begin) x room =
 pub after_usable : {t : List ℕ} {h : Header} {bytes : List ℕ} {f : Followed} → WellFormed t h → After t h bytes f → Usable t h f.estimator
 after_usable {t} {h} {f = f} sound a =
     (sound, grown_limits (automaton_of t h) (look_back_of h f.estimator.further) a.trace f.estimator a.grown sound.symbols_small)
-
--- after the last read
-pub last_after : {t : List ℕ} {h : Header} {b : Begun} {size : ℕ} {r : Rest} (x : Ready t h b size) (fed : Fed t h b.allowed b.followed r)
-    → After t h (x.bytes ++ fed.bytes) r.followed
-last_after x fed = fed.on.exact x.well_formed x.bytes x.after
 
 -- ---- the lines over the trace
 
@@ -124,14 +116,14 @@ module _ (t : List ℕ) (h : Header) (trace : List ℕ) (s : Estimator) (g : Gro
 split_length : (most events bytes : ℕ) → events + bytes ≡ most → most - events - bytes ≡ 0
 split_length most events bytes e = omega arith
 
-module _ (first t : List ℕ) (h : Header) (s : Search) (b : Begun) (bytes : List ℕ) (f : Followed) (whole : front_size first ≤ length first)
+module _ (first t : List ℕ) (h : Header) (s : Search) (b : Begun Followed) (bytes : List ℕ) (f : Followed) (whole : front_size first ≤ length first)
     (decodes : Decodes first h accept t) (begin : Beginning Weak t h no_further nowhere s)
-    (begins : Begins t h (start_of s) (drop (front_size first) first) b) (few : length bytes ≤ b.allowed) (reads : On t h b.followed bytes f) where
+    (begins : Begins (On t h) (start_of s) (drop (front_size first) first) b) (few : length bytes ≤ b.allowed) (reads : On t h b.follower bytes f) where
   abbrev events : List ℕ
   events = take 4294967295 (drop (front_size first) first)
 
   followed : After t h (events ++ bytes) f
-  followed = reads.exact (begun_well_formed Weak t h s begin) events (first_after t h s events b.followed begin begins.on)
+  followed = reads.exact (begun_well_formed Weak t h s begin) events (first_after t h s events b.follower begin begins.on)
 
   split : (later : List ℕ) → OnEvents 4294967295 first bytes later t h
   split later = on_events 4294967295 first bytes later t h whole decodes (subst (λ (k : ℕ). length bytes ≤ k) begins.allowed few)
@@ -170,8 +162,8 @@ module _ (first t : List ℕ) (h : Header) (s : Search) (b : Begun) (bytes : Lis
 
 -- ---- the whole log
 
-pub ran_read : (first out : List ℕ) (n : ℕ) (t : List ℕ) (h : Header) (s : Search) (b : Begun) (r : ℕ) (out' : List ℕ)
-    → Opening Weak first (opening.started n) t h s → Begins t h (start_of s) (drop n first) b → ReadOn t h b out r out' → Ran first out r out'
+pub ran_read : (first out : List ℕ) (n : ℕ) (t : List ℕ) (h : Header) (s : Search) (b : Begun Followed) (r : ℕ) (out' : List ℕ)
+    → Opening Weak first (opening.started n) t h s → Begins (On t h) (start_of s) (drop n first) b → ReadOn t h b out r out' → Ran first out r out'
 ran_read first out n t h s b r out' (opened whole d begin) x (put {f = f} bytes few on o) =
     ended bytes (λ later end. read_stands first t h s b bytes f whole d begin x few on r out' o later end)
 ran_read first out n t h s b r out' (opened whole d begin) x not_read = failed

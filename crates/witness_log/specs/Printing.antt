@@ -9,7 +9,7 @@ use Rattle.witness_log.specs.WitnessOutput.{Output}
 use Rattle.witness_log.specs.Following.{After, On}
 use Rattle.witness_log.specs.Putting.{PutOutput}
 use Rattle.witness_log.specs.declared.Followed.{Followed}
-use Rattle.witness_log.specs.declared.Begun.{Begun}
+use Rattle.streams.specs.declared.Begun.{Begun}
 
 -- the first n bytes of the output are there, and are an output of an input
 pub record Stands (input : List ℕ) (n : ℕ) (out : List ℕ) : Type 0 where
@@ -35,15 +35,15 @@ pub data Leaves (out : List ℕ) : (n : ℕ) (out' : List ℕ) → Type 0 where
 -- ---- inside `run`
 
 -- a log that has begun: some event bytes were followed, and room is there for all lines
-pub record Ready (t : List ℕ) (h : Header) (b : Begun) (size : ℕ) : Type 0 where
+pub record Ready (t : List ℕ) (h : Header) (b : Begun Followed) (size : ℕ) : Type 0 where
   pub well_formed : WellFormed t h
   pub bytes : List ℕ
-  pub after : After t h bytes b.followed
-  pub few : b.followed.accepted + b.allowed ≤ 4294967295
+  pub after : After t h bytes b.follower
+  pub few : b.follower.accepted + b.allowed ≤ 4294967295
   pub room : 766656 ≤ size
 
 -- it is read on, and its lines are put; or a read failed
-pub data ReadOn (t : List ℕ) (h : Header) (b : Begun) (out : List ℕ) : (n : ℕ) (out' : List ℕ) → Type 0 where
-  put : {n : ℕ} {f : Followed} {out' : List ℕ} (bytes : List ℕ) → length bytes ≤ b.allowed → On t h b.followed bytes f → PutOutput t h f out' n
+pub data ReadOn (t : List ℕ) (h : Header) (b : Begun Followed) (out : List ℕ) : (n : ℕ) (out' : List ℕ) → Type 0 where
+  put : {n : ℕ} {f : Followed} {out' : List ℕ} (bytes : List ℕ) → length bytes ≤ b.allowed → On t h b.follower bytes f → PutOutput t h f out' n
       → ReadOn t h b out n out'
   not_read : ReadOn t h b out 0 out

@@ -6,17 +6,18 @@
 mod following; // the estimator follows event bytes
 mod telling; // the lines of what it has followed
 
-ghost use Rattle.std.specs.Prelude.{◌+◌, ◌-◌, ◌≤◌, IfSome, length, take};
-ghost use Rattle.witness_log.specs.Following.{Begins, Turning, Fed};
+ghost use Rattle.std.specs.Prelude.{false, ◌+◌, ◌-◌, ◌≤◌, length, take};
+ghost use Rattle.witness_log.specs.Following.{On, takes_fewer, takes_onward};
 ghost use Rattle.witness_log.specs.Printing.{Ready, ReadOn, Ran, Leaves};
 
 use automaton::Header;
 use following::follow;
 use leak_log::opening::open;
 use opacity::Notion;
-use streams::reads::{fetch, gather};
+use streams::following::Follower;
+use streams::reads::gather;
 use streams::writes::{flush, place};
-use streams::{Fetched, Gathered};
+use streams::{Begun, Ending, Gathered};
 use telling::put_output;
 use verifier::Estimator;
 
@@ -33,102 +34,31 @@ struct Followed {
     accepted: u32,
 }
 
-// After the events among the first bytes of a log, and how many event bytes the log may still have.
-#[derive(Clone, Copy)]
-struct Begun {
-    followed: Followed,
-    allowed: usize,
-}
+// It asks for bytes to the end of the input.
+impl Follower for Followed {
+    ghost Goes = { On };
 
-// After one more read, and what the read found.
-#[derive(Clone, Copy)]
-struct Reading {
-    followed: Followed,
-    fetched: Fetched,
-}
+    ghost done = { λ _. false };
 
-// After the last read, and how many bytes might still have been read.
-#[derive(Clone, Copy)]
-struct Rest {
-    followed: Followed,
-    left: usize,
-}
+    ghost Takes = { λ f n. f.accepted + n ≤ 4294967295 };
 
-// The events among the first bytes of a log. It has at most 4,294,967,295 event bytes (01), and the others count for nothing.
-fn begin(start: Followed, table: &[u64], header: Header, events: &[u8]) -> Begun
-    requires { start.accepted ≤ 0 }
-    ensures { Begins table.now header start events.now result }
-{
-    let n = events.len().min(u32::MAX as usize);
-    Begun {
-        followed: follow(start, table, header, &events[0..n]),
-        allowed: u32::MAX as usize - n,
+    ghost fewer = { takes_fewer };
+
+    ghost onward = { takes_onward };
+
+    fn is_done(self) -> bool {
+        false
     }
-}
 
-// One more read, of at most `left` bytes: they are followed, all of them in order.
-fn turn(
-    rt: &(impl Input + Eprint),
-    followed: Followed,
-    table: &[u64],
-    header: Header,
-    input: &mut [u8],
-    left: usize,
-) -> Reading
-    requires { followed.accepted + left ≤ 4294967295 }
-    ensures { Turning table.now header left followed input.new result }
-{
-    let fetched = fetch(rt, input, left);
-    match fetched {
-        Fetched::Bytes(n) => Reading {
-            followed: follow(followed, table, header, &input[0..n]),
-            fetched: Fetched::Bytes(n),
-        },
-        Fetched::End => Reading {
-            followed,
-            fetched: Fetched::End,
-        },
-        Fetched::Failed => Reading {
-            followed,
-            fetched: Fetched::Failed,
-        },
-    }
-}
-
-// Reads on to the end of the input, at most `left` bytes. None where a read failed.
-fn all(
-    rt: &(impl Input + Eprint),
-    followed: Followed,
-    table: &[u64],
-    header: Header,
-    input: &mut [u8],
-    left: usize,
-) -> Option<Rest>
-    requires { followed.accepted + left ≤ 4294967295 }
-    ensures { IfSome result (λ rest. Fed table.now header left followed rest) }
-{
-    let mut now = followed;
-    let mut rest = left;
-    loop {
-        let one = turn(rt, now, table, header, input, rest);
-        now = one.followed;
-        match one.fetched {
-            Fetched::Bytes(n) => rest -= n,
-            Fetched::End => {
-                return Some(Rest {
-                    followed: now,
-                    left: rest,
-                });
-            }
-            Fetched::Failed => return None,
-        }
+    fn follow(self, table: &[u64], header: Header, bytes: &[u8]) -> Followed {
+        follow(self, table, header, bytes)
     }
 }
 
 // A log that has begun is read on, and its lines are put to the front of the output. It says how many bytes they have: none where a read failed.
 fn read_on(
     rt: &(impl Input + Eprint),
-    begun: Begun,
+    begun: Begun<Followed>,
     table: &[u64],
     header: Header,
     input: &mut [u8],
@@ -137,10 +67,11 @@ fn read_on(
     requires { Ready table.now header begun (length out.old) }
     ensures { ReadOn table.now header begun out.old result out.new }
 {
-    let Some(rest) = all(rt, begun.followed, table, header, input, begun.allowed) else {
+    let rest = streams::following::read_on(rt, begun.follower, table, header, input, begun.allowed);
+    if rest.ending == Ending::Failed {
         return 0;
-    };
-    put_output(rest.followed, table, header, out)
+    }
+    put_output(rest.follower, table, header, out)
 }
 
 // A log whose first `n` bytes are there. It says how many bytes at the front of the output are to be written out.
@@ -153,10 +84,15 @@ fn run(rt: &(impl Input + Eprint), input: &mut [u8], n: usize, out: &mut [u8]) -
         Err(refusal) => place(report::refused_log(out, 0, refusal)),
         Ok(first) => {
             let start = Followed {
-                estimator: opened.search.estimator,
+                estimator: opened.follower.estimator,
                 accepted: 0,
             };
-            let begun = begin(start, &opened.table, opened.header, &input[first..n]);
+            let begun = streams::following::begin(
+                start,
+                &opened.table,
+                opened.header,
+                &input[first..n],
+            );
             read_on(rt, begun, &opened.table, opened.header, input, out)
         }
     }

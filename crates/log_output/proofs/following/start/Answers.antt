@@ -10,13 +10,13 @@ pub returns-in-Err : goal.returns-in-Err
 returns-in-Err g c =
     let called = c.open-opened in
     not_opened c.in-Err.refusal
-    (subst (λ (r : Result ℕ Refusal). Opening c.args.log.now (open_outcome r) called.result.table called.result.header called.result.monitor)
+    (subst (λ (r : Result ℕ Refusal). Opening c.args.log.now (open_outcome r) called.result.table called.result.header called.result.follower)
     c.in-Err.is called.ensures) refl c.refuse.ensures
 
 pub returns-in-Ok : goal.returns-in-Ok
 returns-in-Ok g c =
     let a = c.args in
     let called = c.open-opened in
-    let o = subst (λ (r : Result ℕ Refusal). Opening a.log.now (open_outcome r) called.result.table called.result.header called.result.monitor)
+    let o = subst (λ (r : Result ℕ Refusal). Opening a.log.now (open_outcome r) called.result.table called.result.header called.result.follower)
     c.in-Ok.is called.ensures in
     opened o (λ room. begins a.log.now a.out.now c.in-Ok.first o room c.follow-progress.ensures)

@@ -1,0 +1,26 @@
+use Rattle.std.proofs.Common.{arith, rules, subst, sym, ◌-◌, ◌∙◌}
+use Rattle.streams.specs.Following.{stopped, ended, failed}
+use Rattle.streams.proofs.Feeding.{some_brought, rest_of, so_more, fed_by}
+use Rattle.streams.proofs.following.read_on.Goals as goal
+
+pub loop-header-preserved : goal.loop-header-preserved
+loop-header-preserved g c =
+    let so = c.loop-header.invariant in
+    let n = c.in-Bytes.n in
+    let brought = some_brought c.in-Bytes.is c.fetch.ensures in
+    let input = c.fetch.new.input in (
+      search rules,
+      omega (arith, so.1),
+      g.met.F.Follower.onward c.args.table.now c.args.header c.loop-header.now c.follow-now.result _ (c.loop-header.rest - n) c.follow-now.ensures
+          (subst (g.F.Follower.Takes c.loop-header.now) (sym (rest_of input n c.loop-header.rest brought)) so.2),
+      so_more input n so.3 (sym c.is_done.ensures ∙ c.loop-header-test.true) brought c.follow-now.ensures,
+    )
+
+pub returns-in-End-clause-fed : goal.returns-in-End-clause-fed
+returns-in-End-clause-fed g c = fed_by c.loop-header.invariant.3 (ended (sym c.is_done.ensures ∙ c.loop-header-test.true))
+
+pub returns-in-Failed-clause-fed : goal.returns-in-Failed-clause-fed
+returns-in-Failed-clause-fed g c = fed_by c.loop-header.invariant.3 (failed (sym c.is_done.ensures ∙ c.loop-header-test.true))
+
+pub returns-clause-fed : goal.returns-clause-fed
+returns-clause-fed g c = fed_by c.loop-header.invariant.3 (stopped (sym c.is_done.ensures ∙ c.loop-header-test.false))

@@ -14,8 +14,8 @@ use automaton::Header;
 use opacity::Verdict;
 
 // The unobservable events the other way round, where a look back over `last` steps needs them: where it takes no step, it does not, and the array stays.
-pub fn backward_rows(silent: &[u64], states: u64, last: u8, back: &mut [u64])
-    requires { (length silent.now ≡ 64) × (back.old ≡ replicate 64 0) }
+pub fn backward_rows(silent: &[u64; 64], states: u64, last: u8, back: &mut [u64; 64])
+    requires { back.old ≡ replicate 64 0 }
     ensures { 0 < last → (p : Automaton) → Closed p states silent.now → Entered p states back.new }
 {
     if last == 0 {
@@ -27,8 +27,7 @@ pub fn backward_rows(silent: &[u64], states: u64, last: u8, back: &mut [u64])
 // The possible states, those in which runs can be and that are in `then`: source 000's m(l), where `then` has the states that the last l symbols can
 // follow. One that is not secret is excuse enough: where there is one right after the symbol, the states right after it are given alone, and nothing is
 // closed.
-fn possible_states(silent: &[u64], states: u64, entry: u64, then: u64, secret: u64) -> u64
-    requires { length silent.now ≡ 64 }
+fn possible_states(silent: &[u64; 64], states: u64, entry: u64, then: u64, secret: u64) -> u64
     ensures { (p : Automaton) (trace : List ℕ) → p.initial ≤ 63 → Closed p states silent.now → Sub entry states
         → Is entry (Enters p trace) → Sampled secret then (Arrives p trace) result }
 {
@@ -48,8 +47,8 @@ pub fn weak_verdict(
     table: &[u64],
     header: Header,
     sets: &[u32],
-    silent: &[u64],
-    back: &[u64],
+    silent: &[u64; 64],
+    back: &[u64; 64],
     states: u64,
     estimate: u64,
     secret: u64,
@@ -93,8 +92,8 @@ pub fn strong_verdict(
     table: &[u64],
     header: Header,
     sets: &[u32],
-    silent: &[u64],
-    back: &[u64],
+    silent: &[u64; 64],
+    back: &[u64; 64],
     states: u64,
     secret: u64,
 ) -> Verdict
@@ -125,13 +124,13 @@ pub fn delayed_estimates(
     table: &[u64],
     header: Header,
     sets: &[u32],
-    silent: &[u64],
-    back: &[u64],
+    silent: &[u64; 64],
+    back: &[u64; 64],
     estimate: Estimate,
-    past: &mut [u64],
+    past: &mut [u64; 16],
 )
     requires { Prepared table.now header sets.now remembered.entries silent.now back.now estimate.near remembered.count
-        × UnobservableReach (automaton_of table.now header) (get_or remembered.entries 0 0) estimate.states × (length past.old ≡ 16) }
+        × UnobservableReach (automaton_of table.now header) (get_or remembered.entries 0 0) estimate.states }
     ensures { Delayed (automaton_of table.now header) remembered.symbols remembered.entries remembered.count past.new }
 {
     let near = estimate.near;
@@ -147,8 +146,8 @@ pub fn delayed_estimates(
 
 // The weak verdict of one secret from these sets: as `weak_verdict` takes its steps, l from 0 upward, and leak l at the first l for which all of m(l) is
 // secret.
-pub fn first_secret(past: &[u64], secret: u64, last: u8) -> Verdict
-    requires { (length past.now ≡ 16) × (last ≤ 15) }
+pub fn first_secret(past: &[u64; 16], secret: u64, last: u8) -> Verdict
+    requires { last ≤ 15 }
     ensures { (p : Automaton) (symbols entries : List ℕ) (n : ℕ) → Delayed p symbols entries n past.now → last ≤ n
         → Found notion.Weak p (secret_of secret last) n symbols entries result }
 {

@@ -10,11 +10,8 @@ returns c = λ some. absurd (omega (arith, some, c.if-last-eq0.true))
 silent-back-requires : tie.Need-silent_back-requires
 silent-back-requires c κs = search rules
 
-same_length : tie.Need-shape_of-back
-same_length c = search rules
-
 returns-2 : tie.Need-returns
 returns-2 c = λ some. c.silent_back.ensures
 
 pub backward_rows_spec : {M : Type 1} → statement M
-backward_rows_spec = tie.close (tie.spec returns silent-back-requires same_length returns-2)
+backward_rows_spec = tie.close (tie.spec returns silent-back-requires returns-2)

@@ -27,13 +27,12 @@ loop-l-init c = (
   past_start _ _ _ _ _ _ _ _ (set c.args.past.now 0 c.args.estimate.states),
   omega arith,
   c.requires.0.few,
-  length-set c.args.past.now 0 c.args.estimate.states ∙ c.requires.2,
+  omega (arith, length-set c.args.past.now 0 c.args.estimate.states),
 )
 
 pub backward_reach-then-requires : goal.backward_reach-then-requires
 backward_reach-then-requires c = (
   c.requires.0.words,
-  (c.requires.0.looks.back_are (omega arith)).size,
   λ e i. ((c.events_with-shown.ensures _ c.requires.0.looks.symbols_small c.requires.0.looks.sets_are).sound e i).0,
 )
 
@@ -59,7 +58,7 @@ pub returns : goal.returns
 returns c =
     let s = c.loop-l in
     let first : get_or (set c.args.past.now 0 c.args.estimate.states) 0 0 ≡ c.args.estimate.states =
-    get_or-set_same c.args.past.now 0 _ 0 (omega (arith, c.requires.2)) in
+    get_or-set_same c.args.past.now 0 _ 0 (omega arith) in
     record {
       size = s.invariant.4;
       are = λ trace l h m. s.invariant.1 _ trace l c.requires.0.looks

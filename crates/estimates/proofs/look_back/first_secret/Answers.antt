@@ -35,7 +35,7 @@ returns-then-excuse-eq0 c = λ p symbols entries n d few.
           let m = remembers_part whole a.last few in
           below_leak Weak _ (secret_of a.secret a.last) trace _ (omega arith) m.reached (s.invariant.0 p _ _ n trace d few m)
           (decided_sure _ _ trace _ _ (past_by _ _ a.secret s.l (omega arith) p _ _ n trace d few m)
-          (none_outside (get_or a.past.now s.l 0) a.secret (c.type_inv.past s.l).fits c.ranges.secret.fits none));
+          (none_outside (get_or a.past.now s.l 0) a.secret (omega arith) c.ranges.secret.fits none));
     }
 
 pub loop-l-preserved : goal.loop-l-preserved

@@ -43,7 +43,7 @@ returns-then-remembered-at-eq0 c =
 pub backward_reach-then-requires : goal.backward_reach-then-requires
 backward_reach-then-requires c =
     let g = c.requires.looks in
-    (c.requires.words, (g.back_are (omega arith)).size, λ e i. ((c.events_with-shown.ensures _ g.symbols_small g.sets_are).sound e i).0)
+    (c.requires.words, λ e i. ((c.events_with-shown.ensures _ g.symbols_small g.sets_are).sound e i).0)
 
 -- and the loop takes up step l + 1
 pub loop-l-preserved : goal.loop-l-preserved

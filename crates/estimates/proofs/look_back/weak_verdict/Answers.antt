@@ -56,7 +56,7 @@ below_next c p trace g m r =
 pub backward_reach-then-requires : goal.backward_reach-then-requires
 backward_reach-then-requires c =
     let g = c.requires.0.looks in
-    (c.requires.0.words, (g.back_are (omega arith)).size, λ e i. ((c.events_with-shown.ensures _ g.symbols_small g.sets_are).sound e i).0)
+    (c.requires.0.words, λ e i. ((c.events_with-shown.ensures _ g.symbols_small g.sets_are).sound e i).0)
 
 -- and the loop takes up step l + 1, with a part of m(l + 1) that decides
 pub steps-preserved : goal.steps-preserved

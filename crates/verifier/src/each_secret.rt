@@ -23,8 +23,8 @@ fn judge_alone(
     table: &[u64],
     header: Header,
     sets: &[u32],
-    silent: &[u64],
-    back: &[u64],
+    silent: &[u64; 64],
+    back: &[u64; 64],
     estimate: Estimate,
     asked: Asked,
 ) -> Verdicts
@@ -64,12 +64,12 @@ fn judge(
     estimator: Estimator,
     table: &[u64],
     header: Header,
-    past: &[u64],
+    past: &[u64; 16],
     secret: Secret,
     found: Verdict,
     asked: Asked,
 ) -> Verdicts
-    requires { (estimator.count ≤ 15) × (length past.now ≡ 16)
+    requires { (estimator.count ≤ 15)
         × (Asks notion.Weak asked → Delayed (automaton_of table.now header) estimator.symbols estimator.entries estimator.count past.now)
         × StrongGiven table.now header estimator asked secret found }
     ensures { Judged table.now header estimator secret asked result }
@@ -91,16 +91,16 @@ fn shared_estimates(
     table: &[u64],
     header: Header,
     sets: &[u32],
-    silent: &[u64],
-    back: &[u64],
+    silent: &[u64; 64],
+    back: &[u64; 64],
     estimate: Estimate,
-    past: &mut [u64],
+    past: &mut [u64; 16],
     asked: Asked,
 )
     requires { PreparedFor table.now header sets.now estimator silent.now back.now estimate.near
-        × UnobservableReach (automaton_of table.now header) (get_or estimator.entries 0 0) estimate.states × (length past.old ≡ 16) }
-    ensures { (length past.new ≡ 16) × (Asks notion.Weak asked
-        → Delayed (automaton_of table.now header) estimator.symbols estimator.entries estimator.count past.new) }
+        × UnobservableReach (automaton_of table.now header) (get_or estimator.entries 0 0) estimate.states }
+    ensures { Asks notion.Weak asked
+        → Delayed (automaton_of table.now header) estimator.symbols estimator.entries estimator.count past.new }
 {
     if !asked.weak {
         return;
@@ -117,12 +117,12 @@ impl Estimator {
         self,
         table: &[u64],
         header: Header,
-        past: &[u64],
+        past: &[u64; 16],
         i: u8,
         found: Verdict,
         asked: Asked,
     ) -> Verdicts
-        requires { (self.count ≤ 15) × (self.further.count ≤ 3) × (length past.now ≡ 16)
+        requires { (self.count ≤ 15) × (self.further.count ≤ 3)
             × (Asks notion.Weak asked → Delayed (automaton_of table.now header) self.symbols self.entries self.count past.now)
             × (i ≤ self.further.count → StrongGiven table.now header self asked (secret_at (secrets_of header self.further) i) found) }
         ensures { JudgedAt table.now header self asked i result }
@@ -143,11 +143,11 @@ impl Estimator {
         self,
         table: &[u64],
         header: Header,
-        past: &[u64],
+        past: &[u64; 16],
         found: EachSecret<Verdict>,
         asked: Asked,
     ) -> EachSecret<Verdicts>
-        requires { (self.count ≤ 15) × (self.further.count ≤ 3) × (length past.now ≡ 16)
+        requires { (self.count ≤ 15) × (self.further.count ≤ 3)
             × (Asks notion.Weak asked → Delayed (automaton_of table.now header) self.symbols self.entries self.count past.now)
             × StrongEach table.now header self asked found }
         ensures { JudgedAll table.now header self asked result }
@@ -174,8 +174,8 @@ impl Estimator {
         table: &[u64],
         header: Header,
         sets: &[u32],
-        silent: &[u64],
-        back: &[u64],
+        silent: &[u64; 64],
+        back: &[u64; 64],
         estimate: Estimate,
         asked: Asked,
     ) -> EachSecret<Verdicts>
@@ -206,8 +206,8 @@ impl Estimator {
         table: &[u64],
         header: Header,
         sets: &[u32],
-        silent: &[u64],
-        back: &[u64],
+        silent: &[u64; 64],
+        back: &[u64; 64],
         estimate: Estimate,
         asked: Asked,
     ) -> EachSecret<Verdicts>
@@ -237,8 +237,8 @@ impl Estimator {
         table: &[u64],
         header: Header,
         sets: &[u32],
-        silent: &[u64],
-        back: &mut [u64],
+        silent: &[u64; 64],
+        back: &mut [u64; 64],
         estimate: Estimate,
         asked: Asked,
     ) -> Judgement<Verdicts>

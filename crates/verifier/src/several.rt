@@ -56,8 +56,8 @@ fn strong_verdicts(
     table: &[u64],
     header: Header,
     sets: &[u32],
-    silent: &[u64],
-    back: &[u64],
+    silent: &[u64; 64],
+    back: &[u64; 64],
     states: u64,
     clear: StateSets,
 ) -> EachSecret<Verdict>
@@ -98,8 +98,8 @@ pub(crate) fn strong_each(
     table: &[u64],
     header: Header,
     sets: &[u32],
-    silent: &[u64],
-    back: &[u64],
+    silent: &[u64; 64],
+    back: &[u64; 64],
     states: u64,
     asked: Asked,
 ) -> EachSecret<Verdict>

@@ -85,9 +85,6 @@ silent-rows-requires c κs = ((ok c.before.before.before.before.before.before.be
 element-copy-out-newest : tie.Need-bounds-self-0
 element-copy-out-newest c = search rules
 
-slice-aggregate-next-estimate : tie.Need-slice_bounds-next_estimate-end
-slice-aggregate-next-estimate c = search rules
-
 next-estimate-requires : tie.Need-next_estimate-next-requires
 next-estimate-requires c κs =
     let o = ok (first c.before.before.before.before.before.before.before) in (
@@ -109,10 +106,10 @@ refused-requires-3 c κs = search rules
 returns-3 : tie.Need-returns-in_default
 returns-3 c =
     let r = c.refused-in_default.ensures in
-    let o = ok (first c.before.before.before.before.before.before.before.before.before.before.before) in
+    let o = ok (first c.before.before.before.before.before.before.before.before.before.before) in
     refused_asked _ _ _ _ _ refusal.Incompatible _ r.0 r.1
-    (incompatible o.0 o.1 (observed c.before.before.before.before.before.before.before.before.before.before.before)
-    (λ trace g. none_left (c.next_estimate-next.ensures _ (showing c.before.before.before.before.before.before.before.before.before.before.before.before)) c.in_default.is trace
+    (incompatible o.0 o.1 (observed c.before.before.before.before.before.before.before.before.before.before)
+    (λ trace g. none_left (c.next_estimate-next.ensures _ (showing c.before.before.before.before.before.before.before.before.before.before.before)) c.in_default.is trace
     (grown_entry _ _ trace _ g)))
 
 look-back-requires : tie.Need-look_back-k-requires
@@ -120,11 +117,11 @@ look-back-requires c κs = search rules
 
 push-requires : tie.Need-push-after-requires
 push-requires c κs =
-    let o = ok (first c.before.before.before.before.before.before.before.before.before.before.before.before) in
+    let o = ok (first c.before.before.before.before.before.before.before.before.before.before.before) in
     let a = c.args in
     let K = c.look_back-k.ensures in (
       omega (arith, K, look_back_small a.header a.self.further o.0.back o.1.allowed),
-      observable_small a.table.now _ _ o.0 (observed c.before.before.before.before.before.before.before.before.before.before.before.before),
+      observable_small a.table.now _ _ o.0 (observed c.before.before.before.before.before.before.before.before.before.before.before),
       subst (λ (n : ℕ). Limits n a.self) (sym K) o.1,
     )
 
@@ -132,17 +129,11 @@ slice-aggregate-assess : tie.Need-slice_bounds-assess-end
 slice-aggregate-assess c =
     sym (c.by_symbol.ensures []).size
 
-slice-aggregate-assess-2 : tie.Need-slice_bounds-assess-end-2
-slice-aggregate-assess-2 c = search rules
-
-slice-aggregate-assess-3 : tie.Need-slice_bounds-assess-end-3
-slice-aggregate-assess-3 c = search rules
-
 assess-requires : tie.Need-assess-judgement-requires
 assess-requires c κs =
-    let o = ok (first c.before.before.before.before.before.before.before.before.before.before.before.before.before.before.before.before) in
+    let o = ok (first c.before.before.before.before.before.before.before.before.before.before.before.before.before.before.before) in
     let a = c.args in
-    let x = some_left (c.next_estimate-next.ensures _ (showing c.before.before.before.before.before.before.before.before.before.before.before.before.before.before.before.before.before)) c.in-Some.is in
+    let x = some_left (c.next_estimate-next.ensures _ (showing c.before.before.before.before.before.before.before.before.before.before.before.before.before.before.before.before)) c.in-Some.is in
     let after = c.push-after.ensures in (
       record {
         well_formed = o.0;
@@ -160,11 +151,11 @@ assess-requires c κs =
 returns-4 : tie.Need-returns
 returns-4 c =
     let a = c.args in
-    let o = ok (first c.before.before.before.before.before.before.before.before.before.before.before.before.before.before.before.before.before.before) in
-    let x = some_left (c.next_estimate-next.ensures _ (showing c.before.before.before.before.before.before.before.before.before.before.before.before.before.before.before.before.before.before.before)) c.in-Some.is in
+    let o = ok (first c.before.before.before.before.before.before.before.before.before.before.before.before.before.before.before.before) in
+    let x = some_left (c.next_estimate-next.ensures _ (showing c.before.before.before.before.before.before.before.before.before.before.before.before.before.before.before.before.before)) c.in-Some.is in
     let after = c.push-after.ensures in
     let moved : Moved a.table.now a.header a.self a.symbol c.assess-judgement.result.size c.push-after.result =
-    moved_by _ _ _ _ _ _ _ _ _ _ o.0 o.1 (observed c.before.before.before.before.before.before.before.before.before.before.before.before.before.before.before.before.before.before) x c.assess-judgement.ensures.1 c.look_back-k.ensures after.0 after.1
+    moved_by _ _ _ _ _ _ _ _ _ _ o.0 o.1 (observed c.before.before.before.before.before.before.before.before.before.before.before.before.before.before.before.before) x c.assess-judgement.ensures.1 c.look_back-k.ensures after.0 after.1
     (λ trace g E y. after.4 _ trace g E y) in
     judged_by _ _ _ _ _ c.assess-judgement.result _ moved c.assess-judgement.ensures.0
 
@@ -185,7 +176,6 @@ accept_asked_spec =
     slice-aggregate-silent-rows
     silent-rows-requires
     element-copy-out-newest
-    slice-aggregate-next-estimate
     next-estimate-requires
     enum-known-next
     enum_told
@@ -194,7 +184,5 @@ accept_asked_spec =
     look-back-requires
     push-requires
     slice-aggregate-assess
-    slice-aggregate-assess-2
-    slice-aggregate-assess-3
     assess-requires
     returns-4)

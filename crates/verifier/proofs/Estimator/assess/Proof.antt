@@ -7,7 +7,7 @@ use Rattle.verifier.proofs.Estimator.assess.Statement.{statement}
 use Rattle.verifier.proofs.Estimator.assess.Tie as tie
 
 backward-rows-requires : tie.Need-backward_rows-requires
-backward-rows-requires c κs = let x = c.requires in (x.0.near.closed.size, x.1)
+backward-rows-requires c κs = c.requires.1
 
 judge-all-requires : tie.Need-judge_all-verdicts-requires
 judge-all-requires c κs =
@@ -30,11 +30,8 @@ judge-all-requires c κs =
       x.reach,
     )
 
-same_length : tie.Need-shape_of-back
-same_length c = search rules
-
 returns : tie.Need-returns
 returns c = (c.judge_all-verdicts.ensures, refl)
 
 pub assess_spec : {M : Type 1} → statement M
-assess_spec = tie.close (tie.spec backward-rows-requires judge-all-requires same_length returns)
+assess_spec = tie.close (tie.spec backward-rows-requires judge-all-requires returns)

@@ -23,10 +23,9 @@ judge-requires : tie.Need-judge-requires
 judge-requires c κs = (
   c.requires.0,
   c.requires.2,
-  c.requires.3,
   subst (λ (x : Secret). StrongGiven c.args.table.now c.args.header c.args.self c.args.asked x c.args.found)
       (sym c.secret_at-secret.ensures)
-      (c.requires.4 (omega (arith, c.if-self-i.false))),
+      (c.requires.3 (omega (arith, c.if-self-i.false))),
 )
 
 returns-2 : tie.Need-returns

@@ -4,23 +4,17 @@ use borrow.Author.Rules.{rules}
 use Rattle.verifier.proofs.Estimator.judge_each.Statement.{statement}
 use Rattle.verifier.proofs.Estimator.judge_each.Tie as tie
 
-slice-aggregate-shared-estimates : tie.Need-slice_bounds-shared_estimates-end
-slice-aggregate-shared-estimates c = search rules
-
 shared-estimates-requires : tie.Need-shared_estimates-requires
-shared-estimates-requires c κs = let x = c.requires in (x.0, x.1, refl)
+shared-estimates-requires c κs = let x = c.requires in (x.0, x.1)
 
 strong-each-requires : tie.Need-strong_each-found-requires
 strong-each-requires c κs = c.requires.0.prepared
-
-slice-aggregate-judge-places : tie.Need-slice_bounds-judge_places-end
-slice-aggregate-judge-places c = search rules
 
 judge-places-requires : tie.Need-judge_places-requires
 judge-places-requires c κs =
     let x = c.requires.0 in
     let shared = c.shared_estimates.ensures in
-    (x.prepared.few, x.limits.allowed.few, shared.0, shared.1, c.strong_each-found.ensures)
+    (x.prepared.few, x.limits.allowed.few, shared, c.strong_each-found.ensures)
 
 returns : tie.Need-returns
 returns c = c.judge_places.ensures
@@ -28,4 +22,4 @@ returns c = c.judge_places.ensures
 pub judge_each_spec : {M : Type 1} → statement M
 judge_each_spec =
     tie.close
-    (tie.spec slice-aggregate-shared-estimates shared-estimates-requires strong-each-requires slice-aggregate-judge-places judge-places-requires returns)
+    (tie.spec shared-estimates-requires strong-each-requires judge-places-requires returns)

@@ -5,16 +5,16 @@ use Rattle.verifier.proofs.Estimator.judge_places.Statement.{statement}
 use Rattle.verifier.proofs.Estimator.judge_places.Tie as tie
 
 judge-at-requires : tie.Need-judge_at-own-requires
-judge-at-requires c κs = let x = c.requires in (x.0, x.1, x.2, x.3, x.4 0 (omega arith))
+judge-at-requires c κs = let x = c.requires in (x.0, x.1, x.2, x.3 0 (omega arith))
 
 judge-at-requires-2 : tie.Need-judge_at-first-requires
-judge-at-requires-2 c κs = let x = c.requires in (x.0, x.1, x.2, x.3, x.4 1 (omega arith))
+judge-at-requires-2 c κs = let x = c.requires in (x.0, x.1, x.2, x.3 1 (omega arith))
 
 judge-at-requires-3 : tie.Need-judge_at-second-requires
-judge-at-requires-3 c κs = let x = c.requires in (x.0, x.1, x.2, x.3, x.4 2 (omega arith))
+judge-at-requires-3 c κs = let x = c.requires in (x.0, x.1, x.2, x.3 2 (omega arith))
 
 judge-at-requires-4 : tie.Need-judge_at-third-requires
-judge-at-requires-4 c κs = let x = c.requires in (x.0, x.1, x.2, x.3, x.4 3 (omega arith))
+judge-at-requires-4 c κs = let x = c.requires in (x.0, x.1, x.2, x.3 3 (omega arith))
 
 returns : tie.Need-returns
 returns c =

@@ -9,9 +9,6 @@ use Rattle.verifier.proofs.Estimator.opening.Tie as tie
 element-copy-out-entry : tie.Need-bounds-self-0
 element-copy-out-entry c = search rules
 
-slice-aggregate-estimate-from : tie.Need-slice_bounds-estimate_from-end
-slice-aggregate-estimate-from c = search rules
-
 estimate-from-requires : tie.Need-estimate_from-estimate-requires
 estimate-from-requires c κs = let o = c.requires.0 in (o.words, o.start, known_none _ _)
 
@@ -23,12 +20,6 @@ by-symbol-requires c κs = (c.requires.0.symbols_small, search rules)
 
 slice-aggregate-assess : tie.Need-slice_bounds-assess-end
 slice-aggregate-assess c = search rules
-
-slice-aggregate-assess-2 : tie.Need-slice_bounds-assess-end-2
-slice-aggregate-assess-2 c = search rules
-
-slice-aggregate-assess-3 : tie.Need-slice_bounds-assess-end-3
-slice-aggregate-assess-3 c = search rules
 
 assess-requires : tie.Need-assess-requires
 assess-requires c κs =
@@ -53,12 +44,9 @@ opening_spec =
     tie.close
     (tie.spec
     element-copy-out-entry
-    slice-aggregate-estimate-from
     estimate-from-requires
     slice-aggregate-by-symbol
     by-symbol-requires
     slice-aggregate-assess
-    slice-aggregate-assess-2
-    slice-aggregate-assess-3
     assess-requires
     returns)

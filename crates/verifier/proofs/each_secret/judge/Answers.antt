@@ -13,12 +13,12 @@ returns c =
     judged_both _ a.header a.estimator a.secret a.asked _ _
     (record {
       found = λ asks. elim c.if-asked.branch [
-        | then-asked w ↦ rw w.weak-is (found_last n (w.first_secret-weak.ensures _ _ _ _ (x.2 asks) (omega (arith, n))))
+        | then-asked w ↦ rw w.weak-is (found_last n (w.first_secret-weak.ensures _ _ _ _ (x.1 asks) (omega (arith, n))))
         | else-asked w ↦ absurd (not_both _ asks w.if-asked.false)
       ];
       silent = λ not. elim c.if-asked.branch [ then-asked w ↦ absurd (not w.if-asked.true) | else-asked w ↦ w.weak-is ];
     })
     (record {
-      found = λ asks. found_last n (c.up_to.ensures.1 Strong _ _ _ _ _ (omega (arith, n)) (x.3.found asks));
-      silent = λ not. c.up_to.ensures.0 (x.3.silent not);
+      found = λ asks. found_last n (c.up_to.ensures.1 Strong _ _ _ _ _ (omega (arith, n)) (x.2.found asks));
+      silent = λ not. c.up_to.ensures.0 (x.2.silent not);
     })

@@ -30,12 +30,12 @@ returns : tie.Need-returns-then-asked-2
 returns c =
     judged_both _ c.args.header c.args.estimator (own c.args.header) c.args.asked _ _
     (record {
-      found = λ asks. ⊎_elim (λ w. rw w.weak-is (found_last (all c.before.before.before.before.before.before.before.before) (found_of c.args.estimator c.remembered_of-remembered.ensures w.weak_verdict-weak.ensures)))
+      found = λ asks. ⊎_elim (λ w. rw w.weak-is (found_last (all c.before.before.before.before.before.before) (found_of c.args.estimator c.remembered_of-remembered.ensures w.weak_verdict-weak.ensures)))
           (λ w. absurd (not_both _ asks w.if-asked.false)) c.if-asked.branch-raw;
       silent = λ not. ⊎_elim (λ w. absurd (not w.if-asked.true)) (λ w. w.weak-is) c.if-asked.branch-raw;
     })
     (record {
-      found = λ asks. found_last (all c.before.before.before.before.before.before.before.before) (found_of c.args.estimator c.remembered_of-remembered.ensures c.strong_verdict-strong.ensures);
+      found = λ asks. found_last (all c.before.before.before.before.before.before) (found_of c.args.estimator c.remembered_of-remembered.ensures c.strong_verdict-strong.ensures);
       silent = λ not. absurd (not c.if-asked-2.true);
     })
 
@@ -43,7 +43,7 @@ returns-2 : tie.Need-returns-else-asked-2
 returns-2 c =
     judged_both _ c.args.header c.args.estimator (own c.args.header) c.args.asked _ _
     (record {
-      found = λ asks. ⊎_elim (λ w. rw w.weak-is (found_last (all c.before.before.before.before.before.before.before) (found_of c.args.estimator c.remembered_of-remembered.ensures w.weak_verdict-weak.ensures)))
+      found = λ asks. ⊎_elim (λ w. rw w.weak-is (found_last (all c.before.before.before.before.before) (found_of c.args.estimator c.remembered_of-remembered.ensures w.weak_verdict-weak.ensures)))
           (λ w. absurd (not_both _ asks w.if-asked.false)) c.if-asked.branch-raw;
       silent = λ not. ⊎_elim (λ w. absurd (not w.if-asked.true)) (λ w. w.weak-is) c.if-asked.branch-raw;
     })

@@ -47,7 +47,7 @@ loop-l-init c = record {
 pub backward_reaches-then-requires : goal.backward_reaches-then-requires
 backward_reaches-then-requires c =
     let g = c.requires.looks in
-    (c.requires.words, (g.back_are (omega arith)).size, λ e i. ((c.events_with-shown.ensures _ g.symbols_small g.sets_are).sound e i).0)
+    (c.requires.words, λ e i. ((c.events_with-shown.ensures _ g.symbols_small g.sets_are).sound e i).0)
 
 pub loop-l-preserved : goal.loop-l-preserved
 loop-l-preserved c =

@@ -266,7 +266,13 @@ impl Estimator {
 
     // Accepts one symbol, or hands back the estimator as it was. (01: "An event on which no run is left is turned back, and the watch stays.") Only
     // the verdicts that are asked for are found.
-    fn accept_asked(self, table: &[u64], header: Header, symbol: u8, asked: Asked) -> Reply<Verdicts>
+    fn accept_asked(
+        self,
+        table: &[u64],
+        header: Header,
+        symbol: u8,
+        asked: Asked,
+    ) -> Reply<Verdicts>
         ensures { AcceptingAsked asked table.now header self symbol result.answer result.estimator }
     {
         if !self.well_formed(table, header) {
@@ -310,7 +316,13 @@ impl Estimator {
     }
 
     // Accepts one symbol, with the verdict of each secret by one notion: an enforcer pays for the look backs of that notion alone.
-    pub fn accept_by(self, table: &[u64], header: Header, symbol: u8, notion: Notion) -> Reply<Verdict>
+    pub fn accept_by(
+        self,
+        table: &[u64],
+        header: Header,
+        symbol: u8,
+        notion: Notion,
+    ) -> Reply<Verdict>
         ensures { AcceptingBy notion table.now header self symbol (said_by self.further result.answer) result.estimator
             × OthersBy self.further result.answer }
     {

@@ -1,7 +1,6 @@
 -- `Estimator::assess` meets its contract: the look back from the estimate, and its number.
 use mathlib.Core.Path.{refl}
 use native.Mathlib.Omega.{arith}
-use borrow.Author.Rules.{rules}
 use Rattle.opacity.proofs.Numbering.{look_back_small}
 use Rattle.verifier.proofs.Estimator.assess.Statement.{statement}
 use Rattle.verifier.proofs.Estimator.assess.Tie as tie

@@ -1,6 +1,4 @@
 -- `Estimator::judge_each` meets its contract, with what the places share.
-use mathlib.Core.Path.{refl}
-use borrow.Author.Rules.{rules}
 use Rattle.verifier.proofs.Estimator.judge_each.Statement.{statement}
 use Rattle.verifier.proofs.Estimator.judge_each.Tie as tie
 

@@ -155,13 +155,12 @@ pub fn silent_rows(table: &[u64], header: Header, rows: &mut [u64], before: u64,
 }
 
 // Where an event may lead from each state: 64 words as they stand in the table.
-fn event_rows(table: &[u64], event: usize) -> &[u64]
+fn event_rows(table: &[u64], event: usize) -> &[u64; 64]
     requires { (length table.now ≡ 2048) × (event < 32) }
     ensures { result.now ≡ take 64 (drop (64 * event) table.now) }
 {
-    let from = 64 * event;
-    let to = from + 64;
-    &table[from..to]
+    let (rows, _) = table.as_chunks::<64>();
+    &rows[event]
 }
 
 // Where the events of a mask lead from the states of a set.
@@ -196,8 +195,7 @@ pub fn preimage_by<S: Sets>(table: &[u64], events: u64, steps: usize, set: S) ->
 }
 
 // The unobservable reach of an entry set: the states in which runs can be before the next observable event.
-pub fn unobservable_reach(silent: &[u64], states: u64, entry: u64) -> u64
-    requires { length silent.now ≡ 64 }
+pub fn unobservable_reach(silent: &[u64; 64], states: u64, entry: u64) -> u64
     ensures { (Sub entry states → Sub entry result)
         × ((p : Automaton) (trace : List ℕ) → p.initial ≤ 63 → Closed p states silent.now → Sub entry states
         → Is entry (Enters p trace) → Is result (Arrives p trace)) }
@@ -216,8 +214,14 @@ pub fn observable_reach(table: &[u64], events: u64, estimate: u64) -> u64
 
 // From the states that some symbols can follow, those that the same symbols can follow with one more before them, for each set through its own allowed
 // states alone.
-pub fn backward_reach<S: Sets>(table: &[u64], back: &[u64], allowed: S, events: u64, then: S) -> S
-    requires { (length table.now ≡ 2048) × (length back.now ≡ 64) × ((e : ℕ) → In e events → e < 32) }
+pub fn backward_reach<S: Sets>(
+    table: &[u64],
+    back: &[u64; 64],
+    allowed: S,
+    events: u64,
+    then: S,
+) -> S
+    requires { (length table.now ≡ 2048) × ((e : ℕ) → In e events → e < 32) }
     ensures { S.Each (λ i. (p : Automaton) (states : ℕ) (rest : List ℕ) (symbol : ℕ) → p.table ≡ table.now → Showing p symbol events
         → Entered p states back.now → Sub (S.at allowed i) states → Is (S.at then i) (Leaves p (S.at allowed i) rest)
         → Is (S.at result i) (Leaves p (S.at allowed i) (symbol ∷ rest))) }
@@ -228,8 +232,8 @@ pub fn backward_reach<S: Sets>(table: &[u64], back: &[u64], allowed: S, events: 
 }
 
 // The unobservable events the other way round, from states of the set. (To a lent slice: an array that is handed back would be copied.)
-pub fn silent_back(silent: &[u64], states: u64, back: &mut [u64])
-    requires { (length silent.now ≡ 64) × (back.old ≡ replicate 64 0) }
+pub fn silent_back(silent: &[u64; 64], states: u64, back: &mut [u64])
+    requires { back.old ≡ replicate 64 0 }
     ensures { (p : Automaton) → Closed p states silent.now → Entered p states back.new }
 {
     let few = stateset::bound(states);

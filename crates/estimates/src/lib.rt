@@ -65,7 +65,7 @@ pub fn entered(entries: [u64; 16]) -> u64
 pub fn estimate_from(
     table: &[u64],
     header: Header,
-    silent: &mut [u64],
+    silent: &mut [u64; 64],
     known: u64,
     from: u64,
     entry: u64,
@@ -87,7 +87,7 @@ pub fn estimate_from(
 pub fn next_estimate(
     table: &[u64],
     header: Header,
-    silent: &mut [u64],
+    silent: &mut [u64; 64],
     near: Reach,
     entry: u64,
     events: u64,

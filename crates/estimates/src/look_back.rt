@@ -54,7 +54,7 @@ fn possible_states(silent: &[u64; 64], states: u64, entry: u64, then: u64, secre
 
 impl<'a> LookBack<'a> {
     // One step further back, for one set or for several side by side, each through its own allowed states: from the states that the last l symbols can
-    // follow, those that l + 1 can. (`automaton` takes slices of any length, and a field is lent as what it is: so the two stand in variables.)
+    // follow, those that l + 1 can. (`events_with` takes a slice, and a field is lent as what it is: so the sets stand in a variable.)
     pub fn step_back<S: Sets>(self, allowed: S, l: usize, then: S) -> S
         requires { Ready self × (l < self.remembered.now.count) }
         ensures { S.Each (λ i. (n : ℕ) (trace : List ℕ) → l < n → LooksAt self.entry n trace → Sub (S.at allowed i) self.entry.states
@@ -62,9 +62,8 @@ impl<'a> LookBack<'a> {
             → Follows (looked_at self.entry) (S.at allowed i) trace (l + 1) (S.at result i)) }
     {
         let sets = self.sets;
-        let back = self.back;
         let shown = automaton::events_with(sets, self.remembered.symbols[l]);
-        automaton::backward_reach(self.table, back, allowed, shown, then)
+        automaton::backward_reach(self.table, self.back, allowed, shown, then)
     }
 
     // The least step back at which every possible state is secret, none where there is no such step. (01: "every moment of count n − l is in a
@@ -128,13 +127,12 @@ impl<'a> LookBack<'a> {
         requires { Ready self × Begins self }
         ensures { DelayedBy self.entry past.new }
     {
-        let silent = self.silent;
         past[0] = self.estimate;
         let mut then = self.states;
         for l in 0..usize::from(self.remembered.count) {
             then = self.step_back(self.states, l, then);
             let entry = self.remembered.entries[l + 1];
-            past[l + 1] = automaton::unobservable_reach(silent, self.states, entry) & then;
+            past[l + 1] = automaton::unobservable_reach(self.silent, self.states, entry) & then;
         }
     }
 }

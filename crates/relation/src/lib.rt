@@ -33,8 +33,8 @@ pub fn put_rows(rows: &mut [u64], first: usize, eight: [u64; 8]) -> u64
 
 // One round of `transpose`: the digit of weight j of a bit's number and the highest digit of its row's number change places, and the row's
 // digits move up by one, so that the new one stands lowest. (So in every round the words i and 32 + i make the words 2 i and 2 i + 1.)
-fn swap_digit(rows: &[u64], j: usize, mask: u64) -> [u64; 64]
-    requires { (length rows.now ≡ 64) × (0 < j) × (j ≤ 32) × Masks j mask }
+fn swap_digit(rows: &[u64; 64], j: usize, mask: u64) -> [u64; 64]
+    requires { (0 < j) × (j ≤ 32) × Masks j mask }
     ensures { Swapped j rows.now result }
 {
     let mut out = [0u64; 64];
@@ -48,8 +48,7 @@ fn swap_digit(rows: &[u64], j: usize, mask: u64) -> [u64; 64]
 }
 
 // The relation the other way round, in six rounds whatever the rows hold: a round for each of the six digits of a bit's and a row's number.
-pub fn transpose(rows: &[u64]) -> [u64; 64]
-    requires { length rows.now ≡ 64 }
+pub fn transpose(rows: &[u64; 64]) -> [u64; 64]
     ensures { Rows result (λ q p. Row rows.now p q) }
 {
     let a = swap_digit(rows, 32, 0x0000_0000_ffff_ffff);
@@ -61,8 +60,8 @@ pub fn transpose(rows: &[u64]) -> [u64; 64]
 }
 
 // The relation the other way round, from the first `few` states alone: a bit at a time, which is fast where they are few.
-pub fn transpose_few(rows: &[u64], few: usize, out: &mut [u64])
-    requires { (length rows.now ≡ 64) × (few ≤ 64) × (out.old ≡ replicate 64 0) }
+pub fn transpose_few(rows: &[u64; 64], few: usize, out: &mut [u64])
+    requires { (few ≤ 64) × (out.old ≡ replicate 64 0) }
     ensures { Rows out.new (λ q p. Row rows.now p q × (p < few)) }
 {
     for (p, row) in rows[..few].iter().enumerate() {
@@ -86,8 +85,8 @@ fn shift(r: u64, row: u64, set: u64) -> u64
 }
 
 // From which of two neighbours the relation leads into a set: bit 0 for the first, bit 1 for the second.
-fn pair(rows: &[u64], first: usize, set: u64) -> u64
-    requires { (length rows.now ≡ 64) × (first + 1 < 64) }
+fn pair(rows: &[u64; 64], first: usize, set: u64) -> u64
+    requires { first + 1 < 64 }
     ensures { Is result (λ d. (d < 2) × Preimage (Row rows.now) set (first + d)) }
 {
     let second = shift(0, rows[first + 1], set);
@@ -140,8 +139,8 @@ pub trait Sets: Copy {
         ensures { (below ≤ far result) × (far result ≤ 64) };
 
     // The states that the first `steps` steps look at, from which the relation leads into each of them.
-    fn preimage(self, rows: &[u64], steps: usize) -> Self
-        requires { (length rows.now ≡ 64) × (far steps ≤ 64) }
+    fn preimage(self, rows: &[u64; 64], steps: usize) -> Self
+        requires { far steps ≤ 64 }
         ensures { Each (λ i. Is (at result i) (λ q. (q < far steps) × Preimage (Row rows.now) (at self i) q)) };
 }
 
@@ -187,7 +186,7 @@ impl Sets for u64 {
     }
 
     // Two rows a step: the bits of a pair need not wait for the shift. (From the highest down: a shift by two is faster than one by q.)
-    fn preimage(self, rows: &[u64], steps: usize) -> u64 {
+    fn preimage(self, rows: &[u64; 64], steps: usize) -> u64 {
         let mut r: u64 = 0;
         for p in (0..steps).rev() {
             r = r << 2 | pair(rows, 2 * p, self);
@@ -263,7 +262,7 @@ impl Sets for StateSets {
     }
 
     // One row a step, which is read once for all four.
-    fn preimage(self, rows: &[u64], steps: usize) -> StateSets {
+    fn preimage(self, rows: &[u64; 64], steps: usize) -> StateSets {
         let mut r = StateSets::none();
         for q in (0..steps).rev() {
             let row = rows[q];
@@ -290,8 +289,7 @@ fn picked(r: u64, row: u64, wave: u64, q: u32) -> u64
 }
 
 // Where the relation leads from the states of each set. (The row of a state that is in some of them is read once.)
-pub fn image<S: Sets>(rows: &[u64], set: S) -> S
-    requires { length rows.now ≡ 64 }
+pub fn image<S: Sets>(rows: &[u64; 64], set: S) -> S
     ensures { S.Each (λ i. Is (S.at result i) (Image (Row rows.now) (S.at set i))) }
 {
     let mut todo = set.any();
@@ -306,8 +304,7 @@ pub fn image<S: Sets>(rows: &[u64], set: S) -> S
 
 // The states that each set reaches by the relation, through its allowed states alone. (Wave by wave: a wave is what the one before it leads to and is
 // still missing. Once no allowed state is missing, there is nothing left to find.)
-pub fn closure<S: Sets>(rows: &[u64], allowed: S, from: S) -> S
-    requires { length rows.now ≡ 64 }
+pub fn closure<S: Sets>(rows: &[u64; 64], allowed: S, from: S) -> S
     ensures { S.Each (λ i. Is (S.at result i) (Reached (Row rows.now) (S.at allowed i) (S.at from i))) }
 {
     let mut wave = from.both(allowed);

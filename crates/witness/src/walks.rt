@@ -20,15 +20,15 @@ pub struct Place {
 pub struct Ways<'a> {
     pub table: &'a [u64],
     pub silent: u64,
-    pub back: &'a [u64],
+    pub back: &'a [u64; 64],
     pub sets: &'a [u32],
     pub allowed: u64,
 }
 
 // The states from which unobservable steps through allowed states lead to the target, in layers: those of the target, those one step before them,
 // and so on; and all of them. No state is in two layers, so 64 are enough.
-fn layers_to(back: &[u64], allowed: u64, target: u64, layers: &mut [u64]) -> u64
-    requires { (length back.now ≡ 64) × (length layers.old ≡ 64) }
+fn layers_to(back: &[u64; 64], allowed: u64, target: u64, layers: &mut [u64]) -> u64
+    requires { length layers.old ≡ 64 }
     ensures { (p : Automaton) → Entered p everything back.now → Layered p allowed target layers.new result }
 {
     let mut done = target & allowed;

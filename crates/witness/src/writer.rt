@@ -94,7 +94,7 @@ fn write_run(
 }
 
 // The unobservable transitions of all states the other way round, as rows, and the events of each symbol.
-fn prepare(table: &[u64], header: Header, back: &mut [u64], sets: &mut [u32])
+fn prepare(table: &[u64], header: Header, back: &mut [u64; 64], sets: &mut [u32])
     requires { WellFormed table.now header × (back.old ≡ replicate 64 0) × (sets.old ≡ replicate 32 0) }
     ensures { Prepared (automaton_of table.now header) table.now ((2 ^ 32 - 1) - header.observable) back.new
         sets.new }

@@ -1,9 +1,8 @@
-use Rattle.std.proofs.Common.{List, ℕ, length, ap, ◌∙◌, subst, arith}
+use Rattle.std.proofs.Common.{List, ℕ, subst, arith}
 use Rattle.stateset.specs.Set.{Is}
 use Rattle.stateset.proofs.Bits.{taken}
 use Rattle.relation.specs.Relation.{Row, Image}
 use Rattle.relation.proofs.Joining.{join_start, join_turn, join_end}
-use Rattle.automaton.proofs.Entering.{part_size}
 use Rattle.automaton.proofs.Joining.{image_joined}
 use Rattle.automaton.proofs.image_by.Goals as goal
 
@@ -14,11 +13,6 @@ pub event_rows-requires : goal.event_rows-requires
 event_rows-requires c =
     let k = taken c.loop-left.left (omega arith) c.loop-left.invariant.0 in
     (c.requires.0, c.requires.1 _ (c.loop-left.invariant.1.sub _ k.inside))
-
-pub image-r-requires : goal.image-r-requires
-image-r-requires c =
-    let k = taken c.loop-left.left (omega arith) c.loop-left.invariant.0 in
-    ap length c.event_rows.ensures ∙ part_size _ _ (c.requires.1 _ (c.loop-left.invariant.1.sub _ k.inside)) c.requires.0
 
 pub loop-left-preserved : goal.loop-left-preserved
 loop-left-preserved c =

@@ -1,9 +1,8 @@
-use Rattle.std.proofs.Common.{List, ℕ, length, ap, ◌∙◌, subst, sym, arith}
+use Rattle.std.proofs.Common.{List, ℕ, subst, sym, arith}
 use Rattle.stateset.specs.Set.{Is}
 use Rattle.stateset.proofs.Bits.{taken}
 use Rattle.relation.proofs.Falling.{Leading}
 use Rattle.relation.proofs.Joining.{Joined, join_start, join_turn, join_end}
-use Rattle.automaton.proofs.Entering.{part_size}
 use Rattle.automaton.proofs.Joining.{words_of, preimage_joined}
 use Rattle.automaton.proofs.preimage_by.Goals as goal
 
@@ -24,10 +23,7 @@ event_rows-requires g c =
     (c.requires.0, c.requires.1 _ (l.invariant.1 _ k.inside))
 
 pub preimage-some-requires : goal.preimage-some-requires
-preimage-some-requires g c =
-    let l = c.loop-todo in
-    let k = taken l.todo (omega arith) l.invariant.0 in
-    (ap length c.event_rows.ensures ∙ part_size _ _ (c.requires.1 _ (l.invariant.1 _ k.inside)) c.requires.0, c.requires.2)
+preimage-some-requires g c = c.requires.2
 
 pub loop-todo-preserved : goal.loop-todo-preserved
 loop-todo-preserved g c =

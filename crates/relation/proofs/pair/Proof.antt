@@ -31,7 +31,7 @@ returns : tie.Need-returns
 returns c =
     let a = c.args in
     let n = a.first in
-    let fits = c.requires.1 in
+    let fits = c.requires in
     let turn = row_turn a.rows.now (n + 2) a.set in
     let higher = turn (n + 1) (n + 2) 0 _ (omega arith) (omega arith) (omega (arith, fits)) (from_start _ _ (λ x m. m.0))
     c.shift-second.ensures in

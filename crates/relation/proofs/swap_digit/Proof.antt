@@ -65,7 +65,7 @@ loop-less c = omega arith
 loop-again : tie.Need-loop-i-preserved invariant-loop decreases-loop
 loop-again c =
     let l = c.loop-i in
-    (omega arith, swapping_turn _ _ _ _ l.i c.requires.1 c.ranges.mask.fits c.requires.3 (omega arith) l.invariant.1)
+    (omega arith, swapping_turn _ _ _ _ l.i c.requires.0 c.ranges.mask.fits c.requires.2 (omega arith) l.invariant.1)
 
 returns : tie.Need-returns invariant-loop decreases-loop
 returns c = swapping_end _ _ _ _ (omega arith) c.loop-i.invariant.1

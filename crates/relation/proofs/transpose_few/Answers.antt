@@ -7,7 +7,7 @@ use Rattle.relation.proofs.transpose_few.Goals as goal
 pub loop-p-init : goal.loop-p-init
 loop-p-init c =
     let rows = c.args.rows.now in
-    subst (λ (l : List ℕ). Turning rows l 0 (get_or rows 0 0)) (sym c.requires.2) (turning_start _)
+    subst (λ (l : List ℕ). Turning rows l 0 (get_or rows 0 0)) (sym c.requires.1) (turning_start _)
 
 pub loop-todo-preserved : goal.loop-todo-preserved
 loop-todo-preserved c =

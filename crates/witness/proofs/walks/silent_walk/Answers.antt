@@ -4,7 +4,7 @@ use Rattle.witness.proofs.Walking.{in_layer, walk_begin, walk_down, walk_room, w
 use Rattle.witness.proofs.walks.silent_walk.Goals as goal
 
 pub layers_to-requires : goal.layers_to-requires
-layers_to-requires c = (c.requires.0.1.prepared.silently.entered.size, search rules)
+layers_to-requires c = search rules
 
 pub layer_of-first-requires : goal.layer_of-first-requires
 layer_of-first-requires c =

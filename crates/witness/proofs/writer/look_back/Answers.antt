@@ -13,7 +13,7 @@ pub backward_reach-requires : goal.backward_reach-requires
 backward_reach-requires c =
     let x = c.requires.1 in
     let P = x.1.prepared in
-    (x.1.words, P.silently.entered.size, λ e i. ((c.events_with-events.ensures x.0 P.symbols_small P.sets_are).sound e i).0)
+    (x.1.words, λ e i. ((c.events_with-events.ensures x.0 P.symbols_small P.sets_are).sound e i).0)
 
 pub loop-i-preserved : goal.loop-i-preserved
 loop-i-preserved c =

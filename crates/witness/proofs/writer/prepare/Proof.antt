@@ -11,17 +11,11 @@ slice-aggregate-silent-rows c = search rules
 silent-rows-requires : tie.Need-silent_rows-near-requires
 silent-rows-requires c κs = (c.requires.0.words, known_none _ _)
 
-slice-aggregate-silent-back : tie.Need-slice_bounds-silent_back-end
-slice-aggregate-silent-back c = search rules
-
 silent-back-requires : tie.Need-silent_back-requires
 silent-back-requires c κs = search rules
 
 by-symbol-requires : tie.Need-by_symbol-requires
 by-symbol-requires c κs = search rules
-
-same_length : tie.Need-shape_of-back
-same_length c = search rules
 
 same-length-2 : tie.Need-shape_of-sets
 same-length-2 c = search rules
@@ -38,9 +32,7 @@ prepare_spec =
     (tie.spec
     slice-aggregate-silent-rows
     silent-rows-requires
-    slice-aggregate-silent-back
     silent-back-requires
     by-symbol-requires
-    same_length
     same-length-2
     returns)

@@ -6,9 +6,6 @@ use Rattle.witness.proofs.Moving.{moved_size, moved_place}
 use Rattle.witness.proofs.Starting.{no_start, some_start, clear_state, run_started}
 use Rattle.witness.proofs.writer.write_run.Goals as goal
 
-pub closure-reached-requires : goal.closure-reached-requires
-closure-reached-requires c = c.requires.1.1.prepared.silently.entered.size
-
 pub returns-then-starts-eq0 : goal.returns-then-starts-eq0
 returns-then-starts-eq0 c = λ p P L.
     let fits = P.small in

@@ -148,10 +148,7 @@ pub fn silent_rows(table: &[u64], header: Header, rows: &mut [u64], before: u64,
         known |= 255 << first;
         todo = states & !known;
     }
-    Reach {
-        states: states,
-        known: known,
-    }
+    Reach { states, known }
 }
 
 // Where an event may lead from each state: 64 words as they stand in the table.

@@ -166,8 +166,8 @@ impl Enforcer {
         let estimator = reply.estimator;
         let answer = reply.answer;
         let none = Enforcer {
-            estimator: estimator,
-            notion: notion,
+            estimator,
+            notion,
             count: 255,
             pending: [0u8; 16],
             waits: [0u8; 16],

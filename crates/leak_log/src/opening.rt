@@ -37,8 +37,8 @@ fn start(table: [u64; 2048], header: Header, events: usize, notion: Notion) -> O
     let begun = Search::begin(&table, header, alone, notion);
     let search = begun.search;
     Opened {
-        table: table,
-        header: header,
+        table,
+        header,
         follower: search,
         answer: Ok(events),
     }

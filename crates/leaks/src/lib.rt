@@ -81,8 +81,8 @@ impl Search {
         let reply = Estimator::fresh(table, header, further);
         let estimator = reply.estimator;
         let search = Search {
-            estimator: estimator,
-            notion: notion,
+            estimator,
+            notion,
             accepted: 0,
             found: false,
         };
@@ -116,7 +116,7 @@ impl Search {
                 let after = reply.estimator;
                 Search {
                     estimator: after,
-                    notion: notion,
+                    notion,
                     accepted: next,
                     found: any_leak(verdicts),
                 }

@@ -78,10 +78,10 @@ pub fn start(rt: &(impl Print + Eprint), log: &[u8], out: &mut [u8]) -> Monitore
         Err(refusal) => {
             refuse(rt, refusal, out);
             Monitored {
-                table: table,
-                header: header,
+                table,
+                header,
                 progress: Progress {
-                    monitor: monitor,
+                    monitor,
                     at: 0,
                     status: Status::Closed,
                 },
@@ -89,15 +89,15 @@ pub fn start(rt: &(impl Print + Eprint), log: &[u8], out: &mut [u8]) -> Monitore
         }
         Ok(first) => {
             let begun = Progress {
-                monitor: monitor,
+                monitor,
                 at: 0,
                 status: Status::Going,
             };
             let progress = follow(rt, begun, &table, header, &log[first..], out);
             Monitored {
-                table: table,
-                header: header,
-                progress: progress,
+                table,
+                header,
+                progress,
             }
         }
     }

@@ -39,10 +39,10 @@ fn no_monitor() -> Monitor
         count: 255,
         symbols: [0u8; 15],
         entries: [0u64; 16],
-        further: further,
+        further,
     };
     let enforcer = Enforcer {
-        estimator: estimator,
+        estimator,
         notion: Notion::Weak,
         count: 255,
         pending: [0u8; 16],
@@ -50,9 +50,9 @@ fn no_monitor() -> Monitor
     };
     let opening = nothing_told();
     Monitor {
-        opening: opening,
-        estimator: estimator,
-        enforcer: enforcer,
+        opening,
+        estimator,
+        enforcer,
         offered: u32::MAX,
         accepted: 0,
         released: 0,
@@ -85,12 +85,12 @@ pub(crate) fn start(table: [u64; 2048], header: Header, events: usize) -> Opened
             let estimator = reply.estimator;
             let enforcer = begun.enforcer;
             Opened {
-                table: table,
-                header: header,
+                table,
+                header,
                 follower: Monitor {
-                    opening: opening,
-                    estimator: estimator,
-                    enforcer: enforcer,
+                    opening,
+                    estimator,
+                    enforcer,
                     offered: 0,
                     accepted: 0,
                     released: 0,

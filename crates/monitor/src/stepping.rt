@@ -40,9 +40,9 @@ impl Monitor {
         let line = report::refused(out, at, byte, refusal);
         Entry {
             monitor: Monitor {
-                opening: opening,
-                estimator: estimator,
-                enforcer: enforcer,
+                opening,
+                estimator,
+                enforcer,
                 offered: self.offered + 1,
                 accepted: self.accepted,
                 released: self.released,
@@ -72,11 +72,11 @@ impl Monitor {
         let line = report::accepted(out, at, accepted, byte, judgement, released);
         Entry {
             monitor: Monitor {
-                opening: opening,
-                estimator: estimator,
-                enforcer: enforcer,
+                opening,
+                estimator,
+                enforcer,
                 offered: self.offered + 1,
-                accepted: accepted,
+                accepted,
                 released: self.released + released.len() as u32,
             },
             next: place(line, at),

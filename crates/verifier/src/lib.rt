@@ -110,8 +110,8 @@ pub fn remembered_of(estimator: Estimator) -> Remembered
     let entries = estimator.entries;
     Remembered {
         count: estimator.count,
-        symbols: symbols,
-        entries: entries,
+        symbols,
+        entries,
     }
 }
 
@@ -140,8 +140,8 @@ impl Estimator {
         Estimator {
             count: 0,
             symbols: [0u8; 15],
-            entries: entries,
-            further: further,
+            entries,
+            further,
         }
     }
 
@@ -154,7 +154,7 @@ impl Estimator {
             count: 255,
             symbols: [0u8; 15],
             entries: [0u64; 16],
-            further: further,
+            further,
         }
     }
 
@@ -196,10 +196,10 @@ impl Estimator {
         let symbols = estimates::push(old_symbols, count, symbol);
         let entries = estimates::push(old_entries, count + 1, entry);
         Estimator {
-            count: count,
-            symbols: symbols,
-            entries: entries,
-            further: further,
+            count,
+            symbols,
+            entries,
+            further,
         }
     }
 

@@ -6,7 +6,7 @@ use Rattle.estimates.proofs.look_back.LookBack.step_back.Goals as goal
 pub backward_reach-requires : goal.backward_reach-requires
 backward_reach-requires g c =
     let k = c.requires.0.looks in
-    (c.requires.0.words, (k.back_are (omega arith)).size, λ e i. ((c.events_with-shown.ensures _ k.symbols_small k.sets_are).sound e i).0)
+    (c.requires.0.words, λ e i. ((c.events_with-shown.ensures _ k.symbols_small k.sets_are).sound e i).0)
 
 pub returns : goal.returns
 returns g c =

@@ -1,4 +1,4 @@
-# Counts the places of points 1 to 7 in crates/*/src. Run from the top folder: python3 count_places.py POINT
+# Counts the places of points 1 to 7 of docs/DESIGN-PASS.md in crates/*/src. Run from the top folder: python3 tools/count_places.py POINT
 # where POINT is enums, structs, codes, twins, loops, byhand, locals, facts, groups, buffers or switches.
 import collections, glob, re, sys
 

@@ -1,4 +1,4 @@
--- `relation::pair` meets its contract: two turns of the loop of `preimages`, from the higher of both down. Assumes nothing.
+-- `relation::pair` meets its contract: two turns of the loop of `Sets::preimage` of `StateSets`, from the higher of both down. Assumes nothing.
 use Prim.Native.Nat.{◌+◌}
 use native.Mathlib.Omega.{arith}
 use borrow.Author.Rules.{rules}

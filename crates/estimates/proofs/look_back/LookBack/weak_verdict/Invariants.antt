@@ -5,11 +5,11 @@
 --
 -- Where the two differ, and how they meet:
 -- - The proposition reads m(l) off a K-delay trajectory estimator, a set of state sequences. Ours keeps for each step the states right after its event,
---   judged by the events up to it (`Remembers.entries-are`), and `then` has the states that the later events can follow (`Follows`). They meet in
+--   judged by the events up to it (`Remembers.entries_are`), and `then` has the states that the later events can follow (`Follows`). They meet in
 --   `DelayedEstimate`, the states at the positions of count n − l of compatible runs: m(l) is that by Proposition 3 (published/proofs/Estimators:
---   `estimator-delayed`), and it is where unobservable transitions after the step's event lead, within `then` (`LookBack`: `delayed-is`).
+--   `estimator_delayed`), and it is where unobservable transitions after the step's event lead, within `then` (`LookBack`: `delayed_is`).
 -- - The proposition's k goes to K, the loop's l to `last`, which is K or n, whichever is less. For k past n, m(k) is m(n), since that estimator starts with
---   its first state repeated (`estimator-delayed` too), so that no verdict is lost; from `last` to K: `Judging`: `tells-up`.
+--   its first state repeated (`estimator_delayed` too), so that no verdict is lost; from `last` to K: `Judging`: `tells_up`.
 -- Assumes nothing.
 use Rattle.std.proofs.Common.{List, ℕ, ◌+◌, ◌-◌, ◌^◌, ◌≤◌, ◌<◌, length}
 use Rattle.automaton.specs.Reaching.{DelayedEstimate}

@@ -3,4 +3,4 @@ use Rattle.canonical.proofs.size_of.Goals as goal
 
 pub returns : goal.returns
 unfolding size_of
-returns c = rw c.preamble_end.ensures
+returns c = rw c.end.ensures

@@ -30,7 +30,6 @@ pub record Near (p : Automaton) (entries silent : List ℕ) (states : ℕ) : Typ
 
 -- what a look back over `last` steps uses of an automaton: its table, the events of each symbol, such states, and, where it takes a step, the
 -- unobservable transitions the other way round.
--- (The invariant of a loop cannot name the header, which holds an array: it speaks of every automaton for which this holds.)
 pub record Looks (p : Automaton) (t sets entries silent back : List ℕ) (states last : ℕ) : Type 0 where
   pub table_is : p.table ≡ t
   pub start : p.initial ≤ 63

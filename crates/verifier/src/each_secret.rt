@@ -12,7 +12,8 @@ use estimates::look_back::{LookBack, backward_rows, first_secret};
 use opacity::{Secret, Verdict, Verdicts};
 
 // The verdicts of the automaton's own secret, where no further one shares what is worked out: by the notions that are asked for, and none for the
-// others. Each look back goes over all that is remembered, which is no more than the own K, and stops where it can.
+// others. Each look back goes over all that is remembered, which is no more than the own K, and stops where it can. (`judge` beside it takes what the
+// secrets share; this one works out nothing beyond its own stop, which the own secret alone would else pay for at each event.)
 fn judge_alone(look_back: LookBack, asked: Asked) -> Verdicts
     requires { Ready look_back × Begins look_back × (look_back.remembered.now.count ≤ look_back.header.now.k) }
     ensures { Judged look_back.entry (own look_back.entry.header.now) asked result }

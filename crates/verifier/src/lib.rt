@@ -57,7 +57,8 @@ pub struct Reply<V> {
     pub answer: Result<Judgement<V>, Refusal>,
 }
 
-// The notions whose verdicts are asked for.
+// The notions whose verdicts are asked for: both, or one. (A flag for each, which is read where its verdict is found: an enum of these sets would be no
+// plainer, since a function would have to tell from it what the flag says.)
 #[derive(Clone, Copy)]
 struct Asked {
     weak: bool,

@@ -6,8 +6,9 @@ pub mod opening; // the search of a log with its first bytes
 mod telling; // the one line
 
 ghost use Rattle.std.specs.Prelude.{◌+◌, ◌-◌, ◌≤◌, length, take};
+ghost use Rattle.streams.proofs.Counting.{fewer_fit, others_fit};
 ghost use Rattle.leak_log.specs.Feeding.{Block, ReadOn, Ran, Searches};
-ghost use Rattle.leak_log.specs.Taking.{takes_fewer, takes_onward};
+ghost use Rattle.leak_log.specs.Taking.{block_counts};
 
 use automaton::Header;
 use leaks::Search;
@@ -33,9 +34,9 @@ impl Follower for Searching {
 
     ghost Takes = { λ s n. s.search.accepted + n ≤ 4294967295 };
 
-    ghost fewer = { takes_fewer };
+    ghost fewer = { λ s m n l x. fewer_fit s.search.accepted l x };
 
-    ghost onward = { takes_onward };
+    ghost onward = { λ t h s m bytes n b x. others_fit s.search.accepted (length bytes) n (block_counts b) x };
 
     fn is_done(self) -> bool {
         self.search.found
@@ -100,7 +101,8 @@ fn run(
     }
 }
 
-// A log on standard input: at most `size` bytes, in reads of at most `piece` bytes. It says how many were not read.
+// A log on standard input: at most `size` bytes, in reads of at most `piece` bytes. It says how many were not read. (`log_output` and `witness_log` begin so
+// too: one function for the three would take `run` as a closure that is lent the input and the output, for this one `match`.)
 pub fn search_input(
     rt: &(impl Input + Print + Eprint),
     input: &mut [u8],

@@ -53,7 +53,9 @@ struct Part {
     taken: usize,
 }
 
-// What one more read leaves, and how many bytes it brought, 0 where no more is read. (No `Option`: so `Feeding` in the specs has it.)
+// What one more read leaves, and how many bytes it brought, 0 where no more is read. (No `Option`: so `Feeding` in the specs has it. Here and below no
+// `streams::following`, which the other programs that read a log share: lines are written out while bytes are followed and before each read, so that its
+// trait, its loop and its definitions would all take the handle and the output, which no search has, and each search's would say that it stays.)
 #[derive(Clone, Copy)]
 struct Reading {
     progress: Progress,
@@ -205,7 +207,8 @@ fn unread(size: usize, limit: usize, left: usize) -> usize
     size - (limit - left)
 }
 
-// A log on standard input: at most `size` bytes, in reads of at most `piece` bytes. It says how many were not read.
+// A log on standard input: at most `size` bytes, in reads of at most `piece` bytes. It says how many were not read. (`leak_log` and `witness_log` begin so
+// too: one function for the three would take `run` as a closure that is lent the input and the output, for this one `match`.)
 pub fn monitor_input(
     rt: &(impl Input + Print + Eprint),
     input: &mut [u8],

@@ -6,7 +6,6 @@ use Rattle.automaton.specs.declared.Header.{Header}
 use Rattle.opacity.specs.Secrets.{no_further}
 use Rattle.verifier.specs.Estimators.{GrownOn}
 use Rattle.leaks.specs.FirstLeaks.{AcceptedPart}
-use Rattle.std.proofs.Common.{arith}
 use Rattle.witness_log.specs.declared.Followed.{Followed}
 
 -- after these event bytes: the estimator has grown by the accepted ones, which are counted, and holds no further secret
@@ -21,11 +20,3 @@ pub record After (t : List ℕ) (h : Header) (bytes : List ℕ) (f : Followed) :
 pub record On (t : List ℕ) (h : Header) (s : Followed) (bytes : List ℕ) (f : Followed) : Type 0 where
   pub few : f.accepted ≤ s.accepted + length bytes
   pub exact : WellFormed t h → (before : List ℕ) → After t h before s → After t h (before ++ bytes) f
-
--- as many bytes can follow as can be counted
-pub takes_fewer : (f : Followed) (m n : ℕ) → m ≤ n → f.accepted + n ≤ 4294967295 → f.accepted + m ≤ 4294967295
-takes_fewer f m n l x = omega arith
-
-pub takes_onward : (t : List ℕ) (h : Header) (s f : Followed) (bytes : List ℕ) (n : ℕ) → On t h s bytes f → s.accepted + (length bytes + n) ≤ 4294967295
-    → f.accepted + n ≤ 4294967295
-takes_onward t h s f bytes n x few = omega (arith, x.few)

@@ -7,7 +7,8 @@ mod following; // the estimator follows event bytes
 mod telling; // the lines of what it has followed
 
 ghost use Rattle.std.specs.Prelude.{false, ◌+◌, ◌-◌, ◌≤◌, length, take};
-ghost use Rattle.witness_log.specs.Following.{On, takes_fewer, takes_onward};
+ghost use Rattle.streams.proofs.Counting.{fewer_fit, others_fit};
+ghost use Rattle.witness_log.specs.Following.{On};
 ghost use Rattle.witness_log.specs.Printing.{Ready, ReadOn, Ran, Leaves};
 
 use automaton::Header;
@@ -42,9 +43,9 @@ impl Follower for Followed {
 
     ghost Takes = { λ f n. f.accepted + n ≤ 4294967295 };
 
-    ghost fewer = { takes_fewer };
+    ghost fewer = { λ f m n l x. fewer_fit f.accepted l x };
 
-    ghost onward = { takes_onward };
+    ghost onward = { λ t h s f bytes n on x. others_fit s.accepted (length bytes) n on.few x };
 
     fn is_done(self) -> bool {
         false
@@ -98,7 +99,8 @@ fn run(rt: &(impl Input + Eprint), input: &mut [u8], n: usize, out: &mut [u8]) -
     }
 }
 
-// A log on standard input, all of it. It says how many bytes at the front of the output are to be written out.
+// A log on standard input, all of it. It says how many bytes at the front of the output are to be written out. (`leak_log` and `log_output` begin so too: one
+// function for the three would take `run` as a closure that is lent the input and the output, for this one `match`.)
 fn put_log(rt: &(impl Input + Eprint), input: &mut [u8], out: &mut [u8]) -> usize
     requires { 766656 ≤ length out.old }
     ensures { Leaves out.old result out.new }

@@ -13,7 +13,7 @@ loop-header-preserved g c =
       omega (arith, so.1),
       g.met.F.Follower.onward c.args.table.now c.args.header c.loop-header.now c.follow-now.result _ (c.loop-header.rest - n) c.follow-now.ensures
           (subst (g.F.Follower.Takes c.loop-header.now) (sym (rest_of input n c.loop-header.rest brought)) so.2),
-      so_more input n so.3 (sym c.is_done.ensures ∙ c.loop-header-test.true) brought c.follow-now.ensures,
+      so_more {Goes = g.F.Follower.Goes c.args.table.now c.args.header} input n so.3 (sym c.is_done.ensures ∙ c.loop-header-test.true) brought c.follow-now.ensures,
     )
 
 pub returns-in-End-clause-fed : goal.returns-in-End-clause-fed

@@ -15,7 +15,7 @@ use automaton::Header;
 use following::follow;
 use leak_log::opening::open;
 use opacity::Notion;
-use streams::following::Follower;
+use streams::following::{Follower, begin};
 use streams::reads::gather;
 use streams::writes::{flush, place};
 use streams::{Begun, Ending, Gathered};
@@ -88,12 +88,7 @@ fn run(rt: &(impl Input + Eprint), input: &mut [u8], n: usize, out: &mut [u8]) -
                 estimator: opened.follower.estimator,
                 accepted: 0,
             };
-            let begun = streams::following::begin(
-                start,
-                &opened.table,
-                opened.header,
-                &input[first..n],
-            );
+            let begun = begin(start, &opened.table, opened.header, &input[first..n]);
             read_on(rt, begun, &opened.table, opened.header, input, out)
         }
     }

@@ -55,7 +55,8 @@ fn possible_states(silent: &[u64; 64], states: u64, entry: u64, then: u64, secre
 impl<'a> LookBack<'a> {
     // One step further back, for one set or for several side by side, each through its own allowed states: from the states that the last l symbols can
     // follow, those that l + 1 can. (`events_with` takes a slice, and a field is lent as what it is: so the sets stand in a variable. In line: where it
-    // was called, an accept with three further secrets took 1.13 times as long, since what it works on was written out at each step.)
+    // was called, an accept with three further secrets took 1.13 times as long, since what it works on was written out at each step. The look backs of
+    // the own secret alone, which every accept pays for, take this step themselves: through here an accept took 1.10 times as long.)
     #[inline(always)]
     pub fn step_back<S: Sets>(self, allowed: S, l: usize, then: S) -> S
         requires { Ready self × (l < self.remembered.now.count) }
@@ -76,6 +77,7 @@ impl<'a> LookBack<'a> {
         requires { Ready self × Begins self }
         ensures { FoundBy notion.Weak self.entry secret result }
     {
+        let sets = self.sets;
         let last = self.remembered.count; // K, or n where that is less
         let mut then = self.states;
         let mut possible = self.estimate;
@@ -94,7 +96,8 @@ impl<'a> LookBack<'a> {
             }
             if l < last { // no step up to l is a leak
                 let at = usize::from(l);
-                then = self.step_back(self.states, at, then);
+                let shown = automaton::events_with(sets, self.remembered.symbols[at]);
+                then = automaton::backward_reach(self.table, self.back, self.states, shown, then);
                 let entry = self.remembered.entries[at + 1];
                 possible = possible_states(self.silent, self.states, entry, then, secret);
             }
@@ -108,6 +111,7 @@ impl<'a> LookBack<'a> {
         requires { Ready self }
         ensures { FoundBy notion.Strong self.entry secret result }
     {
+        let sets = self.sets;
         let last = self.remembered.count;
         let clear = self.states & !secret;
         let mut then = clear;
@@ -117,7 +121,8 @@ impl<'a> LookBack<'a> {
                 return Verdict::Leak(l);
             }
             if l < last {
-                then = self.step_back(clear, at, then);
+                let shown = automaton::events_with(sets, self.remembered.symbols[at]);
+                then = automaton::backward_reach(self.table, self.back, clear, shown, then);
             }
         }
         Verdict::NoLeak

@@ -8,7 +8,7 @@ use Rattle.opacity.specs.declared.Notion.TheVariants.{Strong}
 use Rattle.opacity.specs.Secrets.{secret_of}
 use Rattle.opacity.specs.Verdicts.{NoLeakBelow}
 use Rattle.estimates.specs.StepsBack.{looked_at, LooksAt}
-use Rattle.estimates.proofs.LookBack.{remembers_inside, strong_sure, strong_clear}
+use Rattle.estimates.proofs.LookBack.{follows_step, remembers_inside, strong_sure, strong_clear}
 use Rattle.opacity.proofs.Exactness.{below_step, below_leak, below_last}
 use Rattle.estimates.proofs.look_back.LookBack.strong_verdict.Goals as goal
 use Rattle.estimates.proofs.look_back.LookBack.strong_verdict.Goals.{Else-self-at-eq0, then-l-last, else-l-last}
@@ -49,8 +49,12 @@ loop-l-preserved c =
       below_next (goal.at.loop-l-preserved c).Else-self-at-eq0,
       λ trace m next. elim c.if-l-last.branch [
         | then-l-last w ↦
-            let then = rw c.from-at.ensures at w.step_back-then.ensures in
-            rw w.then-is (then _ trace (omega arith) m (λ q i. (in_and q a.self.states (complement a.secret) i).0) (s.invariant.1 trace m (omega arith)))
+            let g = c.requires.looks in
+            let shown = (rw c.from-at.ensures at w.events_with-shown.ensures) _ g.symbols_small g.sets_are in
+            rw w.then-is
+            (follows_step _ _ trace a.self.remembered.now.count _ _ _ _ m (omega arith)
+            (w.backward_reach-then.ensures _ _ _ _ g.table_is shown (g.back_are (omega arith)) (λ q i. (in_and q a.self.states (complement a.secret) i).0)
+            (s.invariant.1 trace m (omega arith))))
         | else-l-last w ↦ absurd (omega (arith, w.if-l-last.false))
       ],
       omega arith,
@@ -66,3 +70,9 @@ returns-after-l-last c =
           below_last Strong _ (secret_of c.args.secret c.args.self.remembered.now.count) trace c.loop-l.l (omega arith)
           (below_next (goal.at.returns-after-l-last c).Else-self-at-eq0 trace m);
     }
+
+-- the events that show the symbol are among the 32
+pub backward_reach-then-requires : goal.backward_reach-then-requires
+backward_reach-then-requires c =
+    let g = c.requires.looks in
+    (c.requires.words, λ e i. ((c.events_with-shown.ensures _ g.symbols_small g.sets_are).sound e i).0)

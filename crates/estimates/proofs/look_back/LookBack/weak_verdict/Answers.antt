@@ -8,7 +8,7 @@ use Rattle.opacity.specs.Secrets.{secret_of}
 use Rattle.opacity.specs.Verdicts.{NoLeakBelow}
 use Rattle.estimates.proofs.Passing.{pass_turn, pass_end, digit_in}
 use Rattle.estimates.specs.StepsBack.{Follows, looked_at, LooksAt}
-use Rattle.estimates.proofs.LookBack.{follows_start, remembers_inside, delayed_is, delayed_by}
+use Rattle.estimates.proofs.LookBack.{follows_start, follows_step, remembers_inside, delayed_is, delayed_by}
 use Rattle.estimates.proofs.LookBack.{estimate_by, decided_sure, decided_clear}
 use Rattle.opacity.proofs.Exactness.{below_start, below_step, below_leak, below_last}
 use Rattle.estimates.proofs.look_back.LookBack.weak_verdict.Goals as goal
@@ -63,10 +63,11 @@ steps-preserved c =
     elim c.if-l-last.branch [
       | then-l-last w ↦
           let next : s.l + 1 ≤ a.self.remembered.now.count = omega arith in
-          let follows : (trace : List ℕ) → LooksAt a.self a.self.remembered.now.count trace → Follows p a.self.states trace (s.l + 1) w.step_back-then.result =
+          let follows : (trace : List ℕ) → LooksAt a.self a.self.remembered.now.count trace → Follows p a.self.states trace (s.l + 1) w.backward_reach-then.result =
           λ trace m.
-          let then = rw w.from-at.ensures at w.step_back-then.ensures in
-          then _ trace (omega arith) m (λ q i. i) (s.invariant.1 trace m (omega arith)) in
+          let shown = (rw w.from-at.ensures at w.events_with-shown.ensures) _ g.symbols_small g.sets_are in
+          follows_step _ _ trace a.self.remembered.now.count _ _ _ _ m (omega arith)
+          (w.backward_reach-then.ensures _ _ _ _ g.table_is shown (g.back_are (omega arith)) (λ q i. i) (s.invariant.1 trace m (omega arith))) in
           rw (w.then-is, w.possible-is) (
             below_next (goal.at.steps-preserved c).Else-todo-eq0,
             λ trace m _. follows trace m,
@@ -105,3 +106,9 @@ returns-after-l-last c =
           below_last Weak _ (secret_of c.args.secret c.args.self.remembered.now.count) trace c.steps.l (omega arith)
           (below_next (goal.at.returns-after-l-last c).Else-todo-eq0 trace m);
     }
+
+-- the events that show the symbol are among the 32
+pub backward_reach-then-requires : goal.backward_reach-then-requires
+backward_reach-then-requires c =
+    let g = c.requires.0.looks in
+    (c.requires.0.words, λ e i. ((c.events_with-shown.ensures _ g.symbols_small g.sets_are).sound e i).0)

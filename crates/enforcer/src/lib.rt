@@ -38,7 +38,8 @@ pub struct Release {
     pub size: u8,
 }
 
-// The enforcer that an entry hands back, and what it answers: nothing more of a start, and what was released of an offer.
+// The enforcer that an entry hands back, and what it answers: nothing more of a start, and what was released of an offer. (Beside the answer, as in
+// `verifier::Reply`: of a refusal too it is promised.)
 #[derive(Clone, Copy)]
 pub struct Reply<A> {
     pub enforcer: Enforcer,

@@ -16,7 +16,8 @@ use refusal::Refusal;
 use verifier::{EachSecret, Estimator};
 
 // A search for the first leak by one notion: the estimator after the bytes so far, how many of them were accepted, and whether the last of these leaks. It is
-// the first then, and the search goes no further.
+// the first then, and the search goes no further. (A flag beside the count, and no Option of a place: the place is the count itself, so that none contradicts
+// it.)
 #[derive(Clone, Copy)]
 pub struct Search {
     pub estimator: Estimator,
@@ -26,7 +27,7 @@ pub struct Search {
 }
 
 // The search that is handed back, and what it has found so far: the place of the first leak among the accepted events, from 1; None where none of them
-// leaks.
+// leaks. (The search beside the answer, as in `verifier::Reply`.)
 #[derive(Clone, Copy)]
 pub struct SearchReply {
     pub search: Search,

@@ -30,7 +30,7 @@ pub enum Status {
     Closed,
 }
 
-// The monitor after the events so far, and where the next line goes in the output.
+// The monitor after the events so far, and where the next line goes in the output. (The status beside them: each of them is kept, whatever the status.)
 #[derive(Clone, Copy)]
 pub struct Progress {
     pub monitor: Monitor,
@@ -62,7 +62,7 @@ struct Reading {
     brought: usize,
 }
 
-// How a log was left, and how many bytes might still have been read.
+// How a log was left, and how many bytes might still have been read. (Of every ending the number is told.)
 #[derive(Clone, Copy)]
 pub struct Rest {
     pub progress: Progress,

@@ -46,7 +46,7 @@ pub struct Advance {
     pub next: usize,
 }
 
-// The monitor after some events, and how far it came.
+// The monitor after some events, and how far it came. (The monitor beside the answer, as in `verifier::Reply`.)
 #[derive(Clone, Copy)]
 pub struct Advanced {
     pub monitor: Monitor,

@@ -41,7 +41,7 @@ pub struct Judgement<V> {
 }
 
 // The last symbols (02: lamps), the newest first, and for each step back the states right after the last one that is left; and the further secrets
-// (01: watch).
+// (01: watch). (Arrays and a count: memory is fixed, and their bytes are the layout of C.)
 #[derive(Clone, Copy)]
 pub struct Estimator {
     pub count: u8,
@@ -50,7 +50,8 @@ pub struct Estimator {
     pub further: Further,
 }
 
-// The estimator that an entry hands back, and what it answers.
+// The estimator that an entry hands back, and what it answers. (Beside the answer, and not in its Ok: the scope names a struct by value that a method hands
+// back with the answer, and of a refusal the estimator that is handed back is promised.)
 #[derive(Clone, Copy)]
 pub struct Reply<V> {
     pub estimator: Estimator,

@@ -51,7 +51,7 @@ fn none_found() -> EachSecret<Verdict>
 }
 
 // The strong verdicts of four secrets, over all steps that are remembered: as `LookBack::strong_verdict` takes them, in one pass for all.
-// `clear` has for each the states that are not in it. (Each step back is that of one secret, by `step_back`. The loops stay two: that of one secret ends
+// `clear` has for each the states that are not in it. (Each step back is that of one set, by `step_back`. The loops stay two: that of one secret ends
 // at its leak and answers it, this one goes on for the others and keeps a verdict for each, so that one for both would switch between the two.)
 fn strong_verdicts(look_back: LookBack, clear: StateSets) -> EachSecret<Verdict>
     requires { Ready look_back }

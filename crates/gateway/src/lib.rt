@@ -9,7 +9,7 @@ use layout::sizes;
 use verifier::Estimator;
 
 // The refusal of a slice that has not the length of its layout, and of a notion that is none: the number of `Refusal::Malformed`. (A constant calls no
-// function.) Each function tests the slices that C lends it one by one: a test, a length and its constant, is no shorter as a call.
+// function.) Each function tests the slices that it is lent, and the notion, in one condition before anything else.
 const MALFORMED: u8 = 9;
 
 // Decodes an encoding: the table, and the header's bytes.
@@ -41,16 +41,11 @@ pub fn opacity_fresh(
     ensures { Fresh table.now header.now further.now estimator.old judgement.old
         result estimator.new judgement.new }
 {
-    if header.len() != sizes::HEADER_SIZE {
-        return MALFORMED;
-    }
-    if estimator.len() != sizes::ESTIMATOR_SIZE {
-        return MALFORMED;
-    }
-    if judgement.len() != sizes::JUDGEMENT_SIZE {
-        return MALFORMED;
-    }
-    if further.len() != sizes::FURTHER_SIZE {
+    if header.len() != sizes::HEADER_SIZE
+        || estimator.len() != sizes::ESTIMATOR_SIZE
+        || judgement.len() != sizes::JUDGEMENT_SIZE
+        || further.len() != sizes::FURTHER_SIZE
+    {
         return MALFORMED;
     }
     let reply = Estimator::fresh(
@@ -81,13 +76,10 @@ pub fn opacity_accept(
     ensures { Accept table.now header.now symbol estimator.old judgement.old
         result estimator.new judgement.new }
 {
-    if header.len() != sizes::HEADER_SIZE {
-        return MALFORMED;
-    }
-    if estimator.len() != sizes::ESTIMATOR_SIZE {
-        return MALFORMED;
-    }
-    if judgement.len() != sizes::JUDGEMENT_SIZE {
+    if header.len() != sizes::HEADER_SIZE
+        || estimator.len() != sizes::ESTIMATOR_SIZE
+        || judgement.len() != sizes::JUDGEMENT_SIZE
+    {
         return MALFORMED;
     }
     let before = layout::read_estimator(estimator);
@@ -114,16 +106,11 @@ pub fn opacity_start(
 ) -> u8
     ensures { Start table.now header.now notion further.now enforcer.old result enforcer.new }
 {
-    if header.len() != sizes::HEADER_SIZE {
-        return MALFORMED;
-    }
-    if sizes::STRONG_BYTE < notion {
-        return MALFORMED;
-    }
-    if enforcer.len() != sizes::ENFORCER_SIZE {
-        return MALFORMED;
-    }
-    if further.len() != sizes::FURTHER_SIZE {
+    if header.len() != sizes::HEADER_SIZE
+        || sizes::STRONG_BYTE < notion
+        || enforcer.len() != sizes::ENFORCER_SIZE
+        || further.len() != sizes::FURTHER_SIZE
+    {
         return MALFORMED;
     }
     let start = Enforcer::start(
@@ -156,16 +143,13 @@ pub fn opacity_offer(
     ensures { Offer table.now header.now symbol enforcer.old output.old release.old
         result enforcer.new output.new release.new }
 {
-    if header.len() != sizes::HEADER_SIZE {
-        return MALFORMED;
-    }
-    if enforcer.len() != sizes::ENFORCER_SIZE {
+    if header.len() != sizes::HEADER_SIZE
+        || enforcer.len() != sizes::ENFORCER_SIZE
+        || release.len() != sizes::RELEASE_SIZE
+    {
         return MALFORMED;
     }
     if sizes::STRONG_BYTE < enforcer[sizes::NOTION_PLACE] {
-        return MALFORMED;
-    }
-    if release.len() != sizes::RELEASE_SIZE {
         return MALFORMED;
     }
     let before = layout::read_enforcer(enforcer);
@@ -194,13 +178,10 @@ pub fn opacity_explore(
     ensures { Explore table.now header.now further.now budget exploration.old
         result exploration.new }
 {
-    if header.len() != sizes::HEADER_SIZE {
-        return MALFORMED;
-    }
-    if further.len() != sizes::FURTHER_SIZE {
-        return MALFORMED;
-    }
-    if exploration.len() != sizes::EXPLORATION_SIZE {
+    if header.len() != sizes::HEADER_SIZE
+        || further.len() != sizes::FURTHER_SIZE
+        || exploration.len() != sizes::EXPLORATION_SIZE
+    {
         return MALFORMED;
     }
     let answer = explore::explore(
@@ -231,16 +212,11 @@ pub fn opacity_first_leak(
     ensures { FirstLeakCall table.now header.now notion further.now events.now place.old
         result place.new }
 {
-    if header.len() != sizes::HEADER_SIZE {
-        return MALFORMED;
-    }
-    if sizes::STRONG_BYTE < notion {
-        return MALFORMED;
-    }
-    if further.len() != sizes::FURTHER_SIZE {
-        return MALFORMED;
-    }
-    if place.len() != sizes::FIRST_LEAK_SIZE {
+    if header.len() != sizes::HEADER_SIZE
+        || sizes::STRONG_BYTE < notion
+        || further.len() != sizes::FURTHER_SIZE
+        || place.len() != sizes::FIRST_LEAK_SIZE
+    {
         return MALFORMED;
     }
     let answer = leaks::first_leak(
@@ -290,16 +266,11 @@ pub fn opacity_witness(
     ensures { Witnessing table.now header.now notion secret k estimator.now output.old run.old
         result output.new run.new }
 {
-    if header.len() != sizes::HEADER_SIZE {
-        return MALFORMED;
-    }
-    if sizes::STRONG_BYTE < notion {
-        return MALFORMED;
-    }
-    if estimator.len() != sizes::ESTIMATOR_SIZE {
-        return MALFORMED;
-    }
-    if run.len() != sizes::RUN_SIZE {
+    if header.len() != sizes::HEADER_SIZE
+        || sizes::STRONG_BYTE < notion
+        || estimator.len() != sizes::ESTIMATOR_SIZE
+        || run.len() != sizes::RUN_SIZE
+    {
         return MALFORMED;
     }
     let answer = witness::witness(
@@ -335,16 +306,11 @@ pub fn opacity_check_witness(
     ensures { CheckingWitness table.now header.now notion secret k start estimator.now pairs.now
         valid.old result valid.new }
 {
-    if header.len() != sizes::HEADER_SIZE {
-        return MALFORMED;
-    }
-    if sizes::STRONG_BYTE < notion {
-        return MALFORMED;
-    }
-    if estimator.len() != sizes::ESTIMATOR_SIZE {
-        return MALFORMED;
-    }
-    if valid.len() != sizes::VALID_SIZE {
+    if header.len() != sizes::HEADER_SIZE
+        || sizes::STRONG_BYTE < notion
+        || estimator.len() != sizes::ESTIMATOR_SIZE
+        || valid.len() != sizes::VALID_SIZE
+    {
         return MALFORMED;
     }
     let checked = witness::check_witness(

@@ -132,48 +132,7 @@ fn refusal_field(out: &mut [u8], at: usize, refusal: Refusal) -> usize
     field(out, at, b' ', u32::from(refusal::number(refusal)))
 }
 
-fn put_accepted(
-    out: &mut [u8],
-    at: usize,
-    place: u32,
-    symbol: u8,
-    judgement: Judgement<Verdicts>,
-    released: &[u8],
-) -> usize
-    requires { at + room_for (length released.now) ≤ length out.old }
-    ensures { Wrote (room_for (length released.now)) out.old at
-        (accepted_line place symbol judgement.verdicts.own.weak judgement.verdicts.own.strong judgement.size released.now)
-        out.new result }
-{
-    let a = number(out, at, place);
-    let b = field(out, a, b' ', u32::from(symbol));
-    let c = judgement_fields(out, b, judgement);
-    let d = symbols_field(out, c, released);
-    put(out, d, b'\n')
-}
-
-fn put_idle(out: &mut [u8], at: usize, opening: Judgement<Verdicts>) -> usize
-    requires { at + room_for 0 ≤ length out.old }
-    ensures { Wrote (room_for 0) out.old at (idle_line opening.verdicts.own.weak opening.verdicts.own.strong opening.size)
-        out.new result }
-{
-    let a = number(out, at, 0);
-    let b = dash(out, a);
-    let c = judgement_fields(out, b, opening);
-    let d = dash(out, c);
-    put(out, d, b'\n')
-}
-
-fn put_refused(out: &mut [u8], at: usize, byte: u8, refusal: Refusal) -> usize
-    requires { at + room_for 0 ≤ length out.old }
-    ensures { Wrote (room_for 0) out.old at (refused_line byte refusal) out.new result }
-{
-    let a = put(out, at, b'!');
-    let b = field(out, a, b' ', u32::from(byte));
-    let c = refusal_field(out, b, refusal);
-    put(out, c, b'\n')
-}
-
+// The last line: of a log, and behind the line of an idle one.
 fn put_end(out: &mut [u8], at: usize, accepted: u32, released: u32, pending: u32) -> usize
     requires { at + room_for 0 ≤ length out.old }
     ensures { Wrote (room_for 0) out.old at (end_line accepted released pending) out.new result }
@@ -183,47 +142,6 @@ fn put_end(out: &mut [u8], at: usize, accepted: u32, released: u32, pending: u32
     let c = field(out, b, b' ', released);
     let d = field(out, c, b' ', pending);
     put(out, d, b'\n')
-}
-
-fn put_idle_end(
-    out: &mut [u8],
-    at: usize,
-    opening: Judgement<Verdicts>,
-    accepted: u32,
-    released: u32,
-    pending: u32,
-) -> usize
-    requires { at + room_at_end ≤ length out.old }
-    ensures { Wrote room_at_end out.old at
-        (idle_line opening.verdicts.own.weak opening.verdicts.own.strong opening.size ++ end_line accepted released pending) out.new result }
-{
-    let next = put_idle(out, at, opening);
-    put_end(out, next, accepted, released, pending)
-}
-
-fn put_refused_log(out: &mut [u8], at: usize, refusal: Refusal) -> usize
-    requires { at + room_for 0 ≤ length out.old }
-    ensures { Wrote (room_for 0) out.old at (refused_log refusal) out.new result }
-{
-    let a = text(out, at, b"refused");
-    let b = refusal_field(out, a, refusal);
-    put(out, b, b'\n')
-}
-
-fn put_place(out: &mut [u8], at: usize, place: u32) -> usize
-    requires { at + room_for 0 ≤ length out.old }
-    ensures { Wrote (room_for 0) out.old at (place_line place) out.new result }
-{
-    let next = number(out, at, place);
-    put(out, next, b'\n')
-}
-
-fn put_no_place(out: &mut [u8], at: usize) -> usize
-    requires { at + room_for 0 ≤ length out.old }
-    ensures { Wrote (room_for 0) out.old at no_place_line out.new result }
-{
-    let next = put(out, at, b'-');
-    put(out, next, b'\n')
 }
 
 // There is room at a place for a line that names so many released events. (Divided, since a product might not fit.)
@@ -256,7 +174,11 @@ pub fn accepted(
     if !has_room(out, at, released.len()) {
         return None;
     }
-    Some(put_accepted(out, at, place, symbol, judgement, released))
+    let a = number(out, at, place);
+    let b = field(out, a, b' ', u32::from(symbol));
+    let c = judgement_fields(out, b, judgement);
+    let d = symbols_field(out, c, released);
+    Some(put(out, d, b'\n'))
 }
 
 // The line of a refused event.
@@ -266,7 +188,10 @@ pub fn refused(out: &mut [u8], at: usize, byte: u8, refusal: Refusal) -> Option<
     if !has_room(out, at, 0) {
         return None;
     }
-    Some(put_refused(out, at, byte, refusal))
+    let a = put(out, at, b'!');
+    let b = field(out, a, b' ', u32::from(byte));
+    let c = refusal_field(out, b, refusal);
+    Some(put(out, c, b'\n'))
 }
 
 // The last line. (Room for two lines is asked for, as `idle` does, so that a log's end asks for the same whichever it writes.)
@@ -294,7 +219,12 @@ pub fn idle(
     if !has_room_at_end(out, at) {
         return None;
     }
-    Some(put_idle_end(out, at, opening, accepted, released, pending))
+    let a = number(out, at, 0);
+    let b = dash(out, a);
+    let c = judgement_fields(out, b, opening);
+    let d = dash(out, c);
+    let next = put(out, d, b'\n');
+    Some(put_end(out, next, accepted, released, pending))
 }
 
 // The one line of a refused log.
@@ -304,7 +234,9 @@ pub fn refused_log(out: &mut [u8], at: usize, refusal: Refusal) -> Option<usize>
     if !has_room(out, at, 0) {
         return None;
     }
-    Some(put_refused_log(out, at, refusal))
+    let a = text(out, at, b"refused");
+    let b = refusal_field(out, a, refusal);
+    Some(put(out, b, b'\n'))
 }
 
 // The line of the first leak of a log (02, S-8): its place.
@@ -314,7 +246,8 @@ pub fn leak_at(out: &mut [u8], at: usize, place: u32) -> Option<usize>
     if !has_room(out, at, 0) {
         return None;
     }
-    Some(put_place(out, at, place))
+    let next = number(out, at, place);
+    Some(put(out, next, b'\n'))
 }
 
 // The line of a log without a leak (02, S-8).
@@ -324,5 +257,6 @@ pub fn leak_nowhere(out: &mut [u8], at: usize) -> Option<usize>
     if !has_room(out, at, 0) {
         return None;
     }
-    Some(put_no_place(out, at))
+    let next = put(out, at, b'-');
+    Some(put(out, next, b'\n'))
 }

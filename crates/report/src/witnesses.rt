@@ -50,34 +50,6 @@ fn put_pairs(out: &mut [u8], at: usize, pairs: &[u8]) -> usize
     next
 }
 
-fn put_witness(out: &mut [u8], at: usize, notion: Notion, k: u8, start: u8, pairs: &[u8]) -> usize
-    requires { at + room_for (length pairs.now) ≤ length out.old }
-    ensures { Wrote (room_for (length pairs.now)) out.old at (witness_line notion k start pairs.now)
-        out.new result }
-{
-    let a = put_step(out, at, notion, k);
-    let b = field(out, a, b' ', u32::from(start));
-    let c = put_pairs(out, b, pairs);
-    put(out, c, b'\n')
-}
-
-fn put_no_witness(out: &mut [u8], at: usize, notion: Notion, k: u8) -> usize
-    requires { at + room_for 0 ≤ length out.old }
-    ensures { Wrote (room_for 0) out.old at (no_witness_line notion k) out.new result }
-{
-    let next = put_step(out, at, notion, k);
-    text(out, next, b" no alibi\n")
-}
-
-fn put_accepted_end(out: &mut [u8], at: usize, accepted: u32) -> usize
-    requires { at + room_for 0 ≤ length out.old }
-    ensures { Wrote (room_for 0) out.old at (accepted_end accepted) out.new result }
-{
-    let a = text(out, at, b"end");
-    let b = field(out, a, b' ', accepted);
-    put(out, b, b'\n')
-}
-
 // The line of a witness: the notion, the step, the state that the run starts in, and its pairs.
 pub fn witness(
     out: &mut [u8],
@@ -93,7 +65,10 @@ pub fn witness(
     if !has_room(out, at, pairs.len()) {
         return None;
     }
-    Some(put_witness(out, at, notion, k, start, pairs))
+    let a = put_step(out, at, notion, k);
+    let b = field(out, a, b' ', u32::from(start));
+    let c = put_pairs(out, b, pairs);
+    Some(put(out, c, b'\n'))
 }
 
 // The line of a step for which there is no witness.
@@ -103,7 +78,8 @@ pub fn no_witness(out: &mut [u8], at: usize, notion: Notion, k: u8) -> Option<us
     if !has_room(out, at, 0) {
         return None;
     }
-    Some(put_no_witness(out, at, notion, k))
+    let next = put_step(out, at, notion, k);
+    Some(text(out, next, b" no alibi\n"))
 }
 
 // The last line: how many events were accepted.
@@ -113,5 +89,7 @@ pub fn accepted_end(out: &mut [u8], at: usize, accepted: u32) -> Option<usize>
     if !has_room(out, at, 0) {
         return None;
     }
-    Some(put_accepted_end(out, at, accepted))
+    let a = text(out, at, b"end");
+    let b = field(out, a, b' ', accepted);
+    Some(put(out, b, b'\n'))
 }

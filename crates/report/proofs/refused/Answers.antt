@@ -1,13 +1,18 @@
+use Rattle.std.proofs.Common.{ℕ, [], ◌∷◌, ◌++◌, ap, ◌∙◌, arith}
 use Rattle.stateset.proofs.Decides.{holds, fails}
+use Rattle.refusal.specs.Refusals.{number_of}
+use Rattle.report.specs.Text.{decimal}
 use Rattle.report.specs.Writing.{no_room}
-use Rattle.report.proofs.Laws.{entered}
+use Rattle.report.proofs.Laws.{then, same, lined, entered}
 use Rattle.report.proofs.refused.Goals as goal
-
-pub put_refused-requires : goal.put_refused-requires
-put_refused-requires c = holds _ c.if-not-has_room.false c.has_room.ensures
 
 pub returns-then-not-has_room : goal.returns-then-not-has_room
 returns-then-not-has_room c = no_room (fails _ c.if-not-has_room.true c.has_room.ensures)
 
 pub returns : goal.returns
-returns c = entered (holds _ c.if-not-has_room.false c.has_room.ensures) c.put_refused.ensures
+returns c =
+    let a = c.args in
+    entered (holds _ c.if-not-has_room.false c.has_room.ensures)
+    (same (ap (λ (k : ℕ). (33 ∷ []) ++ ((32 ∷ decimal k) ++ ((32 ∷ decimal (number_of a.refusal)) ++ (10 ∷ [])))) c.from.ensures
+    ∙ lined (33 ∷ []) (decimal a.byte ∷ decimal (number_of a.refusal) ∷ [])) (omega arith)
+    (then c.put-a.ensures (then c.field-b.ensures (then c.refusal_field-c.ensures c.put.ensures))))

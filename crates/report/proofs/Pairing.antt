@@ -9,8 +9,10 @@ use Rattle.opacity.specs.declared.Notion.{Notion}
 use Rattle.report.specs.Text.{decimal, led, line}
 use Rattle.report.specs.Witnesses.{word, pair_field, pair_fields, witness_line, no_witness_line}
 use Rattle.report.proofs.Decimal.{begins_digit}
-use Rattle.report.specs.Writing.{Wrote}
-use Rattle.report.proofs.Laws.{then, none, same, lined}
+use Rattle.report.specs.declared.Writer.{Writer}
+use Rattle.report.specs.Adding.{Adds}
+use Rattle.report.proofs.Laws.{lined}
+use Rattle.report.proofs.Adds.{adds_then, adds_none, adds_same}
 
 -- the first pair, and the rest
 pub pair_first : (l : List ℕ) → 2 ≤ length l → l ≡ get_or l 0 0 ∷ get_or l 1 0 ∷ take (length l - 2) (drop 2 l)
@@ -19,18 +21,18 @@ pair_first (x ∷ []) h = absurd (omega arith)
 pair_first (x ∷ y ∷ l) h = ap (λ (r : List ℕ). x ∷ y ∷ r) (sym (take_all (length (x ∷ y ∷ l) - 2) l (omega arith)))
 
 -- the pairs before those that are left are put
-pub record PairsPut (pairs before : List ℕ) (at : ℕ) (left after : List ℕ) (next : ℕ) : Type 0 where
+pub record PairsPut (pairs : List ℕ) (before : Writer) (left : List ℕ) (after : Writer) : Type 0 where
   pub text : List ℕ
   pub joins : text ++ led 32 (pair_fields left) ≡ led 32 (pair_fields pairs)
   pub most : ℕ
   pub room : most + 11 * length left ≤ 11 * length pairs
-  pub wrote : Wrote most before at text after next
+  pub adds : Adds most text before after
 
-pub pairs_begin : (pairs before : List ℕ) (at : ℕ) → PairsPut pairs before at pairs before at
-pairs_begin pairs before at = record { text = []; joins = refl; most = 0; room = omega arith; wrote = none }
+pub pairs_begin : (pairs : List ℕ) (before : Writer) → PairsPut pairs before pairs before
+pairs_begin pairs before = record { text = []; joins = refl; most = 0; room = omega arith; adds = adds_none }
 
-pub pairs_turn : {pairs before left after later : List ℕ} {at next then' event state : ℕ} (more : List ℕ) → left ≡ event ∷ state ∷ more
-    → PairsPut pairs before at left after next → Wrote 22 after next (32 ∷ pair_field event state) later then' → PairsPut pairs before at more later then'
+pub pairs_turn : {pairs left : List ℕ} {before after later : Writer} {event state : ℕ} (more : List ℕ) → left ≡ event ∷ state ∷ more
+    → PairsPut pairs before left after → Adds 22 (32 ∷ pair_field event state) after later → PairsPut pairs before more later
 pairs_turn {event = event} {state = state} more e x w =
     record {
       text = x.text ++ (32 ∷ pair_field event state);
@@ -39,13 +41,13 @@ pairs_turn {event = event} {state = state} more e x w =
           ∙ x.joins;
       most = x.most + 22;
       room = omega (arith, x.room, ap length e);
-      wrote = then x.wrote w;
+      adds = adds_then x.adds w;
     }
 
-pub pairs_end : {pairs before left after : List ℕ} {at next : ℕ} → length left < 2 → PairsPut pairs before at left after next
-    → Wrote (11 * length pairs) before at (led 32 (pair_fields pairs)) after next
+pub pairs_end : {pairs left : List ℕ} {before after : Writer} → length left < 2 → PairsPut pairs before left after
+    → Adds (11 * length pairs) (led 32 (pair_fields pairs)) before after
 pairs_end {left = left} h x =
-    same (sym (append-nil x.text) ∙ ap (λ (l : List (List ℕ)). x.text ++ led 32 l) (sym (nothing left h)) ∙ x.joins) (omega (arith, x.room)) x.wrote
+    adds_same (sym (append-nil x.text) ∙ ap (λ (l : List (List ℕ)). x.text ++ led 32 l) (sym (nothing left h)) ∙ x.joins) (omega (arith, x.room)) x.adds
   where
     nothing : (l : List ℕ) → length l < 2 → pair_fields l ≡ []
     nothing [] h = refl

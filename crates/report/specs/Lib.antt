@@ -2,3 +2,4 @@
 pub mod Text
 pub mod Witnesses
 pub mod Writing
+pub mod Adding

@@ -1,7 +1,6 @@
 // The lines of the log programs, written into a lent output. Bytes past the written ones stay as they were. Each public function says where the next line
 // goes, or None: there is no room for its line, and nothing is written.
-// (The output and the place in it are two parameters everywhere: the public functions have them so, and a struct of both would be no plainer inside, since
-// each function would have to ensure besides that its `&mut` is still the one that was lent.)
+// (They take the output and the place side by side: the crates above call them by this signature.)
 #![tactic(auto)]
 
 pub mod witnesses; // the lines of the witnesses of a log
@@ -11,7 +10,8 @@ ghost use Rattle.stateset.specs.Set.{Decided};
 ghost use Rattle.refusal.specs.Refusals.{number_of};
 ghost use Rattle.report.specs.Text.{decimal, led, steps, symbols, accepted_line, idle_line, refused_line, end_line, refused_log};
 ghost use Rattle.report.specs.Text.{place_line, no_place_line};
-ghost use Rattle.report.specs.Writing.{room_for, room_at_end, Written, Wrote};
+ghost use Rattle.report.specs.Adding.{Adds};
+ghost use Rattle.report.specs.Writing.{room_for, room_at_end, Written};
 
 use opacity::{Verdict, Verdicts};
 use refusal::Refusal;
@@ -20,210 +20,135 @@ use verifier::Judgement;
 // Room for any line that names at most 17 released events, and for the last lines.
 pub const LINE: usize = 256;
 
-// One byte.
-fn put(out: &mut [u8], at: usize, b: u8) -> usize
-    requires { at < length out.old }
-    ensures { Wrote 1 out.old at (b ∷ []) out.new result }
-{
-    out[at] = b;
-    at + 1
-}
-
-// All of a text.
-fn text(out: &mut [u8], at: usize, s: &[u8]) -> usize
-    requires { at + length s.now ≤ length out.old }
-    ensures { Wrote (length s.now) out.old at s.now out.new result }
-{
-    let next = at + s.len();
-    out[at..next].copy_from_slice(s);
-    next
-}
-
 fn digit(n: u32) -> u8
     ensures { result ≡ 48 + n % 10 }
 {
     b'0' + (n % 10) as u8
 }
 
-// A number in base ten.
-fn number(out: &mut [u8], at: usize, n: u32) -> usize
-    requires { at + 10 ≤ length out.old }
-    ensures { Wrote 10 out.old at (decimal n) out.new result }
-{
-    if n < 10 {
-        return put(out, at, digit(n));
-    }
-    let next = number(out, at, n / 10);
-    put(out, next, digit(n))
-}
-
-// A separator and a number.
-fn field(out: &mut [u8], at: usize, sep: u8, n: u32) -> usize
-    requires { at + 11 ≤ length out.old }
-    ensures { Wrote 11 out.old at (sep ∷ decimal n) out.new result }
-{
-    let next = put(out, at, sep);
-    number(out, next, n)
-}
-
-// A space and `-`.
-fn dash(out: &mut [u8], at: usize) -> usize
-    requires { at + 2 ≤ length out.old }
-    ensures { Wrote 2 out.old at (32 ∷ 45 ∷ []) out.new result }
-{
-    let next = put(out, at, b' ');
-    put(out, next, b'-')
-}
-
-// A space and a verdict.
-fn verdict_field(out: &mut [u8], at: usize, verdict: Verdict) -> usize
-    requires { at + 11 ≤ length out.old }
-    ensures { Wrote 11 out.old at (32 ∷ steps verdict) out.new result }
-{
-    match verdict {
-        Verdict::NoLeak => dash(out, at),
-        Verdict::Leak(l) => field(out, at, b' ', u32::from(l)),
-    }
-}
-
-// A space and the weak verdict of the automaton's own secret, a space and the strong one, a space and how many states are possible: for an event's line
-// and for the line of an idle log.
-fn judgement_fields(out: &mut [u8], at: usize, judgement: Judgement<Verdicts>) -> usize
-    requires { at + 33 ≤ length out.old }
-    ensures { Wrote 33 out.old at
-        ((32 ∷ steps judgement.verdicts.own.weak) ++ ((32 ∷ steps judgement.verdicts.own.strong) ++ (32 ∷ decimal judgement.size)))
-        out.new result }
-{
-    let own = judgement.verdicts.own; // the log has no further secret
-    let a = verdict_field(out, at, own.weak);
-    let b = verdict_field(out, a, own.strong);
-    field(out, b, b' ', u32::from(judgement.size))
-}
-
-// Each symbol with a comma in front of it.
-fn more_symbols(out: &mut [u8], at: usize, released: &[u8]) -> usize
-    requires { at + 11 * length released.now ≤ length out.old }
-    ensures { Wrote (11 * length released.now) out.old at (led 44 (map decimal released.now)) out.new result }
-{
-    let mut next = at;
-    for symbol in released {
-        next = field(out, next, b',', u32::from(*symbol));
-    }
-    next
-}
-
-// A space and the symbols, or a space and `-`.
-fn symbols_field(out: &mut [u8], at: usize, released: &[u8]) -> usize
-    requires { at + 2 + 11 * length released.now ≤ length out.old }
-    ensures { Wrote (2 + 11 * length released.now) out.old at (32 ∷ symbols released.now) out.new result }
-{
-    let [first, others @ ..] = released else {
-        return dash(out, at);
-    };
-    let next = field(out, at, b' ', u32::from(*first));
-    more_symbols(out, next, others)
-}
-
-// A space and a refusal's number: for an event's line and for a refused log.
-fn refusal_field(out: &mut [u8], at: usize, refusal: Refusal) -> usize
-    requires { at + 11 ≤ length out.old }
-    ensures { Wrote 11 out.old at (32 ∷ decimal (number_of refusal)) out.new result }
-{
-    field(out, at, b' ', u32::from(refusal::number(refusal)))
-}
-
-fn put_accepted(
-    out: &mut [u8],
+// An output, and the place of the byte that is written next.
+#[derive(Drop)]
+struct Writer<'a> {
+    out: &'a mut [u8],
     at: usize,
-    place: u32,
-    symbol: u8,
-    judgement: Judgement<Verdicts>,
-    released: &[u8],
-) -> usize
-    requires { at + room_for (length released.now) ≤ length out.old }
-    ensures { Wrote (room_for (length released.now)) out.old at
-        (accepted_line place symbol judgement.verdicts.own.weak judgement.verdicts.own.strong judgement.size released.now)
-        out.new result }
-{
-    let a = number(out, at, place);
-    let b = field(out, a, b' ', u32::from(symbol));
-    let c = judgement_fields(out, b, judgement);
-    let d = symbols_field(out, c, released);
-    put(out, d, b'\n')
 }
 
-fn put_idle(out: &mut [u8], at: usize, opening: Judgement<Verdicts>) -> usize
-    requires { at + room_for 0 ≤ length out.old }
-    ensures { Wrote (room_for 0) out.old at (idle_line opening.verdicts.own.weak opening.verdicts.own.strong opening.size)
-        out.new result }
-{
-    let a = number(out, at, 0);
-    let b = dash(out, a);
-    let c = judgement_fields(out, b, opening);
-    let d = dash(out, c);
-    put(out, d, b'\n')
-}
+impl Writer<'_> {
+    // One byte.
+    fn byte(&mut self, b: u8)
+        requires { self.old.at < length self.old.out.now }
+        ensures { Adds 1 (b ∷ []) self.old self.new }
+    {
+        self.out[self.at] = b;
+        self.at += 1;
+    }
 
-fn put_refused(out: &mut [u8], at: usize, byte: u8, refusal: Refusal) -> usize
-    requires { at + room_for 0 ≤ length out.old }
-    ensures { Wrote (room_for 0) out.old at (refused_line byte refusal) out.new result }
-{
-    let a = put(out, at, b'!');
-    let b = field(out, a, b' ', u32::from(byte));
-    let c = refusal_field(out, b, refusal);
-    put(out, c, b'\n')
-}
+    // A number in base ten.
+    fn number(&mut self, n: u32)
+        requires { self.old.at + 10 ≤ length self.old.out.now }
+        ensures { Adds 10 (decimal n) self.old self.new }
+    {
+        if n < 10 {
+            return self.byte(digit(n));
+        }
+        self.number(n / 10);
+        self.byte(digit(n));
+    }
 
-fn put_end(out: &mut [u8], at: usize, accepted: u32, released: u32, pending: u32) -> usize
-    requires { at + room_for 0 ≤ length out.old }
-    ensures { Wrote (room_for 0) out.old at (end_line accepted released pending) out.new result }
-{
-    let a = text(out, at, b"end");
-    let b = field(out, a, b' ', accepted);
-    let c = field(out, b, b' ', released);
-    let d = field(out, c, b' ', pending);
-    put(out, d, b'\n')
-}
+    // All of a text.
+    fn text(&mut self, s: &[u8])
+        requires { self.old.at + length s.now ≤ length self.old.out.now }
+        ensures { Adds (length s.now) s.now self.old self.new }
+    {
+        let next = self.at + s.len();
+        self.out[self.at..next].copy_from_slice(s);
+        self.at = next;
+    }
 
-fn put_idle_end(
-    out: &mut [u8],
-    at: usize,
-    opening: Judgement<Verdicts>,
-    accepted: u32,
-    released: u32,
-    pending: u32,
-) -> usize
-    requires { at + room_at_end ≤ length out.old }
-    ensures { Wrote room_at_end out.old at
-        (idle_line opening.verdicts.own.weak opening.verdicts.own.strong opening.size ++ end_line accepted released pending) out.new result }
-{
-    let next = put_idle(out, at, opening);
-    put_end(out, next, accepted, released, pending)
-}
+    // A separator and a number.
+    fn field(&mut self, sep: u8, n: u32)
+        requires { self.old.at + 11 ≤ length self.old.out.now }
+        ensures { Adds 11 (sep ∷ decimal n) self.old self.new }
+    {
+        self.byte(sep);
+        self.number(n);
+    }
 
-fn put_refused_log(out: &mut [u8], at: usize, refusal: Refusal) -> usize
-    requires { at + room_for 0 ≤ length out.old }
-    ensures { Wrote (room_for 0) out.old at (refused_log refusal) out.new result }
-{
-    let a = text(out, at, b"refused");
-    let b = refusal_field(out, a, refusal);
-    put(out, b, b'\n')
-}
+    // A space and `-`.
+    fn dash(&mut self)
+        requires { self.old.at + 2 ≤ length self.old.out.now }
+        ensures { Adds 2 (32 ∷ 45 ∷ []) self.old self.new }
+    {
+        self.byte(b' ');
+        self.byte(b'-');
+    }
 
-fn put_place(out: &mut [u8], at: usize, place: u32) -> usize
-    requires { at + room_for 0 ≤ length out.old }
-    ensures { Wrote (room_for 0) out.old at (place_line place) out.new result }
-{
-    let next = number(out, at, place);
-    put(out, next, b'\n')
-}
+    // A space and a verdict.
+    fn verdict_field(&mut self, verdict: Verdict)
+        requires { self.old.at + 11 ≤ length self.old.out.now }
+        ensures { Adds 11 (32 ∷ steps verdict) self.old self.new }
+    {
+        match verdict {
+            Verdict::NoLeak => self.dash(),
+            Verdict::Leak(l) => self.field(b' ', u32::from(l)),
+        }
+    }
 
-fn put_no_place(out: &mut [u8], at: usize) -> usize
-    requires { at + room_for 0 ≤ length out.old }
-    ensures { Wrote (room_for 0) out.old at no_place_line out.new result }
-{
-    let next = put(out, at, b'-');
-    put(out, next, b'\n')
+    // A space and the weak verdict of the automaton's own secret, a space and the strong one, a space and how many states are possible: for an event's
+    // line and for the line of an idle log.
+    fn judgement_fields(&mut self, judgement: Judgement<Verdicts>)
+        requires { self.old.at + 33 ≤ length self.old.out.now }
+        ensures { Adds 33
+            ((32 ∷ steps judgement.verdicts.own.weak) ++ ((32 ∷ steps judgement.verdicts.own.strong) ++ (32 ∷ decimal judgement.size)))
+            self.old self.new }
+    {
+        let own = judgement.verdicts.own; // the log has no further secret
+        self.verdict_field(own.weak);
+        self.verdict_field(own.strong);
+        self.field(b' ', u32::from(judgement.size));
+    }
+
+    // Each symbol with a comma in front of it.
+    fn more_symbols(&mut self, released: &[u8])
+        requires { self.old.at + 11 * length released.now ≤ length self.old.out.now }
+        ensures { Adds (11 * length released.now) (led 44 (map decimal released.now)) self.old self.new }
+    {
+        for symbol in released {
+            self.field(b',', u32::from(*symbol));
+        }
+    }
+
+    // A space and the symbols, or a space and `-`.
+    fn symbols_field(&mut self, released: &[u8])
+        requires { self.old.at + 2 + 11 * length released.now ≤ length self.old.out.now }
+        ensures { Adds (2 + 11 * length released.now) (32 ∷ symbols released.now) self.old self.new }
+    {
+        let [first, others @ ..] = released else {
+            return self.dash();
+        };
+        self.field(b' ', u32::from(*first));
+        self.more_symbols(others);
+    }
+
+    // A space and a refusal's number: for an event's line and for a refused log.
+    fn refusal_field(&mut self, refusal: Refusal)
+        requires { self.old.at + 11 ≤ length self.old.out.now }
+        ensures { Adds 11 (32 ∷ decimal (number_of refusal)) self.old self.new }
+    {
+        self.field(b' ', u32::from(refusal::number(refusal)));
+    }
+
+    // The last line: of a log, and behind the line of an idle one.
+    fn last_line(&mut self, accepted: u32, released: u32, pending: u32)
+        requires { self.old.at + room_for 0 ≤ length self.old.out.now }
+        ensures { Adds (room_for 0) (end_line accepted released pending) self.old self.new }
+    {
+        self.text(b"end");
+        self.field(b' ', accepted);
+        self.field(b' ', released);
+        self.field(b' ', pending);
+        self.byte(b'\n');
+    }
 }
 
 // There is room at a place for a line that names so many released events. (Divided, since a product might not fit.)
@@ -256,7 +181,13 @@ pub fn accepted(
     if !has_room(out, at, released.len()) {
         return None;
     }
-    Some(put_accepted(out, at, place, symbol, judgement, released))
+    let mut line = Writer { out, at };
+    line.number(place);
+    line.field(b' ', u32::from(symbol));
+    line.judgement_fields(judgement);
+    line.symbols_field(released);
+    line.byte(b'\n');
+    Some(line.at)
 }
 
 // The line of a refused event.
@@ -266,7 +197,12 @@ pub fn refused(out: &mut [u8], at: usize, byte: u8, refusal: Refusal) -> Option<
     if !has_room(out, at, 0) {
         return None;
     }
-    Some(put_refused(out, at, byte, refusal))
+    let mut line = Writer { out, at };
+    line.byte(b'!');
+    line.field(b' ', u32::from(byte));
+    line.refusal_field(refusal);
+    line.byte(b'\n');
+    Some(line.at)
 }
 
 // The last line. (Room for two lines is asked for, as `idle` does, so that a log's end asks for the same whichever it writes.)
@@ -276,7 +212,9 @@ pub fn ended(out: &mut [u8], at: usize, accepted: u32, released: u32, pending: u
     if !has_room_at_end(out, at) {
         return None;
     }
-    Some(put_end(out, at, accepted, released, pending))
+    let mut line = Writer { out, at };
+    line.last_line(accepted, released, pending);
+    Some(line.at)
 }
 
 // The lines of a log without event bytes: the opening verdicts with how many states are possible, and the last line.
@@ -294,7 +232,14 @@ pub fn idle(
     if !has_room_at_end(out, at) {
         return None;
     }
-    Some(put_idle_end(out, at, opening, accepted, released, pending))
+    let mut lines = Writer { out, at };
+    lines.number(0);
+    lines.dash();
+    lines.judgement_fields(opening);
+    lines.dash();
+    lines.byte(b'\n');
+    lines.last_line(accepted, released, pending);
+    Some(lines.at)
 }
 
 // The one line of a refused log.
@@ -304,7 +249,11 @@ pub fn refused_log(out: &mut [u8], at: usize, refusal: Refusal) -> Option<usize>
     if !has_room(out, at, 0) {
         return None;
     }
-    Some(put_refused_log(out, at, refusal))
+    let mut line = Writer { out, at };
+    line.text(b"refused");
+    line.refusal_field(refusal);
+    line.byte(b'\n');
+    Some(line.at)
 }
 
 // The line of the first leak of a log (02, S-8): its place.
@@ -314,7 +263,10 @@ pub fn leak_at(out: &mut [u8], at: usize, place: u32) -> Option<usize>
     if !has_room(out, at, 0) {
         return None;
     }
-    Some(put_place(out, at, place))
+    let mut line = Writer { out, at };
+    line.number(place);
+    line.byte(b'\n');
+    Some(line.at)
 }
 
 // The line of a log without a leak (02, S-8).
@@ -324,5 +276,7 @@ pub fn leak_nowhere(out: &mut [u8], at: usize) -> Option<usize>
     if !has_room(out, at, 0) {
         return None;
     }
-    Some(put_no_place(out, at))
+    let mut line = Writer { out, at };
+    line.text(b"-\n");
+    Some(line.at)
 }

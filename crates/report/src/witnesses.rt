@@ -2,80 +2,53 @@
 ghost use Rattle.std.specs.Prelude.{◌∷◌, ◌++◌, ◌+◌, ◌*◌, ◌≤◌, length};
 ghost use Rattle.report.specs.Text.{decimal, led};
 ghost use Rattle.report.specs.Witnesses.{word, pair_field, pair_fields, witness_line, no_witness_line, accepted_end};
-ghost use Rattle.report.specs.Writing.{room_for, Written, Wrote};
+ghost use Rattle.report.specs.Adding.{Adds};
+ghost use Rattle.report.specs.Writing.{room_for, Written};
 
-use super::{field, has_room, put, text};
+use super::{Writer, has_room};
 use opacity::Notion;
 
-// The word of a notion.
-fn put_word(out: &mut [u8], at: usize, notion: Notion) -> usize
-    requires { at + 6 ≤ length out.old }
-    ensures { Wrote 6 out.old at (word notion) out.new result }
-{
-    match notion {
-        Notion::Weak => text(out, at, b"weak"),
-        Notion::Strong => text(out, at, b"strong"),
+impl Writer<'_> {
+    // The word of a notion.
+    fn word(&mut self, notion: Notion)
+        requires { self.old.at + 6 ≤ length self.old.out.now }
+        ensures { Adds 6 (word notion) self.old self.new }
+    {
+        match notion {
+            Notion::Weak => self.text(b"weak"),
+            Notion::Strong => self.text(b"strong"),
+        }
     }
-}
 
-// The word of a notion, a space and the step.
-fn put_step(out: &mut [u8], at: usize, notion: Notion, k: u8) -> usize
-    requires { at + 17 ≤ length out.old }
-    ensures { Wrote 17 out.old at (word notion ++ (32 ∷ decimal k)) out.new result }
-{
-    let next = put_word(out, at, notion);
-    field(out, next, b' ', u32::from(k))
-}
-
-// A space and a pair: the event, a comma, and the state that it reaches.
-fn put_pair(out: &mut [u8], at: usize, event: u8, state: u8) -> usize
-    requires { at + 22 ≤ length out.old }
-    ensures { Wrote 22 out.old at (32 ∷ pair_field event state) out.new result }
-{
-    let next = field(out, at, b' ', u32::from(event));
-    field(out, next, b',', u32::from(state))
-}
-
-// Each pair with a space in front of it.
-fn put_pairs(out: &mut [u8], at: usize, pairs: &[u8]) -> usize
-    requires { at + 11 * length pairs.now ≤ length out.old }
-    ensures { Wrote (11 * length pairs.now) out.old at (led 32 (pair_fields pairs.now)) out.new result }
-{
-    let mut next = at;
-    let mut left = pairs;
-    while let [event, state, more @ ..] = left {
-        next = put_pair(out, next, *event, *state);
-        left = more;
+    // The word of a notion, a space and the step.
+    fn step(&mut self, notion: Notion, k: u8)
+        requires { self.old.at + 17 ≤ length self.old.out.now }
+        ensures { Adds 17 (word notion ++ (32 ∷ decimal k)) self.old self.new }
+    {
+        self.word(notion);
+        self.field(b' ', u32::from(k));
     }
-    next
-}
 
-fn put_witness(out: &mut [u8], at: usize, notion: Notion, k: u8, start: u8, pairs: &[u8]) -> usize
-    requires { at + room_for (length pairs.now) ≤ length out.old }
-    ensures { Wrote (room_for (length pairs.now)) out.old at (witness_line notion k start pairs.now)
-        out.new result }
-{
-    let a = put_step(out, at, notion, k);
-    let b = field(out, a, b' ', u32::from(start));
-    let c = put_pairs(out, b, pairs);
-    put(out, c, b'\n')
-}
+    // A space and a pair: the event, a comma, and the state that it reaches.
+    fn pair(&mut self, event: u8, state: u8)
+        requires { self.old.at + 22 ≤ length self.old.out.now }
+        ensures { Adds 22 (32 ∷ pair_field event state) self.old self.new }
+    {
+        self.field(b' ', u32::from(event));
+        self.field(b',', u32::from(state));
+    }
 
-fn put_no_witness(out: &mut [u8], at: usize, notion: Notion, k: u8) -> usize
-    requires { at + room_for 0 ≤ length out.old }
-    ensures { Wrote (room_for 0) out.old at (no_witness_line notion k) out.new result }
-{
-    let next = put_step(out, at, notion, k);
-    text(out, next, b" no alibi\n")
-}
-
-fn put_accepted_end(out: &mut [u8], at: usize, accepted: u32) -> usize
-    requires { at + room_for 0 ≤ length out.old }
-    ensures { Wrote (room_for 0) out.old at (accepted_end accepted) out.new result }
-{
-    let a = text(out, at, b"end");
-    let b = field(out, a, b' ', accepted);
-    put(out, b, b'\n')
+    // Each pair with a space in front of it.
+    fn pairs(&mut self, pairs: &[u8])
+        requires { self.old.at + 11 * length pairs.now ≤ length self.old.out.now }
+        ensures { Adds (11 * length pairs.now) (led 32 (pair_fields pairs.now)) self.old self.new }
+    {
+        let mut left = pairs;
+        while let [event, state, more @ ..] = left {
+            self.pair(*event, *state);
+            left = more;
+        }
+    }
 }
 
 // The line of a witness: the notion, the step, the state that the run starts in, and its pairs.
@@ -93,7 +66,12 @@ pub fn witness(
     if !has_room(out, at, pairs.len()) {
         return None;
     }
-    Some(put_witness(out, at, notion, k, start, pairs))
+    let mut line = Writer { out, at };
+    line.step(notion, k);
+    line.field(b' ', u32::from(start));
+    line.pairs(pairs);
+    line.byte(b'\n');
+    Some(line.at)
 }
 
 // The line of a step for which there is no witness.
@@ -103,7 +81,10 @@ pub fn no_witness(out: &mut [u8], at: usize, notion: Notion, k: u8) -> Option<us
     if !has_room(out, at, 0) {
         return None;
     }
-    Some(put_no_witness(out, at, notion, k))
+    let mut line = Writer { out, at };
+    line.step(notion, k);
+    line.text(b" no alibi\n");
+    Some(line.at)
 }
 
 // The last line: how many events were accepted.
@@ -113,5 +94,9 @@ pub fn accepted_end(out: &mut [u8], at: usize, accepted: u32) -> Option<usize>
     if !has_room(out, at, 0) {
         return None;
     }
-    Some(put_accepted_end(out, at, accepted))
+    let mut line = Writer { out, at };
+    line.text(b"end");
+    line.field(b' ', accepted);
+    line.byte(b'\n');
+    Some(line.at)
 }

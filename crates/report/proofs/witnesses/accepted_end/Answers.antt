@@ -1,13 +1,19 @@
+use Rattle.std.proofs.Common.{[], ◌∷◌, rules, arith}
 use Rattle.stateset.proofs.Decides.{holds, fails}
+use Rattle.report.specs.Text.{decimal}
 use Rattle.report.specs.Writing.{no_room}
-use Rattle.report.proofs.Laws.{entered}
+use Rattle.report.proofs.Laws.{lined}
+use Rattle.report.proofs.Adds.{adds_then, adds_same, finished}
 use Rattle.report.proofs.witnesses.accepted_end.Goals as goal
-
-pub put_accepted_end-requires : goal.put_accepted_end-requires
-put_accepted_end-requires c = holds _ c.if-not-has_room.false c.has_room.ensures
 
 pub returns-then-not-has_room : goal.returns-then-not-has_room
 returns-then-not-has_room c = no_room (fails _ c.if-not-has_room.true c.has_room.ensures)
 
 pub returns : goal.returns
-returns c = entered (holds _ c.if-not-has_room.false c.has_room.ensures) c.put_accepted_end.ensures
+returns c =
+    let done = finished (holds _ c.if-not-has_room.false c.has_room.ensures)
+    (adds_same (lined (101 ∷ 110 ∷ 100 ∷ []) (decimal c.args.accepted ∷ [])) (omega arith)
+    (adds_then c.text.ensures (adds_then c.field.ensures c.byte.ensures))) in
+    let same = done.0 in
+    let written = done.1 in
+    search rules

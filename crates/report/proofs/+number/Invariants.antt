@@ -1,5 +1,0 @@
--- Each call has a smaller number.
-use Rattle.report.proofs.+number.Given as goal
-
-abbrev pub decreases-number : goal.decreases-number
-decreases-number l = l.n

@@ -1,6 +1,0 @@
-use Rattle.std.proofs.Common.{refl, arith}
-use Rattle.report.proofs.Laws.{copied}
-use Rattle.report.proofs.text.Goals as goal
-
-pub returns : goal.returns
-returns c = copied c.requires c.copy_from_slice.ensures.after (omega arith) refl

@@ -9,7 +9,8 @@ use layout::sizes;
 use verifier::Estimator;
 
 // The refusal of a slice that has not the length of its layout, and of a notion that is none: the number of `Refusal::Malformed`. (A constant calls no
-// function.) Each function tests the slices that it is lent, and the notion, in one condition before anything else.
+// function.) Each function tests what it is lent before anything else. Its end, a `match`, is no plainer otherwise: an inner function with `?` has five lines
+// more in `opacity_explore`, and each contract twice; with `answer.map(|found| ..)`, a closure that writes, the check left the contract open.
 const MALFORMED: u8 = 9;
 
 // Decodes an encoding: the table, and the header's bytes.

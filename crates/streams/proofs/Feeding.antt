@@ -9,10 +9,11 @@ use lib.ListN.{length, take, length-append, length-take}
 use lib.Seq.{take-length, take_all, length-take-le}
 use Rattle.streams.specs.declared.Fetched.{Fetched}
 use Rattle.streams.specs.declared.Fetched.TheVariants as fetched
+use Rattle.streams.specs.declared.Reading.{Reading}
 use Rattle.streams.specs.declared.Rest.{Rest}
 use Rattle.streams.specs.declared.Ending.TheVariants.{Done, Ended}
 use Rattle.streams.specs.Reads.{Brought}
-use Rattle.streams.specs.Following.{Begins, Feeding, stopped, ended, failed, more, Fed}
+use Rattle.streams.specs.Following.{Begins, Turning, brought, no_more, not_fetched, Feeding, stopped, ended, failed, more, Fed}
 
 -- what a read brought, by the case that was taken
 pub some_brought : {size left n : ℕ} {f : Fetched} → f ≡ fetched.Bytes n → Brought size left f → (0 < n) × (n ≤ size) × (n ≤ left)
@@ -50,6 +51,29 @@ few_allowed events n is = omega (arith, length-take (n - 0) events)
 -- what a read brought, and what might still follow then
 pub rest_of : (input : List ℕ) (n left : ℕ) → (0 < n) × (n ≤ length input) × (n ≤ left) → length (take (n - 0) input) + (left - n) ≡ left
 rest_of input n left b = omega (arith, b.1, b.2, length-take (n - 0) input)
+
+-- ---- one more read
+
+pub turn_brought : {F : Type 0} {Goes : F → List ℕ → F → Type 0} {s m : F} (input : List ℕ) (n left : ℕ) → (0 < n) × (n ≤ length input) × (n ≤ left)
+    → Goes s (take (n - 0) input) m → Turning Goes left s input (record { follower = m; fetched = fetched.Bytes n })
+turn_brought {Goes = Goes} {s} {m} input n left b x =
+    let z : n - 0 ≡ n = omega arith in
+    brought b.0 b.1 b.2 (subst (λ (k : ℕ). Goes s (take k input) m) z x)
+
+-- so many bytes came, and they were followed
+module _ {F : Type 0} {Goes : F → List ℕ → F → Type 0} {left : ℕ} {input : List ℕ} (n : ℕ) where
+  pub few_brought : {s : F} {r : Reading F} → r.fetched ≡ fetched.Bytes n → Turning Goes left s input r → (0 < n) × (n ≤ length input) × (n ≤ left)
+  few_brought e (brought {n = k} some there fits x) = let is : k ≡ n = cc in (omega arith, omega arith, omega arith)
+  few_brought e no_more = let z : ◌≡◌ {A = ℕ} 0 1 = cc in absurd (omega arith)
+  few_brought e not_fetched = let z : ◌≡◌ {A = ℕ} 0 1 = cc in absurd (omega arith)
+
+  pub goes_brought : {s : F} {r : Reading F} → r.fetched ≡ fetched.Bytes n → Turning Goes left s input r → Goes s (take (n - 0) input) r.follower
+  goes_brought {s} e (brought {n = k} {m = m} some there fits x) =
+      let is : k ≡ n = cc in
+      let z : k ≡ n - 0 = omega arith in
+      subst (λ (j : ℕ). Goes s (take j input) m) z x
+  goes_brought e no_more = let z : ◌≡◌ {A = ℕ} 0 1 = cc in absurd (omega arith)
+  goes_brought e not_fetched = let z : ◌≡◌ {A = ℕ} 0 1 = cc in absurd (omega arith)
 
 module _ {F : Type 0} {Goes : F → List ℕ → F → Type 0} {done : F → Bool} where
   -- all bytes that were handed on are among those that might follow

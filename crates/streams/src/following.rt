@@ -1,10 +1,10 @@
 // Event bytes are followed as they are read: one loop for a search, an estimator, or what else a program has for them.
 ghost use Rattle.std.specs.Prelude.{◌≡◌, Bool, List, ℕ, ◌+◌, ◌≤◌, length};
 ghost use Rattle.automaton.specs.declared.Header.{Header};
-ghost use Rattle.streams.specs.Following.{Begins, Fed};
+ghost use Rattle.streams.specs.Following.{Begins, Turning, Fed};
 
 use super::reads::fetch;
-use super::{Begun, Ending, Fetched, Rest};
+use super::{Begun, Ending, Fetched, Reading, Rest};
 use automaton::Header;
 
 // What follows event bytes on an automaton.
@@ -42,6 +42,34 @@ pub fn begin<F: Follower>(start: F, table: &[u64], header: Header, events: &[u8]
     }
 }
 
+// One more read, of at most `left` bytes: they stand at the front of the lent input then, and are followed, all of them in order.
+fn turn<F: Follower>(
+    rt: &(impl Input + Eprint),
+    follower: F,
+    table: &[u64],
+    header: Header,
+    input: &mut [u8],
+    left: usize,
+) -> Reading<F>
+    requires { F.Takes follower left }
+    ensures { Turning (F.Goes table.now header) left follower input.new result }
+{
+    match fetch(rt, input, left) {
+        Fetched::Bytes(n) => Reading {
+            follower: follower.follow(table, header, &input[0..n]),
+            fetched: Fetched::Bytes(n),
+        },
+        Fetched::End => Reading {
+            follower,
+            fetched: Fetched::End,
+        },
+        Fetched::Failed => Reading {
+            follower,
+            fetched: Fetched::Failed,
+        },
+    }
+}
+
 // Reads on, at most `left` bytes, and follows them, read after read, until no more are asked for or none follow.
 pub fn read_on<F: Follower>(
     rt: &(impl Input + Eprint),
@@ -58,9 +86,10 @@ pub fn read_on<F: Follower>(
     let mut now = follower;
     let mut rest = left;
     while !now.is_done() {
-        match fetch(rt, input, rest) {
+        let one = turn(rt, now, table, header, input, rest);
+        match one.fetched {
             Fetched::Bytes(n) => {
-                now = now.follow(table, header, &input[0..n]);
+                now = one.follower;
                 rest -= n;
             }
             Fetched::End => {

@@ -29,6 +29,13 @@ pub struct Begun<F> {
     pub allowed: usize,
 }
 
+// What follows the bytes after one more read, and what the read found.
+#[derive(Clone, Copy)]
+struct Reading<F> {
+    follower: F,
+    fetched: Fetched,
+}
+
 // Why no more is read.
 #[derive(Clone, Copy, PartialEq, Eq)]
 pub enum Ending {

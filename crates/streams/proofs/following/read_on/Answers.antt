@@ -1,19 +1,21 @@
 use Rattle.std.proofs.Common.{arith, rules, subst, sym, ◌-◌, ◌∙◌}
 use Rattle.streams.specs.Following.{stopped, ended, failed}
-use Rattle.streams.proofs.Feeding.{some_brought, rest_of, so_more, fed_by}
+use Rattle.streams.proofs.Feeding.{few_brought, goes_brought, rest_of, so_more, fed_by}
 use Rattle.streams.proofs.following.read_on.Goals as goal
 
 pub loop-header-preserved : goal.loop-header-preserved
 loop-header-preserved g c =
     let so = c.loop-header.invariant in
     let n = c.in-Bytes.n in
-    let brought = some_brought c.in-Bytes.is c.fetch.ensures in
-    let input = c.fetch.new.input in (
+    let Goes = g.F.Follower.Goes c.args.table.now c.args.header in
+    let some = few_brought {Goes = Goes} n c.in-Bytes.is c.turn-one.ensures in
+    let goes = goes_brought {Goes = Goes} n c.in-Bytes.is c.turn-one.ensures in
+    let input = c.turn-one.new.input in (
       search rules,
       omega (arith, so.1),
-      g.met.F.Follower.onward c.args.table.now c.args.header c.loop-header.now c.follow-now.result _ (c.loop-header.rest - n) c.follow-now.ensures
-          (subst (g.F.Follower.Takes c.loop-header.now) (sym (rest_of input n c.loop-header.rest brought)) so.2),
-      so_more {Goes = g.F.Follower.Goes c.args.table.now c.args.header} input n so.3 (sym c.is_done.ensures ∙ c.loop-header-test.true) brought c.follow-now.ensures,
+      g.met.F.Follower.onward c.args.table.now c.args.header c.loop-header.now c.turn-one.result.follower _ (c.loop-header.rest - n) goes
+          (subst (g.F.Follower.Takes c.loop-header.now) (sym (rest_of input n c.loop-header.rest some)) so.2),
+      so_more {Goes = Goes} input n so.3 (sym c.is_done.ensures ∙ c.loop-header-test.true) some goes,
     )
 
 pub returns-in-End-clause-fed : goal.returns-in-End-clause-fed

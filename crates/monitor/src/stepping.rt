@@ -29,7 +29,8 @@ impl Monitor {
         self.offered != u32::MAX && report::LINE <= out.len() && at <= out.len() - report::LINE
     }
 
-    // A refused event byte: its line.
+    // A refused event byte: its line. (In line: where it was called, a refused byte took 1.3 times as long, since the monitor was copied once more.)
+    #[inline(always)]
     fn log_refused(self, byte: u8, refusal: Refusal, out: &mut [u8], at: usize) -> Entry
         requires { Ready self out.old at }
         ensures { (result.monitor ≡ offered_once self) × Printed out.old at (refused_line byte refusal) result.next out.new }
